@@ -4,6 +4,7 @@ pub mod Choice
 mod Chosen
 pub mod Completed
 mod Counts
+mod Ended
 mod FirstTurn
 mod Followed
 mod Found

@@ -1,10 +1,9 @@
 -- What a plan holds once its messages were written.
-use Rattle.std.proofs.Common.{Vec, ◌≡◌, ℕ, ◌<◌, ◌≤◌, Result, Ok, Err, List, [], ◌∷◌, ◌++◌, length, map}
+use Rattle.std.proofs.Common.{Vec, ◌≡◌, ℕ, ◌<◌, ◌≤◌, Result, Ok, Err, List, [], ◌∷◌, ◌++◌, length, map, take, drop}
 use Rattle.std.proofs.Common.{Bool, true, false, cond, ◌+◌, sym, ap, subst, ◌∙◌, arith}
 use Rattle.std.specs.List.{All}
 use Rattle.std.specs.Result.{OnOk, OnErr, is_ok, is_err}
 use Rattle.std.specs.Vec.{with_items}
-use Rattle.std.proofs.lemmas.List.Elements.{All-push}
 use Rattle.std.proofs.lemmas.Bool.{false≢true}
 use Rattle.std.proofs.lemmas.List.{length-map, length_push, with_items_is, map_push}
 use Rattle.scheduler.specs.declared.scheduled.Scheduled.{Scheduled}
@@ -12,7 +11,9 @@ use Rattle.scheduler.specs.declared.plan.Item.{Item}
 use Rattle.scheduler.specs.declared.tournament.Node.{Node}
 use Rattle.scheduler.specs.PlanSteps.{IsSound}
 use Rattle.scheduler.specs.Follows.{messages_of}
-use Rattle.scheduler.specs.QueueSteps.{HasTurn, kept_in, seen_in, seen, kept_new, AreRising, IsRight, IsTree, IsPlan}
+use Rattle.scheduler.specs.QueueSteps.{HasTurn, kept_in, seen_in, seen, kept_new, AreRising, IsTree, IsPlan}
+use Rattle.scheduler.specs.QueueSteps.{AreSettled}
+use Rattle.scheduler.proofs.Ended.{settled_pushed}
 use Rattle.scheduler.proofs.Windows.{seen_new, IsRight-new}
 use Rattle.scheduler.proofs.Followed.{scheduled_new, IsSound-add}
 use Rattle.scheduler.proofs.FirstTurn.{rising_of_seen}
@@ -39,8 +40,8 @@ seen_written v read written slot old f same is =
     ap (seen_in slot) (written_all v read written slot old f same is) ∙ (is ∙ ap (λ ns. map f (seen_in old ns)) same)
 
 -- the numbers of a plan's messages rise
-pub plan_rising : (slot : ℕ) (nodes : List Node) → IsPlan slot nodes → AreRising nodes
-plan_rising slot nodes plan = rising_of_seen slot nodes plan.sound.rising
+pub plan_rising : (slot past : ℕ) (nodes : List Node) → IsPlan slot past nodes → AreRising nodes
+plan_rising slot past nodes plan = rising_of_seen slot nodes plan.sound.rising
 
 -- with one more message
 pub seen_pushed : (slot : ℕ) (old new : List Node) (item : Item) → kept_in new ≡ kept_in old ++ kept_new item ∷ []
@@ -50,24 +51,57 @@ seen_pushed slot old new item is =
     ∙ ap (λ t. seen_in slot old ++ t ∷ []) (seen_new item slot))
 
 -- and so a plan with one more message is one
-pub IsPlan-add : (slot : ℕ) (old new : List Node) (item : Item)
+pub IsPlan-add : (slot past : ℕ) (old new : List Node) (item : Item)
     → All (λ m. m.entry < item.entry) (messages_of (record { slot = slot; scheduled = seen_in slot old }))
-    → slot ≤ item.start → 0 < item.pages → 0 < item.period → HasTurn (kept_new item) → IsPlan slot old
-    → kept_in new ≡ kept_in old ++ kept_new item ∷ [] → IsTree new → IsPlan slot new
-IsPlan-add slot old new item above start pages period turn plan is tree =
+    → slot ≤ item.start → 0 < item.pages → 0 < item.period → HasTurn (kept_new item) → IsPlan slot past old
+    → kept_in new ≡ kept_in old ++ kept_new item ∷ [] → take past new ≡ take past old → IsTree (drop past new)
+    → IsPlan slot past new
+IsPlan-add slot past old new item above start pages period turn plan is same tree =
     let P : List Scheduled → Type 0 = λ ts. IsSound (record { slot = slot; scheduled = ts }) in
     record {
       sound = subst P (sym (seen_pushed slot old new item is)) (IsSound-add (record {
         slot = slot;
         scheduled = seen_in slot old;
       }) item above start pages period plan.sound);
-      kept = record {
-        right = rw is (All-push (IsRight slot) (kept_in old) (kept_new item) plan.kept.right (IsRight-new item slot
-            start pages
-            period));
-        turns = rw is (All-push HasTurn (kept_in old) (kept_new item) plan.kept.turns turn);
-        tree = tree;
-      };
+      kept = settled_pushed slot past old new (kept_new item) is same tree (IsRight-new item slot start pages period)
+          turn plan.kept;
+    }
+
+-- where the same is kept of the messages, they are seen as before
+pub seen_settled : {Z : Type 0} (slot : ℕ) (v : Vec Node Z) (read written : List Node) → read ≡ v.items
+    → kept_in written ≡ kept_in read → seen_in slot (with_items v written).items ≡ seen_in slot v.items
+seen_settled slot v read written same kept =
+    let whole = ap (map (seen slot)) kept in
+    let long = ap length whole in
+    let read_long = ap length same in
+    ap (seen_in slot) (with_items_is v written (omega (
+      arith,
+      long,
+      read_long,
+      seen_length slot read,
+      seen_length slot written,
+      v.ok.0,
+    ))) ∙ (whole ∙ ap (seen_in slot) same)
+
+-- and a plan that was settled is one
+pub IsPlan-settled : {Z : Type 0} (slot past now : ℕ) (v : Vec Node Z) (read written : List Node) → read ≡ v.items
+    → kept_in written ≡ kept_in read → ((s : ℕ) → AreSettled s past read → AreSettled s now written)
+    → IsPlan slot past v.items → IsPlan slot now (with_items v written).items
+IsPlan-settled slot past now v read written same kept settled plan =
+    let P : List Scheduled → Type 0 = λ ts. IsSound (record { slot = slot; scheduled = ts }) in
+    let whole = ap length kept in
+    let read_long = ap length same in
+    let is = with_items_is v written (omega (
+      arith,
+      whole,
+      read_long,
+      length-map read (λ (n : Node). n.kept),
+      length-map written (λ (n : Node). n.kept),
+      v.ok.0,
+    )) in
+    record {
+      sound = subst P (sym (seen_settled slot v read written same kept)) plan.sound;
+      kept = subst (AreSettled slot now) (sym is) (settled slot (subst (AreSettled slot past) (sym same) plan.kept));
     }
 
 -- a written `Vec` is as long as it was

@@ -1,6 +1,7 @@
 -- How a plan finds the message that is served first (own): contracts of private functions alone speak of it.
 use Rattle.std.specs.Prelude.{◌≡◌, ◌≢◌, ℕ, ◌+◌, ◌*◌, ◌<◌, ◌≤◌, ◌==◌, ◌⊎◌, nat_lt, min, zero, suc, false}
-use Rattle.std.specs.Prelude.{if◌then◌else◌, Option, Some, None, List, length, map, slice_index_or, All, AllPairs}
+use Rattle.std.specs.Prelude.{if◌then◌else◌, Option, Some, None, List, length, map, take, drop, slice_index_or}
+use Rattle.std.specs.Prelude.{All, AllPairs}
 use Rattle.scheduler.specs.declared.plan.Item.{Item}
 use Rattle.scheduler.specs.declared.scheduled.Scheduled.{Scheduled}
 use Rattle.scheduler.specs.declared.turn.First.{First}
@@ -202,12 +203,28 @@ IsFoundTurn entry nodes None =
 IsFoundTurn entry nodes (Some place) =
     (place < length nodes) × ((d : Node) → (slice_index_or nodes place d).kept.scheduled.item.entry ≡ entry)
 
+-- a message that has no pending broadcast, and is never to be looked at again
+pub record HasNoMore (k : Progress) : Type 0 where
+  pub never : k.until ≡ 4294967295
+  pub closed : k.is_open ≡ false
+
+-- so it has ended for ever, where what is kept of it is true
+pub record HasEnded (slot : ℕ) (k : Progress) : Type 0 where
+  pub right : IsRight slot k
+  pub no_more : HasNoMore k
+
+-- of the messages so many at the front have ended, and the others stand in the tree
+pub record AreSettled (slot past : ℕ) (nodes : List Node) : Type 0 where
+  pub within : past ≤ length nodes
+  pub ended : All (HasEnded slot) (kept_in (take past nodes))
+  pub later : AreKeptInOrder slot (drop past nodes)
+
 -- what is true of a plan at the slot that is asked next
-pub record IsPlan (slot : ℕ) (nodes : List Node) : Type 0 where
+pub record IsPlan (slot past : ℕ) (nodes : List Node) : Type 0 where
   pub sound : IsSound (record { slot = slot; scheduled = seen_in slot nodes })
-  pub kept : AreKeptInOrder slot nodes
+  pub kept : AreSettled slot past nodes
 
 -- and of a plan with room for a list of its places
-pub record HasQueueRoom (slot : ℕ) (nodes : List Node) (listed : List ℕ) : Type 0 where
-  pub plan : IsPlan slot nodes
+pub record HasQueueRoom (slot past : ℕ) (nodes : List Node) (listed : List ℕ) : Type 0 where
+  pub plan : IsPlan slot past nodes
   pub room : length nodes ≤ length listed

@@ -9,6 +9,7 @@ mod laws;
 mod plan;
 mod progress;
 mod scheduled;
+mod settled;
 mod tournament;
 mod turn;
 

@@ -8,9 +8,8 @@ ghost use Rattle.scheduler.specs.Air.{layer_of, class_of, IsChosen};
 ghost use Rattle.scheduler.specs.Follows.{Follows, ForHistories, HasCompleted, IsStanding, HasStop, next_slot};
 ghost use Rattle.scheduler.specs.Follows.{messages_of, message_of, message_from};
 
-use crate::tournament::{
-    Node, are_below, completed_of, has_entry, has_standing, play, push, stop_at,
-};
+use crate::settled::{play_later, push, settle_if_grown, stop};
+use crate::tournament::{Node, are_below, completed_of, has_entry, has_standing};
 use std::alloc::Global;
 use std::marker::Model;
 
@@ -78,6 +77,10 @@ pub struct Item {
 #[derive(Drop)]
 pub struct Plan {
     slot: u16,
+    /// How many messages at the front have ended for ever.
+    past: usize,
+    /// How many others there were when these were last counted.
+    made: usize,
     nodes: Vec<Node>,
     /// Room for a list of places, which `next` makes anew.
     listed: Vec<usize>,
@@ -91,7 +94,7 @@ impl Model for Plan {
 
     ghost view = { λ p. record { slot = p.slot; scheduled = seen_in p.slot p.nodes.items } };
 
-    ghost invariant = { λ p. HasQueueRoom p.slot p.nodes.items p.listed.items };
+    ghost invariant = { λ p. HasQueueRoom p.slot p.past p.nodes.items p.listed.items };
 }
 
 impl Plan {
@@ -103,6 +106,8 @@ impl Plan {
     {
         Plan {
             slot: 0,
+            past: 0,
+            made: 0,
             nodes: Vec::new(alloc),
             listed: Vec::new(alloc),
         }
@@ -128,7 +133,10 @@ impl Plan {
         if self.listed.push(0).is_err() {
             return Err(Refused);
         }
-        push(&mut self.nodes, item)
+        let (past, made) = settle_if_grown(self.nodes.as_mut_slice(), self.past, self.made);
+        self.past = past;
+        self.made = made;
+        push(&mut self.nodes, past, item)
     }
 
     /// What `slot` airs: an entry and its page, counted from 1, or nothing. Each slot is asked once, from 0, in order,
@@ -141,7 +149,12 @@ impl Plan {
         ensures messages { messages_of self.new ≡ messages_of self.old }
         ensures asked { next_slot self.new ≡ slot + 1 }
     {
-        let used = play(self.nodes.as_mut_slice(), self.listed.as_mut_slice(), slot);
+        let used = play_later(
+            self.nodes.as_mut_slice(),
+            self.past,
+            self.listed.as_mut_slice(),
+            slot,
+        );
         self.slot = slot + 1;
         used
     }
@@ -159,7 +172,7 @@ impl Plan {
         ensures asked { next_slot self.new ≡ slot }
     {
         let completed = completed_of(self.nodes.as_slice(), entry);
-        stop_at(self.nodes.as_mut_slice(), entry, slot);
+        stop(self.nodes.as_mut_slice(), self.past, entry, slot);
         completed
     }
 

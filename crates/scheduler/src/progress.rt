@@ -1,7 +1,7 @@
 //! What a plan keeps of one message between the slots at which something begins or ends for it.
 
 ghost use Rattle.std.specs.Prelude.{◌≡◌, ◌<◌, true};
-ghost use Rattle.scheduler.specs.QueueSteps.{HasTurn, IsRight, refreshed, aired, stopped, own, kept_new};
+ghost use Rattle.scheduler.specs.QueueSteps.{HasTurn, HasNoMore, IsRight, refreshed, aired, stopped, own, kept_new};
 
 use crate::plan::Item;
 use crate::scheduled::Scheduled;
@@ -86,6 +86,13 @@ impl Progress {
             is_open: false,
             ..self
         }
+    }
+
+    /// Whether it has no pending broadcast, and is never to be looked at again.
+    pub fn has_no_more(self) -> bool
+        ensures { result ≡ true → HasNoMore self }
+    {
+        self.until == u32::MAX && !self.is_open
     }
 
     /// What is ahead of it alone.

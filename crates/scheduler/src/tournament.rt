@@ -4,7 +4,7 @@
 //! below which that is so are listed, from place 0 down, and then looked at again, from the last of the list up.
 
 ghost use Rattle.std.specs.Prelude.{◌≡◌, ◌≢◌, ◌<◌, ◌≤◌, ℕ, ◌+◌, ◌*◌, length, All, AllPairs, Any, map, slice_set};
-ghost use Rattle.std.specs.Prelude.{◌==◌, ◌++◌, ◌∷◌, [], if◌then◌else◌, true, MatchBool, OnOk, OnErr};
+ghost use Rattle.std.specs.Prelude.{◌==◌, if◌then◌else◌, true, MatchBool};
 ghost use Rattle.std.specs.Prelude.{Option, Some, None, slice_index_or};
 ghost use Rattle.scheduler.specs.PlanSteps.{IsChoice, after_slot, scheduled_stopped};
 ghost use Rattle.scheduler.specs.declared.tournament.Node.{Node};
@@ -12,9 +12,8 @@ ghost use Rattle.scheduler.specs.QueueSteps.{ahead_among, ahead_at, ahead_below,
 ghost use Rattle.scheduler.specs.QueueSteps.{IsNode, IsTree, HasTurn};
 ghost use Rattle.scheduler.specs.QueueSteps.{IsTreeBut, KeepsNodesBut, own, own_at, IsRight, IsPlaceOf, IsFoundTurn};
 ghost use Rattle.scheduler.specs.QueueSteps.{AreRising};
-ghost use Rattle.scheduler.specs.QueueSteps.{AreKeptInOrder, AreListed, AreDue, kept_new, renewed_node};
+ghost use Rattle.scheduler.specs.QueueSteps.{AreKeptInOrder, AreListed, AreDue, renewed_node};
 
-use crate::plan::{Item, Refused};
 use crate::progress::Progress;
 use crate::turn::First;
 
@@ -90,7 +89,7 @@ fn ahead_of_eight(nodes: &[Node], place: usize) -> First
 }
 
 /// What is ahead of the places below one.
-fn ahead_below(nodes: &[Node], place: usize) -> First
+pub(crate) fn ahead_below(nodes: &[Node], place: usize) -> First
     ensures { result ≡ ahead_below nodes.now place }
 {
     let mut ahead = First::nothing();
@@ -107,7 +106,7 @@ fn ahead_below(nodes: &[Node], place: usize) -> First
 }
 
 /// Puts right what is ahead of a place, and of those above it up to one of which it stays the same.
-fn lift(nodes: &mut [Node], place: usize)
+pub(crate) fn lift(nodes: &mut [Node], place: usize)
     requires within { place < length nodes.old }
     requires others { IsTreeBut nodes.old place }
     ensures kept { kept_in nodes.new ≡ kept_in nodes.old }
@@ -317,15 +316,23 @@ fn stands_at(nodes: &[Node], place: usize, entry: u16) -> bool
     place < nodes.len() && nodes[place].kept.scheduled.item.entry == entry
 }
 
-/// The place of the message of `entry`, where there is one: those before it have lesser numbers. That of its number is
-/// looked at first, since it stands there if all numbers below were given to messages.
+/// The place at which the message of `entry` stands if all numbers from the first message's on were given to messages.
+fn likely_place(nodes: &[Node], entry: u16) -> usize {
+    match nodes.first() {
+        None => 0,
+        Some(first) => usize::from(entry.saturating_sub(first.kept.scheduled.item.entry)),
+    }
+}
+
+/// The place of the message of `entry`, where there is one: those before it have lesser numbers. The likely place is
+/// looked at first.
 fn place_of(nodes: &[Node], entry: u16) -> usize
     requires { AreRising nodes.now }
     ensures { IsPlaceOf entry nodes.now result }
 {
-    let own = usize::from(entry);
-    if stands_at(nodes, own, entry) {
-        own
+    let likely = likely_place(nodes, entry);
+    if stands_at(nodes, likely, entry) {
+        likely
     } else {
         place_by_search(nodes, entry)
     }
@@ -362,28 +369,8 @@ pub(crate) fn play(nodes: &mut [Node], listed: &mut [usize], slot: u16) -> Optio
     air_first(nodes, slot)
 }
 
-/// Adds a message behind the others. After `Err` there is no room for it, and the places are as they were.
-pub(crate) fn push(nodes: &mut Vec<Node>, item: Item) -> Result<(), Refused>
-    requires { IsTree nodes.old.items }
-    ensures kept { OnOk result (kept_in nodes.new.items ≡ kept_in nodes.old.items ++ kept_new item ∷ []) }
-    ensures tree { IsTree nodes.new.items }
-    ensures refused { OnErr result (nodes.new.items ≡ nodes.old.items) }
-    ensures turn { HasTurn (kept_new item) }
-{
-    let place = nodes.len();
-    let kept = Progress::new(item);
-    let ahead = First::nothing();
-    match nodes.push(Node { kept, ahead }) {
-        Ok(()) => {
-            lift(nodes.as_mut_slice(), place);
-            Ok(())
-        }
-        Err(_) => Err(Refused),
-    }
-}
-
 /// The place of the message of `entry`, if there is one.
-fn find(nodes: &[Node], entry: u16) -> Option<usize>
+pub(crate) fn find(nodes: &[Node], entry: u16) -> Option<usize>
     requires { AreRising nodes.now }
     ensures { IsFoundTurn entry nodes.now result }
 {

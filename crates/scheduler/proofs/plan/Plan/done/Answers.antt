@@ -10,8 +10,8 @@ use Rattle.scheduler.proofs.plan.Plan.done.Goals as goal
 
 pub completed_of-requires : goal.completed_of-requires
 completed_of-requires c =
-    subst AreRising (sym c.as_slice.ensures.value) (plan_rising c.self.inside.slot c.self.inside.nodes.items
-    c.self.invariant.plan)
+    subst AreRising (sym c.as_slice.ensures.value) (plan_rising c.self.inside.slot c.self.inside.past
+    c.self.inside.nodes.items c.self.invariant.plan)
 
 pub returns : goal.returns
 returns c = λ messages air follows.

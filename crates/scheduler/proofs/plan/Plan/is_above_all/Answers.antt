@@ -11,8 +11,8 @@ use Rattle.scheduler.proofs.plan.Plan.is_above_all.Goals as goal
 
 pub are_below-requires : goal.are_below-requires
 are_below-requires c =
-    subst AreRising (sym c.as_slice.ensures.value) (plan_rising c.self.inside.slot c.self.inside.nodes.items
-    c.self.invariant.plan)
+    subst AreRising (sym c.as_slice.ensures.value) (plan_rising c.self.inside.slot c.self.inside.past
+    c.self.inside.nodes.items c.self.invariant.plan)
 
 pub returns : goal.returns
 returns c =

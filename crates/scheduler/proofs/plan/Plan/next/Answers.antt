@@ -4,20 +4,20 @@ use Rattle.scheduler.specs.declared.scheduled.Scheduled.{Scheduled}
 use Rattle.scheduler.specs.declared.tournament.Node.{Node}
 use Rattle.scheduler.specs.Follows.{PlanState, Follows, messages_of, message_of, next_slot}
 use Rattle.scheduler.specs.PlanSteps.{IsSound, IsChoice, after_slot}
-use Rattle.scheduler.specs.QueueSteps.{AreKeptInOrder, seen_in}
+use Rattle.scheduler.specs.QueueSteps.{AreSettled, seen_in}
 use Rattle.scheduler.proofs.Followed.{IsSound-next, IsChosen-next, Follows-next, unchanged_messages}
 use Rattle.scheduler.proofs.Planned.{as_long, written_all, seen_written}
 use Rattle.scheduler.proofs.plan.Plan.next.Goals as goal
 
-pub play-used-requires-clause-kept : goal.play-used-requires-clause-kept
-play-used-requires-clause-kept c =
+pub play_later-used-requires-clause-kept : goal.play_later-used-requires-clause-kept
+play_later-used-requires-clause-kept c =
     let at = c.requires.at_next ∙ ap next_slot (sym c.self.view_is) in
-    let Slot : ℕ → Type 0 = λ n. AreKeptInOrder n c.self.inside.nodes.items in
-    subst (AreKeptInOrder c.args.slot) (sym c.as_mut_slice.ensures.value)
+    let Slot : ℕ → Type 0 = λ n. AreSettled n c.self.inside.past c.self.inside.nodes.items in
+    subst (AreSettled c.args.slot c.self.inside.past) (sym c.as_mut_slice.ensures.value)
     (subst Slot (sym at) c.self.invariant.plan.kept)
 
-pub play-used-requires-clause-rising : goal.play-used-requires-clause-rising
-play-used-requires-clause-rising c =
+pub play_later-used-requires-clause-rising : goal.play_later-used-requires-clause-rising
+play_later-used-requires-clause-rising c =
     let at = c.requires.at_next ∙ ap next_slot (sym c.self.view_is) in
     let Rising : List Node → Type 0 = λ ns. AllPairs (λ (a b : Scheduled). a.item.entry < b.item.entry)
     (seen_in c.args.slot ns) in
@@ -30,22 +30,22 @@ invariant_of-self c =
     let v = c.self.inside.nodes in
     let plan : PlanState = record { slot = c.args.slot; scheduled = seen_in c.args.slot v.items } in
     let at = c.requires.at_next ∙ ap next_slot (sym c.self.view_is) in
-    let f = after_slot c.args.slot c.play-used.result in
+    let f = after_slot c.args.slot c.play_later-used.result in
     let Slot : ℕ → Type 0 = λ n. IsSound (record { slot = n; scheduled = seen_in n v.items }) in
     let P : List Scheduled → Type 0 = λ ts. IsSound (record { slot = c.args.slot + 1; scheduled = ts }) in
     record {
       plan = record {
         sound = subst P (sym (seen_written v _ _ (c.args.slot + 1) c.args.slot f c.as_mut_slice.ensures.value
-            c.play-used.ensures.seen)) (IsSound-next plan c.play-used.result c.requires.within (subst Slot (sym at)
+            c.play_later-used.ensures.seen)) (IsSound-next plan c.play_later-used.result c.requires.within (subst Slot (sym at)
             c.self.invariant.plan.sound));
-        kept = subst (AreKeptInOrder (c.args.slot + 1)) (sym (written_all v _ _ (c.args.slot + 1) c.args.slot f
-            c.as_mut_slice.ensures.value c.play-used.ensures.seen)) c.play-used.ensures.kept;
+        kept = subst (AreSettled (c.args.slot + 1) c.self.inside.past) (sym (written_all v _ _ (c.args.slot + 1) c.args.slot f
+            c.as_mut_slice.ensures.value c.play_later-used.ensures.seen)) c.play_later-used.ensures.kept;
       };
       room = omega (
         arith,
         c.self.invariant.room,
-        as_long v c.play-used.new.nodes,
-        as_long c.self.inside.listed c.play-used.new.listed,
+        as_long v c.play_later-used.new.nodes,
+        as_long c.self.inside.listed c.play_later-used.new.listed,
       );
     }
 
@@ -57,9 +57,9 @@ returns-clause-chosen c = λ messages air follows.
     let Slot : ℕ → Type 0 = λ n. IsSound (record { slot = n; scheduled = seen_in n v.items }) in
     let SlotFollows : ℕ → Type 0 = λ n. Follows (record { slot = n; scheduled = seen_in n v.items }) messages air in
     let Same : PlanState → Type 0 = λ p. Follows p messages air in
-    let Choice : List Node → Type 0 = λ ns. IsChoice (seen_in c.args.slot ns) c.args.slot c.play-used.result in
-    IsChosen-next plan messages air c.play-used.result (subst Slot (sym at) c.self.invariant.plan.sound)
-    (subst Choice c.as_mut_slice.ensures.value c.play-used.ensures.chosen)
+    let Choice : List Node → Type 0 = λ ns. IsChoice (seen_in c.args.slot ns) c.args.slot c.play_later-used.result in
+    IsChosen-next plan messages air c.play_later-used.result (subst Slot (sym at) c.self.invariant.plan.sound)
+    (subst Choice c.as_mut_slice.ensures.value c.play_later-used.ensures.chosen)
     (subst SlotFollows (sym at) (subst Same (sym c.self.view_is) follows))
 
 pub returns-clause-follows : goal.returns-clause-follows
@@ -67,23 +67,23 @@ returns-clause-follows c = λ messages air follows.
     let v = c.self.inside.nodes in
     let plan : PlanState = record { slot = c.args.slot; scheduled = seen_in c.args.slot v.items } in
     let at = c.requires.at_next ∙ ap next_slot (sym c.self.view_is) in
-    let f = after_slot c.args.slot c.play-used.result in
+    let f = after_slot c.args.slot c.play_later-used.result in
     let Slot : ℕ → Type 0 = λ n. IsSound (record { slot = n; scheduled = seen_in n v.items }) in
     let SlotFollows : ℕ → Type 0 = λ n. Follows (record { slot = n; scheduled = seen_in n v.items }) messages air in
     let Same : PlanState → Type 0 = λ p. Follows p messages air in
-    let Choice : List Node → Type 0 = λ ns. IsChoice (seen_in c.args.slot ns) c.args.slot c.play-used.result in
+    let Choice : List Node → Type 0 = λ ns. IsChoice (seen_in c.args.slot ns) c.args.slot c.play_later-used.result in
     let P : List Scheduled → Type 0 = λ ts. Follows (record { slot = c.args.slot + 1; scheduled = ts }) messages
-    (air ++ c.play-used.result ∷ []) in
+    (air ++ c.play_later-used.result ∷ []) in
     subst P (sym (seen_written v _ _ (c.args.slot + 1) c.args.slot f c.as_mut_slice.ensures.value
-    c.play-used.ensures.seen)) (Follows-next plan messages air c.play-used.result (subst Slot (sym at)
-    c.self.invariant.plan.sound) (subst Choice c.as_mut_slice.ensures.value c.play-used.ensures.chosen)
+    c.play_later-used.ensures.seen)) (Follows-next plan messages air c.play_later-used.result (subst Slot (sym at)
+    c.self.invariant.plan.sound) (subst Choice c.as_mut_slice.ensures.value c.play_later-used.ensures.chosen)
     (subst SlotFollows (sym at) (subst Same (sym c.self.view_is) follows)))
 
 pub returns-clause-messages : goal.returns-clause-messages
 returns-clause-messages c =
     let v = c.self.inside.nodes in
     let at = c.requires.at_next ∙ ap next_slot (sym c.self.view_is) in
-    let f = after_slot c.args.slot c.play-used.result in
+    let f = after_slot c.args.slot c.play_later-used.result in
     ap (map message_of) (seen_written v _ _ (c.args.slot + 1) c.args.slot f c.as_mut_slice.ensures.value
-    c.play-used.ensures.seen) ∙ (unchanged_messages f (λ t. refl) (seen_in c.args.slot v.items)
+    c.play_later-used.ensures.seen) ∙ (unchanged_messages f (λ t. refl) (seen_in c.args.slot v.items)
     ∙ (ap (λ n. map message_of (seen_in n v.items)) at ∙ ap messages_of c.self.view_is))

@@ -6,27 +6,27 @@ use Rattle.scheduler.specs.Message.{stopped_at}
 use Rattle.scheduler.specs.Completed.{completed}
 use Rattle.scheduler.specs.Follows.{PlanState, Follows, messages_of, message_of, next_slot}
 use Rattle.scheduler.specs.PlanSteps.{IsSound, scheduled_stopped}
-use Rattle.scheduler.specs.QueueSteps.{AreKeptInOrder, AreRising, seen_in}
+use Rattle.scheduler.specs.QueueSteps.{AreSettled, AreRising, seen_in}
 use Rattle.scheduler.proofs.Followed.{IsSound-stop, Follows-stop, completed-kept, messages_of-stopped}
 use Rattle.scheduler.proofs.Planned.{as_long, plan_rising, written_all, seen_written}
 use Rattle.scheduler.proofs.plan.Plan.stop.Goals as goal
 
 pub completed_of-completed-requires : goal.completed_of-completed-requires
 completed_of-completed-requires c =
-    subst AreRising (sym c.as_slice.ensures.value) (plan_rising c.self.inside.slot c.self.inside.nodes.items
-    c.self.invariant.plan)
+    subst AreRising (sym c.as_slice.ensures.value) (plan_rising c.self.inside.slot c.self.inside.past
+    c.self.inside.nodes.items c.self.invariant.plan)
 
-pub stop_at-requires-clause-kept : goal.stop_at-requires-clause-kept
-stop_at-requires-clause-kept c =
+pub stop-requires-clause-kept : goal.stop-requires-clause-kept
+stop-requires-clause-kept c =
     let at = c.requires.at_next ∙ ap next_slot (sym c.self.view_is) in
-    let Slot : ℕ → Type 0 = λ n. AreKeptInOrder n c.self.inside.nodes.items in
-    subst (AreKeptInOrder c.args.slot) (sym c.as_mut_slice.ensures.value)
+    let Slot : ℕ → Type 0 = λ n. AreSettled n c.self.inside.past c.self.inside.nodes.items in
+    subst (AreSettled c.args.slot c.self.inside.past) (sym c.as_mut_slice.ensures.value)
     (subst Slot (sym at) c.self.invariant.plan.kept)
 
-pub stop_at-requires-clause-rising : goal.stop_at-requires-clause-rising
-stop_at-requires-clause-rising c =
-    subst AreRising (sym c.as_mut_slice.ensures.value) (plan_rising c.self.inside.slot c.self.inside.nodes.items
-    c.self.invariant.plan)
+pub stop-requires-clause-rising : goal.stop-requires-clause-rising
+stop-requires-clause-rising c =
+    subst AreRising (sym c.as_mut_slice.ensures.value) (plan_rising c.self.inside.slot c.self.inside.past
+    c.self.inside.nodes.items c.self.invariant.plan)
 
 pub invariant_of-self : goal.invariant_of-self
 invariant_of-self c =
@@ -34,18 +34,18 @@ invariant_of-self c =
     let plan : PlanState = record { slot = c.args.slot; scheduled = seen_in c.args.slot v.items } in
     let at = c.requires.at_next ∙ ap next_slot (sym c.self.view_is) in
     let over = seen_written v _ _ c.args.slot c.args.slot (λ (t : Scheduled). scheduled_stopped
-    (t.item.entry == c.args.entry) c.args.slot t) c.as_mut_slice.ensures.value c.stop_at.ensures.seen in
+    (t.item.entry == c.args.entry) c.args.slot t) c.as_mut_slice.ensures.value c.stop.ensures.seen in
     let Slot : ℕ → Type 0 = λ n. IsSound (record { slot = n; scheduled = seen_in n v.items }) in
     let P : List Scheduled → Type 0 = λ ts. IsSound (record { slot = c.args.slot; scheduled = ts }) in
     rw (← at) record {
       plan = record {
         sound = subst P (sym over) (IsSound-stop plan c.args.entry c.args.slot (subst Slot (sym at)
             c.self.invariant.plan.sound));
-        kept = subst (AreKeptInOrder c.args.slot) (sym (written_all v _ _ c.args.slot c.args.slot
+        kept = subst (AreSettled c.args.slot c.self.inside.past) (sym (written_all v _ _ c.args.slot c.args.slot
             (λ (t : Scheduled). scheduled_stopped (t.item.entry == c.args.entry) c.args.slot t)
-            c.as_mut_slice.ensures.value c.stop_at.ensures.seen)) c.stop_at.ensures.kept;
+            c.as_mut_slice.ensures.value c.stop.ensures.seen)) c.stop.ensures.kept;
       };
-      room = omega (arith, c.self.invariant.room, as_long v c.stop_at.new.nodes);
+      room = omega (arith, c.self.invariant.room, as_long v c.stop.new.nodes);
     }
 
 pub returns-clause-completed : goal.returns-clause-completed
@@ -68,7 +68,7 @@ returns-clause-follows c = λ messages air follows.
     let plan : PlanState = record { slot = c.args.slot; scheduled = seen_in c.args.slot v.items } in
     let at = c.requires.at_next ∙ ap next_slot (sym c.self.view_is) in
     let over = seen_written v _ _ c.args.slot c.args.slot (λ (t : Scheduled). scheduled_stopped
-    (t.item.entry == c.args.entry) c.args.slot t) c.as_mut_slice.ensures.value c.stop_at.ensures.seen in
+    (t.item.entry == c.args.entry) c.args.slot t) c.as_mut_slice.ensures.value c.stop.ensures.seen in
     let Slot : ℕ → Type 0 = λ n. IsSound (record { slot = n; scheduled = seen_in n v.items }) in
     let SlotFollows : ℕ → Type 0 = λ n. Follows (record { slot = n; scheduled = seen_in n v.items }) messages air in
     let SlotStanding : ℕ → Type 0 = λ n. Any (λ m. (m.entry ≡ c.args.entry) × (m.stop ≡ None))
@@ -88,7 +88,7 @@ returns-clause-messages c =
     let plan : PlanState = record { slot = c.args.slot; scheduled = seen_in c.args.slot v.items } in
     let at = c.requires.at_next ∙ ap next_slot (sym c.self.view_is) in
     let over = seen_written v _ _ c.args.slot c.args.slot (λ (t : Scheduled). scheduled_stopped
-    (t.item.entry == c.args.entry) c.args.slot t) c.as_mut_slice.ensures.value c.stop_at.ensures.seen in
+    (t.item.entry == c.args.entry) c.args.slot t) c.as_mut_slice.ensures.value c.stop.ensures.seen in
     let back = ap (λ n. stopped_at c.args.entry c.args.slot (map message_of (seen_in n v.items))) at
     ∙ ap (λ p. stopped_at c.args.entry c.args.slot (messages_of p)) c.self.view_is in
     rw (← at) (ap (map message_of) over ∙ (messages_of-stopped plan c.args.entry c.args.slot ∙ back))
