@@ -128,20 +128,20 @@ struct Both {
     numbers: Numbers,
     plan: Plan,
     scanned: Vec<Scanned>,
-    /// The numbers of messages rise by this: with 1 each stands at the place of its number.
+    /// The number of the first message.
+    first: u16,
+    /// The numbers of messages rise by this.
     step: u16,
 }
 
-/// Adds a message to both, that stands from the slot asked next, or from one that is up to `ahead` slots later. Says
-/// whether it was added.
-fn is_added(both: &mut Both, ahead: u16) -> Result<bool, AllocError> {
-    let Ok(places) = u16::try_from(both.scanned.len()) else {
-        return Ok(true);
-    };
-    let entry = places.saturating_mul(both.step);
-    let later = both.numbers.below(ahead.saturating_add(1));
-    let start = u32::from(both.plan.next_slot()).saturating_add(u32::from(later));
-    let item = some_item(&mut both.numbers, entry, start);
+/// The number of the next message, where there is one.
+fn next_entry(both: &Both) -> Option<u16> {
+    let places = u16::try_from(both.scanned.len()).ok()?;
+    places.checked_mul(both.step)?.checked_add(both.first)
+}
+
+/// Adds a message to both. Says whether it was added.
+fn is_item_added(both: &mut Both, item: Item) -> Result<bool, AllocError> {
     let is_added = add_item(&mut both.plan, item).is_some();
     both.scanned.push(Scanned {
         item,
@@ -150,6 +150,31 @@ fn is_added(both: &mut Both, ahead: u16) -> Result<bool, AllocError> {
         completed: 0,
     })?;
     Ok(is_added)
+}
+
+/// Adds a message to both, that stands from the slot asked next, or from one that is up to `ahead` slots later. Says
+/// whether it was added.
+fn is_added(both: &mut Both, ahead: u16) -> Result<bool, AllocError> {
+    let Some(entry) = next_entry(both) else {
+        return Ok(true);
+    };
+    let later = both.numbers.below(ahead.saturating_add(1));
+    let start = u32::from(both.plan.next_slot()).saturating_add(u32::from(later));
+    let item = some_item(&mut both.numbers, entry, start);
+    is_item_added(both, item)
+}
+
+/// Adds a message to both that ends soon, but for one of 64, which stands until it is stopped. Says whether it was
+/// added.
+fn is_short_added(both: &mut Both) -> Result<bool, AllocError> {
+    let Some(entry) = next_entry(both) else {
+        return Ok(true);
+    };
+    let start = u32::from(both.plan.next_slot());
+    let mut item = some_item(&mut both.numbers, entry, start);
+    item.period = both.numbers.below(6).saturating_add(1);
+    item.broadcasts = if both.numbers.below(64) == 0 { 0 } else { 1 };
+    is_item_added(both, item)
 }
 
 /// Stops the message at a place of both, if it stands. Says whether its completed number is that of the walk.
@@ -178,9 +203,21 @@ fn is_changed(both: &mut Both) -> Result<bool, AllocError> {
     }
 }
 
+/// What happens before a slot of a log of short messages: one is added, and one of all is stopped, of which most
+/// ended long before. Says whether it was done.
+fn is_log_changed(both: &mut Both) -> Result<bool, AllocError> {
+    let places = u16::try_from(both.scanned.len()).unwrap_or(0);
+    let place = usize::from(both.numbers.below(places.saturating_add(1)));
+    Ok(is_short_added(both)? && is_stopped(both, place))
+}
+
 /// Whether a slot airs what the walk says.
-fn is_slot_scanned(both: &mut Both, slot: u16) -> Result<bool, AllocError> {
-    let is_changed = is_changed(both)?;
+fn is_slot_scanned(both: &mut Both, slot: u16, is_log: bool) -> Result<bool, AllocError> {
+    let is_changed = if is_log {
+        is_log_changed(both)?
+    } else {
+        is_changed(both)?
+    };
     let used = scan(&both.scanned, slot);
     let is_aired = air(&mut both.plan) == used;
     pass(both.scanned.as_mut_slice(), slot, used);
@@ -198,26 +235,42 @@ fn are_completed(both: &Both) -> bool {
 }
 
 /// Whether a run of 200 slots airs, and completes, what the walk does.
-fn is_scanned(alloc: Global, seed: u64, step: u16) -> Result<bool, AllocError> {
-    let mut both = Both {
-        numbers: Numbers { state: seed },
-        plan: Plan::new(alloc),
-        scanned: Vec::new(alloc),
-        step,
-    };
+fn is_scanned(mut both: Both, is_log: bool) -> Result<bool, AllocError> {
     for slot in 0..200 {
-        if !is_slot_scanned(&mut both, slot)? {
+        if !is_slot_scanned(&mut both, slot, is_log)? {
             return Ok(false);
         }
     }
     Ok(are_completed(&both))
 }
 
+/// A run whose numbers begin and rise by these.
+fn new_run(alloc: Global, seed: u64, first: u16, step: u16) -> Both {
+    Both {
+        numbers: Numbers { state: seed },
+        plan: Plan::new(alloc),
+        scanned: Vec::new(alloc),
+        first,
+        step,
+    }
+}
+
 #[test]
 fn answers_as_a_walk_does(rt: HostRuntime) -> Result<(), Fail> {
     for seed in 0..20 {
-        let is_scanned = is_scanned(rt.alloc(), seed, 1)? && is_scanned(rt.alloc(), seed + 20, 2)?;
-        assert!(rt; is_scanned, "{seed}");
+        let is_dense = is_scanned(new_run(rt.alloc(), seed, 0, 1), false)?;
+        let is_sparse = is_scanned(new_run(rt.alloc(), seed + 20, 0, 2), false)?;
+        assert!(rt; is_dense && is_sparse, "{seed}");
+    }
+    Ok(())
+}
+
+#[test]
+fn answers_as_a_walk_does_of_short_messages(rt: HostRuntime) -> Result<(), Fail> {
+    for seed in 0..10 {
+        let is_dense = is_scanned(new_run(rt.alloc(), seed, 7, 1), true)?;
+        let is_sparse = is_scanned(new_run(rt.alloc(), seed + 10, 7, 3), true)?;
+        assert!(rt; is_dense && is_sparse, "{seed}");
     }
     Ok(())
 }

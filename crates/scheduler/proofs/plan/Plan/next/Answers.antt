@@ -33,13 +33,15 @@ invariant_of-self c =
     let f = after_slot c.args.slot c.play_later-used.result in
     let Slot : ℕ → Type 0 = λ n. IsSound (record { slot = n; scheduled = seen_in n v.items }) in
     let P : List Scheduled → Type 0 = λ ts. IsSound (record { slot = c.args.slot + 1; scheduled = ts }) in
+    let as_seen = seen_written v _ _ (c.args.slot + 1) c.args.slot f c.as_mut_slice.ensures.value
+    c.play_later-used.ensures.seen in
+    let as_written = written_all v _ _ (c.args.slot + 1) c.args.slot f c.as_mut_slice.ensures.value
+    c.play_later-used.ensures.seen in
     record {
       plan = record {
-        sound = subst P (sym (seen_written v _ _ (c.args.slot + 1) c.args.slot f c.as_mut_slice.ensures.value
-            c.play_later-used.ensures.seen)) (IsSound-next plan c.play_later-used.result c.requires.within (subst Slot (sym at)
+        sound = subst P (sym as_seen) (IsSound-next plan c.play_later-used.result c.requires.within (subst Slot (sym at)
             c.self.invariant.plan.sound));
-        kept = subst (AreSettled (c.args.slot + 1) c.self.inside.past) (sym (written_all v _ _ (c.args.slot + 1) c.args.slot f
-            c.as_mut_slice.ensures.value c.play_later-used.ensures.seen)) c.play_later-used.ensures.kept;
+        kept = subst (AreSettled (c.args.slot + 1) c.self.inside.past) (sym as_written) c.play_later-used.ensures.kept;
       };
       room = omega (
         arith,
