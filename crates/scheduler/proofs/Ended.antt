@@ -1,10 +1,11 @@
 -- Lemmas on the messages of a plan, of which those at the front have ended.
-use Rattle.std.proofs.Common.{◌≡◌, ℕ, ◌+◌, ◌-◌, ◌≤◌, ◌<◌, false, true, Option, Some, None, List, [], ◌∷◌, ◌++◌}
+use Rattle.std.proofs.Common.{◌≡◌, ℕ, ◌+◌, ◌-◌, ◌≤◌, ◌<◌, Bool, false, true, leb, Option, Some, None, List, [], ◌∷◌, ◌++◌}
 use Rattle.std.proofs.Common.{append_assoc, length, get_or, map, set, take, drop, inl, inr, refl, sym, ap, subst}
 use Rattle.std.proofs.Common.{◌∙◌, arith}
+use Rattle.std.specs.Bool.{MatchBool}
 use Rattle.std.specs.List.{All, AllPairs}
 use Rattle.std.proofs.Math.Seq.{take-append_seam, drop-append_seam}
-use Rattle.std.proofs.lemmas.Bool.{cases_eq, ne_eqb, false≢true}
+use Rattle.std.proofs.lemmas.Bool.{cases_eq, ne_eqb, false≢true, leb-true, leb-false}
 use Rattle.std.proofs.lemmas.List.{length-append, length-map, length-take-le, length-drop, map-append, drop-map}
 use Rattle.std.proofs.lemmas.List.{get_or-map, get_or_default, get_or_append_left, get_or-append-add, get_or-take}
 use Rattle.std.proofs.lemmas.List.{drop-append-le}
@@ -15,11 +16,12 @@ use Rattle.scheduler.specs.declared.scheduled.Scheduled.{Scheduled}
 use Rattle.scheduler.specs.Air.{airs}
 use Rattle.scheduler.specs.PlanSteps.{IsChoice, IsServedFirst, NoneReady, is_ready, after_slot}
 use Rattle.scheduler.specs.QueueSteps.{kept_in, seen_in, seen, stopped, nothing_ahead, IsRight, HasTurn, IsNode, IsTree}
-use Rattle.scheduler.specs.QueueSteps.{IsTreeBut, AreKeptInOrder, HasNoMore, HasEnded, AreSettled}
+use Rattle.scheduler.specs.QueueSteps.{IsTreeBut, AreKeptInOrder, HasNoMore, HasEnded, AreSettled, AreRising}
+use Rattle.scheduler.specs.QueueSteps.{HasReached, IsFoundTurn}
 use Rattle.scheduler.proofs.FirstTurn.{blank}
 use Rattle.scheduler.proofs.Found.{push_others}
 use Rattle.scheduler.proofs.Passed.{map_same, map_twice}
-use Rattle.scheduler.proofs.Places.{kept_at, right_at}
+use Rattle.scheduler.proofs.Places.{kept_at, right_at, lesser_before}
 use Rattle.scheduler.proofs.Tree.{put_in, put_kept, put_node, put_nodes, kept_same}
 use Rattle.scheduler.proofs.Windows.{seen_is, seen_after_other, IsRight-later, IsRight-stopped}
 
@@ -279,3 +281,33 @@ ended_stopped slot nodes place within ended =
       right = IsRight-stopped k slot its.right;
       no_more = record { never = its.no_more.never; closed = refl };
     }) ended
+
+-- a message of a number that those in front reach is none of the later ones
+pub not_later : (entry : ℕ) (front later : List Node) → AreRising (front ++ later) → HasReached entry front
+    → IsFoundTurn entry later None
+not_later entry front later rising reached = λ k d within named.
+    let less = rising_across (λ (n : Node). n.kept.scheduled.item.entry) front later rising reached.place k d d
+    reached.within within in
+    omega (arith, less, named, reached.no_less d)
+
+-- the last message shows whether that number is reached: where it has a lesser one, so has each
+pub reached_by_last : (entry : ℕ) (nodes : List Node) (says : Bool) → AreRising nodes → 0 < length nodes
+    → says ≡ leb entry (get_or nodes (length nodes - 1) blank).kept.scheduled.item.entry
+    → MatchBool says (HasReached entry nodes) (IsFoundTurn entry nodes None)
+reached_by_last entry nodes true rising some is =
+    let within : length nodes - 1 < length nodes = omega (arith, some) in
+    let no_less = leb-true entry (get_or nodes (length nodes - 1) blank).kept.scheduled.item.entry (sym is) in
+    record {
+      place = length nodes - 1;
+      within = within;
+      no_less = λ d. omega (
+        arith,
+        no_less,
+        ap (λ (n : Node). n.kept.scheduled.item.entry) (get_or_default nodes (length nodes - 1) blank d within),
+      );
+    }
+reached_by_last entry nodes false rising some is = λ k d within named.
+    let less = leb-false entry (get_or nodes (length nodes - 1) blank).kept.scheduled.item.entry (sym is) in
+    let before = lesser_before nodes (length nodes - 1) entry blank rising (omega (arith, some)) less k d
+    (omega (arith, within)) in
+    omega (arith, before, named)

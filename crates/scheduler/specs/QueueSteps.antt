@@ -219,6 +219,12 @@ pub record AreSettled (slot past : ℕ) (nodes : List Node) : Type 0 where
   pub ended : All (HasEnded slot) (kept_in (take past nodes))
   pub later : AreKeptInOrder slot (drop past nodes)
 
+-- a message has that number or a greater one
+pub record HasReached (entry : ℕ) (nodes : List Node) : Type 0 where
+  pub place : ℕ
+  pub within : place < length nodes
+  pub no_less : (d : Node) → entry ≤ (slice_index_or nodes place d).kept.scheduled.item.entry
+
 -- what is true of a plan at the slot that is asked next
 pub record IsPlan (slot past : ℕ) (nodes : List Node) : Type 0 where
   pub sound : IsSound (record { slot = slot; scheduled = seen_in slot nodes })

@@ -2,11 +2,11 @@
 //! tree of what is ahead holds the later ones, so that a slot need not walk past what can't be aired any more.
 
 ghost use Rattle.std.specs.Prelude.{◌≡◌, ◌<◌, ◌≤◌, ℕ, ◌+◌, length, All, AllPairs, map, take, drop};
-ghost use Rattle.std.specs.Prelude.{◌==◌, slice_index_or, OnOk, OnErr, ◌++◌, ◌∷◌, []};
+ghost use Rattle.std.specs.Prelude.{◌==◌, slice_index_or, MatchBool, OnOk, OnErr, None, ◌++◌, ◌∷◌, []};
 ghost use Rattle.scheduler.specs.PlanSteps.{IsChoice, after_slot, scheduled_stopped};
 ghost use Rattle.scheduler.specs.declared.tournament.Node.{Node};
 ghost use Rattle.scheduler.specs.QueueSteps.{kept_in, seen_in, kept_new, HasTurn, IsTree, AreRising};
-ghost use Rattle.scheduler.specs.QueueSteps.{AreSettled, HasEnded, HasNoMore};
+ghost use Rattle.scheduler.specs.QueueSteps.{AreSettled, HasEnded, HasNoMore, HasReached, IsFoundTurn};
 
 use crate::plan::{Item, Refused};
 use crate::progress::Progress;
@@ -14,7 +14,7 @@ use crate::tournament::{Node, ahead_below, find, lift, play, stop_at};
 use crate::turn::First;
 
 /// How many messages the tree holds at the least before some are taken out of it.
-const FEW: usize = 16;
+const FEW: usize = 4;
 
 /// How many messages at the front have ended.
 fn ended_in_front(nodes: &[Node]) -> usize
@@ -114,6 +114,15 @@ pub(crate) fn push(nodes: &mut Vec<Node>, past: usize, item: Item) -> Result<(),
     }
 }
 
+/// Whether a message has `entry` or a greater number, which is that of the last one.
+fn is_reached(nodes: &[Node], entry: u16) -> bool
+    requires { AreRising nodes.now }
+    ensures { MatchBool result (HasReached entry nodes.now) (IsFoundTurn entry nodes.now None) }
+{
+    let count = nodes.len();
+    count > 0 && nodes[count - 1].kept.scheduled.item.entry >= entry
+}
+
 /// Stops the message of `entry` before `slot`, where it has ended.
 fn stop_ended(nodes: &mut [Node], entry: u16, slot: u16)
     requires ended { All (HasEnded slot) (kept_in nodes.old) }
@@ -140,6 +149,9 @@ pub(crate) fn stop(nodes: &mut [Node], past: usize, entry: u16, slot: u16)
     ensures kept { AreSettled slot past nodes.new }
 {
     let (ended, later) = nodes.split_at_mut(past);
-    stop_ended(ended, entry, slot);
-    stop_at(later, entry, slot);
+    if is_reached(ended, entry) {
+        stop_ended(ended, entry, slot);
+    } else {
+        stop_at(later, entry, slot);
+    }
 }
