@@ -3,6 +3,7 @@ pub mod TrailingLaws
 pub mod Cutting
 pub mod CuttingLaws
 pub mod TextLaws
+pub mod PutLaws
 pub mod PaginateLaws
 pub mod LongTexts
 pub mod PlainLaws

@@ -1,7 +1,7 @@
 -- What the pages of a text hold, and what text a page shows. 3GPP TS 23.038, clauses 6.1.2.2, 6.2.1 and 6.2.3, and
 -- 3GPP TS 23.041, clause 9.4.1.2.5. Which alphabet a text gets, and that CR ends no text, are this project's own.
 use Rattle.std.specs.Prelude.{◌≡◌, ℕ, ◌+◌, ◌-◌, ◌*◌, ◌/◌, ◌<◌, ◌≤◌, ◌==◌, ◌&&◌, ◌||◌, not, nat_lt, Bool, if◌then◌else◌}
-use Rattle.std.specs.Prelude.{Option, Some, None, IsSome, is_some, List, [], ◌∷◌, length, map, position, take}
+use Rattle.std.specs.Prelude.{Option, Some, None, IsSome, is_some, List, [], ◌∷◌, ◌++◌, length, map, position, take}
 use Rattle.std.specs.Option.{option_to_list}
 use Rattle.std.specs.List.{list_all, flat_map, suffix_len}
 use Rattle.gsm_alphabet.specs.Alphabet.{code_of, septets_of, text_of_septets}
@@ -85,6 +85,14 @@ text_in (Some alphabet) octets = text_of_content alphabet octets
 
 abbrev pub text_of_page : PageView → List ℕ
 text_of_page view = text_in (alphabet_of view.dcs.0) view.content
+
+-- a text has been put behind another, all but what is left of it
+abbrev pub PutsAllBut : (left old new text : List ℕ) → Type 0
+PutsAllBut left old new text = (front : List ℕ) × (new ≡ old ++ front) × (front ++ left ≡ text)
+
+-- a front part of a text, or all of it, has been put behind another
+abbrev pub PutsFront : (old new text : List ℕ) → Type 0
+PutsFront old new text = (left : List ℕ) × PutsAllBut left old new text
 
 -- what a text is sent as
 pub record IsPagedText (language text : List ℕ) (paged : Paged) : Type 0 where

@@ -1,8 +1,8 @@
 //! Pages of cell broadcast messages (3GPP TS 23.041, clause 9.4.1).
 //!
 //! `paginate` cuts a text into the pages that carry it, in the first alphabet that has all its characters; `page_bytes`
-//! and `read_page` are the 88 octets of a page, both ways; `page_text` is the text that a page shows. The texts of a
-//! text's pages, joined, are the text.
+//! and `read_page` are the 88 octets of a page, both ways; `page_text` is the text that a page shows, and
+//! `push_page_text` puts it behind another. The texts of a text's pages, joined, are the text.
 #![tactic(auto)]
 
 mod builder;
@@ -21,4 +21,4 @@ pub use laws::{paging_laws, text_laws};
 pub use octets::{PageView, page_bytes, read_page};
 pub use paging::{MAX_PAGES, Paged, TextFault, paginate};
 pub use serial::Serial;
-pub use text::{Refused, page_text};
+pub use text::{Refused, page_text, push_page_text};

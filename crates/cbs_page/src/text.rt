@@ -1,13 +1,13 @@
 //! The text that a page shows (3GPP TS 23.038, clauses 6.1.2.2, 6.2.1 and 6.2.3).
 
-ghost use Rattle.std.specs.Prelude.{◌≡◌, ◌&&◌, nat_le, IsTrue, IfOk, ◌≤◌, take, length, map, encode_utf8_all};
-ghost use Rattle.std.specs.Prelude.{string_bytes};
+ghost use Rattle.std.specs.Prelude.{◌≡◌, ◌++◌, ◌&&◌, nat_le, IsTrue, IfOk, OnErr, OnOk, ◌≤◌, take, length};
+ghost use Rattle.std.specs.Prelude.{map, encode_utf8_all, string_bytes};
 ghost use Rattle.std.specs.List.{list_all};
 ghost use Rattle.gsm_alphabet.specs.Alphabet.{text_of_septets};
 ghost use Rattle.ucs2_text.specs.Ucs2.{character_of_unit};
 ghost use Rattle.cbs_page.specs.Page.{is_readable};
 ghost use Rattle.cbs_page.specs.TextSteps.{is_plain};
-ghost use Rattle.cbs_page.specs.Text.{text_of_page, without_trailing};
+ghost use Rattle.cbs_page.specs.Text.{PutsFront, text_of_page, without_trailing};
 
 use crate::coding::Alphabet;
 use crate::octets::PageView;
@@ -39,18 +39,34 @@ pub fn page_text(alloc: Global, view: &PageView) -> Result<String, Refused>
     requires { IsTrue (is_readable view.now) }
     ensures { IfOk result (λ text. string_bytes text ≡ encode_utf8_all (text_of_page view.now)) }
 {
-    let text = match view.dcs.alphabet() {
+    let mut text = String::new(alloc);
+    push_page_text(&mut text, view)?;
+    Ok(text)
+}
+
+/// Puts the text that a readable page shows, as `page_text` has it, behind a text.
+///
+/// # Errors
+///
+/// `Refused` if out of memory; the text may then have the first characters of the page behind it.
+pub fn push_page_text(text: &mut String, view: &PageView) -> Result<(), Refused>
+    requires { IsTrue (is_readable view.now) }
+    ensures pushed { OnOk result (string_bytes text.new
+        ≡ string_bytes text.old ++ encode_utf8_all (text_of_page view.now)) }
+    ensures refused { OnErr result (PutsFront (string_bytes text.old) (string_bytes text.new)
+        (encode_utf8_all (text_of_page view.now))) }
+{
+    match view.dcs.alphabet() {
         Some(Alphabet::Gsm) => {
             let septets = unpack(&view.content);
-            gsm_text(alloc, without_filling(&septets, CR))?
+            push_gsm(text, without_filling(&septets, CR))
         }
         Some(Alphabet::Ucs2) => {
             let units = units_of(&view.content);
-            units_text(alloc, without_filling(&units, CR_UNIT))?
+            push_units(text, without_filling(&units, CR_UNIT))
         }
-        None => String::new(alloc),
-    };
-    Ok(text)
+        None => Ok(()),
+    }
 }
 
 /// The items before those at the end that fill the page.
@@ -63,16 +79,19 @@ fn without_filling<T: Copy + PartialEq>(items: &[T], filling: T) -> &[T]
     }
 }
 
-/// The text of septets. Most texts are plain, and then their septets are the text's octets.
-fn gsm_text(alloc: Global, septets: &[u8]) -> Result<String, Refused>
-    ensures { IfOk result (λ text. string_bytes text ≡ encode_utf8_all (text_of_septets septets.now)) }
+/// Puts the text of septets behind a text. Most pages are plain, and then their septets are the text's octets.
+fn push_gsm(text: &mut String, septets: &[u8]) -> Result<(), Refused>
+    ensures pushed { OnOk result (string_bytes text.new
+        ≡ string_bytes text.old ++ encode_utf8_all (text_of_septets septets.now)) }
+    ensures refused { OnErr result (PutsFront (string_bytes text.old) (string_bytes text.new)
+        (encode_utf8_all (text_of_septets septets.now))) }
 {
     if are_plain(septets) {
-        if let Ok(text) = str::from_utf8(septets) {
-            return String::from_str(alloc, text);
+        if let Ok(plain) = str::from_utf8(septets) {
+            return text.push_str(plain);
         }
     }
-    decoded_text(alloc, septets)
+    push_decoded(text, septets)
 }
 
 /// Whether each septet shows the character of its own number. All are looked at, with no branch: that is a few vector
@@ -107,11 +126,13 @@ fn is_within(septet: u8, least: u8, most: u8) -> bool
     (least <= septet) & (septet <= most)
 }
 
-/// The text of septets, one character after another.
-fn decoded_text(alloc: Global, septets: &[u8]) -> Result<String, Refused>
-    ensures { IfOk result (λ text. string_bytes text ≡ encode_utf8_all (text_of_septets septets.now)) }
+/// Puts the text of septets behind a text, one character after another.
+fn push_decoded(text: &mut String, septets: &[u8]) -> Result<(), Refused>
+    ensures pushed { OnOk result (string_bytes text.new
+        ≡ string_bytes text.old ++ encode_utf8_all (text_of_septets septets.now)) }
+    ensures refused { OnErr result (PutsFront (string_bytes text.old) (string_bytes text.new)
+        (encode_utf8_all (text_of_septets septets.now))) }
 {
-    let mut text = String::new(alloc);
     let mut escaped = false;
     for septet in septets {
         if escaped {
@@ -126,16 +147,18 @@ fn decoded_text(alloc: Global, septets: &[u8]) -> Result<String, Refused>
     if escaped {
         text.push(' ')?;
     }
-    Ok(text)
+    Ok(())
 }
 
-/// The text of UCS-2 units.
-fn units_text(alloc: Global, units: &[u16]) -> Result<String, Refused>
-    ensures { IfOk result (λ text. string_bytes text ≡ encode_utf8_all (map character_of_unit units.now)) }
+/// Puts the text of UCS-2 units behind a text.
+fn push_units(text: &mut String, units: &[u16]) -> Result<(), Refused>
+    ensures pushed { OnOk result (string_bytes text.new
+        ≡ string_bytes text.old ++ encode_utf8_all (map character_of_unit units.now)) }
+    ensures refused { OnErr result (PutsFront (string_bytes text.old) (string_bytes text.new)
+        (encode_utf8_all (map character_of_unit units.now))) }
 {
-    let mut text = String::new(alloc);
     for unit in units {
         text.push(char_of(*unit))?;
     }
-    Ok(text)
+    Ok(())
 }

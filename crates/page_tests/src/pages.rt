@@ -1,12 +1,13 @@
 //! Actions on pages: their octets, and the texts that are cut into them.
 
-ghost use Rattle.std.specs.Prelude.{◌≤◌};
+ghost use Rattle.std.specs.Prelude.{◌≤◌, IfOk, IsTrue};
+ghost use Rattle.cbs_page.specs.Page.{is_readable};
 
 use crate::codes::content_of;
 use crate::table::octets_of;
 use cbs_page::{
     Dcs, PageView, Paged, Refused, Serial, TextFault, language_dcs, page_bytes, page_text,
-    paginate, read_page,
+    paginate, push_page_text, read_page,
 };
 use std::alloc::{AllocError, Global};
 use std::fmt::Write;
@@ -25,6 +26,7 @@ pub fn carried_out(
         "cut" => cut(alloc, drought, rest),
         "content" => content(alloc, rest),
         "shown" => shown(alloc, drought, rest),
+        "behind" => behind(alloc, drought, rest),
         "page" => page(alloc, rest),
         "view" => view(alloc, rest),
         _ => {
@@ -143,19 +145,32 @@ fn said_by(alloc: Global, view: &PageView) -> Result<String, AllocError> {
     )
 }
 
-/// The text that a page of one page shows, or the name of the fault.
-fn text_of(
-    alloc: Global,
-    drought: &mut Drought,
-    dcs: Dcs,
-    content: &[u8; 82],
-) -> Result<String, Fail> {
+/// A page of one page with this data coding and content, which is readable.
+fn page_of_one(dcs: Dcs, content: &[u8; 82]) -> Result<PageView, Fail>
+    ensures { IfOk result (λ view. IsTrue (is_readable view)) }
+{
     let view = read_page(&page_bytes(1, Serial::of(1), dcs, 1, 1, content));
     if !view.readable() {
         return Err(Fail::new("not readable"));
     }
+    Ok(view)
+}
+
+/// `DCS CONTENT`: such a page.
+fn given_page(alloc: Global, words: &str) -> Result<PageView, Fail>
+    ensures { IfOk result (λ view. IsTrue (is_readable view)) }
+{
+    let (dcs, digits) = words.split_once(' ').unwrap_or((words, ""));
+    let given = octets_of(alloc, digits)?;
+    page_of_one(Dcs(u8::from_str_radix(dcs, 16)?), &content_of(&given)?)
+}
+
+/// The text that a page shows, or the name of the fault.
+fn text_of(alloc: Global, drought: &mut Drought, view: &PageView) -> Result<String, Fail>
+    requires { IsTrue (is_readable view.now) }
+{
     drought.begin(alloc);
-    let outcome = page_text(alloc, &view);
+    let outcome = page_text(alloc, view);
     drought.end();
     match outcome {
         Ok(text) => Ok(text),
@@ -165,14 +180,23 @@ fn text_of(
 
 /// `shown DCS CONTENT`: the text that a page with this data coding and content shows.
 fn shown(alloc: Global, drought: &mut Drought, rest: &str) -> Result<String, Fail> {
-    let (dcs, digits) = rest.split_once(' ').unwrap_or((rest, ""));
-    let given = octets_of(alloc, digits)?;
-    text_of(
-        alloc,
-        drought,
-        Dcs(u8::from_str_radix(dcs, 16)?),
-        &content_of(&given)?,
-    )
+    let view = given_page(alloc, rest)?;
+    text_of(alloc, drought, &view)
+}
+
+/// `behind WORD DCS CONTENT`: the word, and behind it the text that a page shows. Out of memory, the word still stands.
+fn behind(alloc: Global, drought: &mut Drought, rest: &str) -> Result<String, Fail> {
+    let (word, rest) = rest.split_once(' ').unwrap_or((rest, ""));
+    let view = given_page(alloc, rest)?;
+    let mut text = String::from_str(alloc, word)?;
+    drought.begin(alloc);
+    let outcome = push_page_text(&mut text, &view);
+    drought.end();
+    match outcome {
+        Ok(()) => Ok(text),
+        Err(fault) if text.starts_with(word) => Ok(format!(in alloc; "{fault:?}")?),
+        Err(_) => Err(Fail::new("the text before the page's is gone")),
+    }
 }
 
 /// The text that the pages of a message show, joined. No memory is scarce for it.
@@ -180,7 +204,8 @@ fn text_of_pages(alloc: Global, paged: &Paged) -> Result<String, Fail> {
     let mut text = String::new(alloc);
     let mut drought = Drought::new(alloc)?;
     for content in &paged.pages {
-        text.push_str(&text_of(alloc, &mut drought, paged.dcs, &content.octets)?)?;
+        let view = page_of_one(paged.dcs, &content.octets)?;
+        text.push_str(&text_of(alloc, &mut drought, &view)?)?;
     }
     Ok(text)
 }

@@ -145,6 +145,11 @@ shown 01 c14da3d168341a<10*8d46a3d168341a>8d46a3d100 -> A<0020>
 shown 40 9bf246b1093684<10*8d46a3d168341a>8d46a3d100 -> €<000A>A<000D>B
 # A surrogate, and a carriage return in the middle.
 shown 48 d83d000d0041<38*000d> -> <FFFD><000D>A
+# Behind another text: a plain page, one with an escape, one in UCS-2, and one that is all filling.
+behind ( 0f a946a3d168341a<10*8d46a3d168341a>8d46a3d100 -> ()
+behind ( 01 c14da3d168341a<10*8d46a3d168341a>8d46a3d100 -> (A<0020>
+behind ( 48 d83d000d0041<38*000d> -> (<FFFD><000D>A
+behind ( 48 <41*000d> -> (
 # What faults are called, and then out of memory for a page that is shown.
 faults -> unknown language; text is empty; bad character at 12; too many pages; out of memory; \
     memory allocation failed
@@ -169,17 +174,24 @@ scarce cut ru <616*Я> -> TooManyPages
 # A page of 93 times @ in septets, and of 41 times the letter 042F.
 scarce shown 00 <82*00> -> refused; <93*@>
 scarce shown 48 <41*042f> -> refused; <41*Я>
+# A plain page, of 93 times the letter a.
+scarce shown 00 <11*e170381c0e87c3>e170381c06 -> refused; <93*a>
+# The same pages behind another text.
+scarce behind ( 00 <11*e170381c0e87c3>e170381c06 -> refused; (<93*a>
+scarce behind ( 00 <82*00> -> refused; (<93*@>
+scarce behind ( 48 <41*042f> -> refused; (<41*Я>
 # A page that is all filling shows no text, which needs no memory.
 scarce shown 48 <41*000d> ->
+scarce behind ( 48 <41*000d> -> (
 ";
 
 #[test]
 fn pages_have_their_octets_and_show_their_texts(rt: HostRuntime) -> Result<(), Fail> {
     expect_rows(&rt, rt.alloc(), PAGES, 58)?;
-    expect_rows(&rt, rt.alloc(), TEXTS, 50)
+    expect_rows(&rt, rt.alloc(), TEXTS, 54)
 }
 
 #[test]
 fn texts_and_pages_are_refused_until_they_have_memory(rt: HostRuntime) -> Result<(), Fail> {
-    expect_rows(&rt, rt.alloc(), SCARCE, 15)
+    expect_rows(&rt, rt.alloc(), SCARCE, 20)
 }

@@ -1,8 +1,0 @@
-use Rattle.std.proofs.Common.{◌≡◌, ◌++◌, drop, map, string_bytes, encode_utf8_all}
-use Rattle.ucs2_text.specs.Ucs2.{character_of_unit}
-use Rattle.cbs_page.proofs.text.units_text.Given as goal
-
-abbrev pub invariant-loop-unit : goal.invariant-loop-unit
-invariant-loop-unit l =
-    string_bytes l.text ++ encode_utf8_all (map character_of_unit (drop l.unit-index l.units))
-    ≡ encode_utf8_all (map character_of_unit l.units)
