@@ -8,7 +8,7 @@ ghost use Rattle.handset.specs.Keeping.{is_numbered, messages_shown};
 ghost use Rattle.handset.specs.KeepingSteps.{agrees_with_first, counts, is_kept_whole, message_whole, text_kept};
 ghost use Rattle.handset.specs.KeepingSteps.{total_kept};
 
-use cbs_page::{PageView, Serial, page_text};
+use cbs_page::{PageView, Serial, push_page_text};
 use std::alloc::Global;
 
 /// Out of memory.
@@ -140,8 +140,7 @@ fn text(alloc: Global, pages: &[PageView], last: &PageView) -> Result<String, Re
     let mut text = String::new(alloc);
     for before in 0..total_with(pages, last) {
         if let Some(page) = page_with(pages, last, before + 1) {
-            let page_text = page_text(alloc, page)?;
-            text.push_str(page_text.as_str())?;
+            push_page_text(&mut text, page)?;
         }
     }
     Ok(text)

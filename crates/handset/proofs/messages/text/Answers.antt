@@ -12,7 +12,7 @@ use Rattle.handset.specs.Reception.{Name, name_of}
 use Rattle.handset.specs.Keeping.{is_numbered}
 use Rattle.handset.proofs.Lists.{range-more, found_holds}
 use Rattle.handset.proofs.messages.text.Goals as goal
-use Rattle.handset.proofs.messages.text.Goals.{in-Some+in_ok-page_text+in_ok-push_str, in_default}
+use Rattle.handset.proofs.messages.text.Goals.{in-Some+in_ok-push_page_text, in_default}
 
 abbrev text_at : Name → List PageView → ℕ → List ℕ
 text_at name pages number = option_map_or text_of_page (find (is_numbered name number) pages) []
@@ -31,8 +31,8 @@ one_more name pages before =
     (append-nil (text_at name pages (before + 1))))
     ∙ encodes-append (flat_map (text_at name pages) (range_with_len 1 before)) (text_at name pages (before + 1))
 
-pub page_text-requires : goal.page_text-requires
-page_text-requires c =
+pub push_page_text-requires : goal.push_page_text-requires
+push_page_text-requires c =
     found_holds (λ p. IsTrue (is_readable p)) (is_numbered (name_of c.args.last.now) (c.loop-before.before + 1))
     (c.args.pages.now ++ c.args.last.now ∷ []) c.in-Some.page.now
     (All-push (λ (p : PageView). IsTrue (is_readable p)) c.args.pages.now c.args.last.now c.requires.pages
@@ -42,18 +42,15 @@ pub loop-before-preserved : goal.loop-before-preserved
 loop-before-preserved c =
     let more = one_more (name_of c.args.last.now) (c.args.pages.now ++ c.args.last.now ∷ []) c.loop-before.before in
     elim c.match-page_with.branch [
-      | in-Some+in_ok-page_text+in_ok-push_str w ↦
+      | in-Some+in_ok-push_page_text w ↦
           let here : text_at (name_of c.args.last.now) (c.args.pages.now ++ c.args.last.now ∷ [])
           (c.loop-before.before + 1) ≡ text_of_page w.in-Some.page.now =
           ap (λ o. option_map_or text_of_page o []) (sym (rw w.in-Some.is at c.page_with.ensures)) in
-          let text : w.as_str.result.now ≡ encode_utf8_all
-          (text_at (name_of c.args.last.now) (c.args.pages.now ++ c.args.last.now ∷ []) (c.loop-before.before + 1)) =
-          w.as_str.ensures.value ∙ w.in_ok-page_text.ensures ∙ ap encode_utf8_all (sym here) in
-          ap string_bytes w.text-is ∙ w.in_ok-push_str.ensures.bytes
-          ∙ ap (λ t. t ++ w.as_str.result.now) c.loop-before.invariant
+          ap string_bytes w.text-is ∙ w.in_ok-push_page_text.ensures.pushed
+          ∙ ap (λ t. t ++ encode_utf8_all (text_of_page w.in-Some.page.now)) c.loop-before.invariant
           ∙ ap (λ t. encode_utf8_all
           (flat_map (text_at (name_of c.args.last.now) (c.args.pages.now ++ c.args.last.now ∷ []))
-          (range_with_len 1 c.loop-before.before)) ++ t) text
+          (range_with_len 1 c.loop-before.before)) ++ encode_utf8_all t) (sym here)
           ∙ sym more
       | in_default w ↦
           let here : text_at (name_of c.args.last.now) (c.args.pages.now ++ c.args.last.now ∷ [])
