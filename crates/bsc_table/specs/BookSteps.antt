@@ -24,6 +24,7 @@ use Rattle.bsc_table.specs.declared.entry.Entry.{Entry}
 use Rattle.bsc_table.specs.declared.accepted.AcceptedMessage.{AcceptedMessage}
 use Rattle.bsc_table.specs.declared.accepted.Place.{Place as FoundPlace}
 use Rattle.bsc_table.specs.declared.accepted.TheConstants.{LATEST_START}
+use Rattle.bsc_table.specs.declared.table.Kept.{Kept}
 use Rattle.bsc_table.specs.Record.{Record, Accepted, write_message, accepted_in, claims_in, rank_of, place_after}
 use Rattle.bsc_table.specs.Record.{is_of_pair, is_live}
 use Rattle.bsc_table.specs.Begun.{IsBegun}
@@ -38,6 +39,11 @@ use Rattle.bsc_table.specs.Refusals.{is_accepting}
 -- what is kept, with the message of that number stopped at the slot
 abbrev pub accepted_stopped : ℕ → ℕ → AcceptedMessage → AcceptedMessage
 accepted_stopped entry slot k = record k { stop = if k.entry == entry then Some slot else k.stop }
+
+-- the message that a search by its pair finds, if it finds one
+abbrev pub message_kept : Result Kept ℕ → Option Accepted
+message_kept (Ok kept) = Some (accepted_of kept.message)
+message_kept (Err gap) = None
 
 -- the message of that number stopped at the slot
 abbrev pub stop_numbered : ℕ → ℕ → Accepted → Accepted
@@ -77,16 +83,16 @@ pub record IsReplacement (r : Record) (e : Entry) (old new : Accepted) : Type 0 
 abbrev pub decided_answer : Decision → Answer
 decided_answer (decisions.Noted answer) = answer
 decided_answer (decisions.Stops old completed) = answers.Stopped completed
-decided_answer (decisions.Starts new) = answers.Started new.accepted
-decided_answer (decisions.Replaces old new completed) = answers.Replaced new.start completed
+decided_answer (decisions.Starts new gap) = answers.Started new.accepted
+decided_answer (decisions.Replaces old new gap completed) = answers.Replaced new.start completed
 
 -- what a decision says of the messages is what its entry does to them; one that is only noted accepts nothing, and a
 -- message that replaces another starts so soon that the end of its broadcasts has room in 32 bits
 abbrev pub Does : Record → Entry → Decision → Type 0
 Does r e (decisions.Noted answer) = is_accepting answer ≡ false
 Does r e (decisions.Stops old completed) = IsStop r e (accepted_of old)
-Does r e (decisions.Starts new) = IsStart r e (accepted_of new)
-Does r e (decisions.Replaces old new completed) =
+Does r e (decisions.Starts new gap) = IsStart r e (accepted_of new)
+Does r e (decisions.Replaces old new gap completed) =
     IsReplacement r e (accepted_of old) (accepted_of new) × (new.start < LATEST_START)
 
 -- so it is with the entry of this command, which comes next

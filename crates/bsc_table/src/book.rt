@@ -17,7 +17,8 @@ ghost use Rattle.bsc_table.specs.Record.{Record, accepted_in, is_of_pair, is_bac
 ghost use Rattle.bsc_table.specs.Record.{message_named};
 ghost use Rattle.bsc_table.specs.Record.{claim_of, claims_in};
 ghost use Rattle.bsc_table.specs.Answer.{status_of, status_answer, answer_to_kill, answer_to_write, before_end};
-ghost use Rattle.bsc_table.specs.Answer.{answer_with_room, answer_of};
+ghost use Rattle.bsc_table.specs.Answer.{answer_with_room, answer_of, answer_to_replacement};
+ghost use Rattle.bsc_table.specs.declared.decision.Decision.TheVariants as decisions;
 ghost use Rattle.bsc_table.specs.Orders.{IsWellFormed};
 ghost use Rattle.bsc_table.specs.Legal.{IsLegal};
 ghost use Rattle.bsc_table.specs.Promised.{IsServed, IsBounded};
@@ -27,7 +28,7 @@ ghost use Rattle.bsc_table.specs.Accepted.{accepted_of};
 ghost use Rattle.bsc_table.specs.Book.{air_pairs, reservation_for};
 ghost use Rattle.bsc_table.specs.BookSteps.{AreAired, IsNotLive, IsLiveAs, IsLiveIn, IsNextEntry, IsStop, IsStart};
 ghost use Rattle.bsc_table.specs.BookSteps.{IsReplacement, IsOffered, IsRoom, IsLater, Decides, DecidesWrites};
-ghost use Rattle.bsc_table.specs.BookSteps.{decided_answer, cause_of, left_by, place_found, HasRoomFor};
+ghost use Rattle.bsc_table.specs.BookSteps.{decided_answer, message_kept, cause_of, left_by, place_found, HasRoomFor};
 ghost use Rattle.bsc_table.specs.Refusals.{is_accepting};
 ghost use Rattle.admission.specs.Reservation.{end_of_stopped};
 ghost use Rattle.admission.specs.Waiting.{behind_of};
@@ -38,7 +39,7 @@ use crate::command::{Command, Refused};
 use crate::decision::Decision;
 use crate::entry::{Aired, Answer, Entry, SlotRange, State};
 use crate::record::CellRecord;
-use crate::table::Table;
+use crate::table::{BEHIND_ALL, Kept, Table};
 use admission::{Budget, NoRoom};
 use cbs_page::Serial;
 use cbsp_wire::{Cell, cause};
@@ -143,8 +144,13 @@ impl CellBook {
     pub fn status(&self, id: u16, serial: Serial) -> Option<(u16, State)>
         ensures { result ≡ status_of self.now.air self.now.clock (message_named id serial self.now.log) }
     {
-        let message = self.named(id, serial)?;
-        Some((self.completed(&message), message.state(self.clock)))
+        let Ok(kept) = self.named(BEHIND_ALL, id, serial) else {
+            return None;
+        };
+        Some((
+            self.completed(&kept.message),
+            kept.message.state(self.clock),
+        ))
     }
 
     /// Answers a command at the slot that is aired next, and enters it with its answer. The first of these that applies
@@ -244,8 +250,10 @@ impl CellBook {
         match decision {
             Decision::Noted(_) => self.enter_alone(entry),
             Decision::Stops { old, .. } => self.enter_stop(entry, &old),
-            Decision::Starts { new } => self.enter_new(entry, new),
-            Decision::Replaces { old, new, .. } => self.enter_replacement(entry, &old, new),
+            Decision::Starts { new, gap } => self.enter_new(entry, new, gap),
+            Decision::Replaces { old, new, gap, .. } => {
+                self.enter_replacement(entry, &old, new, gap)
+            }
         }
     }
 
@@ -276,8 +284,8 @@ impl CellBook {
         Ok(())
     }
 
-    /// Enters an entry that starts a message.
-    fn enter_new(&mut self, entry: Entry, new: AcceptedMessage) -> Result<(), Refused>
+    /// Enters an entry that starts a message, whose pair goes to the gap.
+    fn enter_new(&mut self, entry: Entry, new: AcceptedMessage, gap: usize) -> Result<(), Refused>
         requires next { IsNextEntry self.old entry }
         requires start { IsStart self.old entry (accepted_of new) }
         ensures entered { OnOk result (self.new ≡ with_entry entry self.old) }
@@ -287,17 +295,18 @@ impl CellBook {
         self.accepted.reserve()?;
         self.plan.add(new.item())?;
         reserve_for(&mut self.budget, &new, self.clock);
-        self.accepted.push(new);
+        self.accepted.push(gap, new);
         self.log.push_reserved(entry);
         Ok(())
     }
 
-    /// Enters an entry that stops a message and starts one in its place.
+    /// Enters an entry that stops a message and starts one in its place, whose pair goes to the gap.
     fn enter_replacement(
         &mut self,
         entry: Entry,
         old: &AcceptedMessage,
         new: AcceptedMessage,
+        gap: usize,
     ) -> Result<(), Refused>
         requires next { IsNextEntry self.old entry }
         requires replacement { IsReplacement self.old entry (accepted_of old.now) (accepted_of new) }
@@ -312,16 +321,17 @@ impl CellBook {
         let _ = self.plan.stop(old.entry, self.clock);
         release(&mut self.budget, old, self.clock);
         reserve_for(&mut self.budget, &new, self.clock);
-        self.accepted.push(new);
+        self.accepted.push(gap, new);
         self.log.push_reserved(entry);
         Ok(())
     }
 
-    /// The message of a pair, if one was accepted.
-    fn named(&self, id: u16, serial: Serial) -> Option<AcceptedMessage>
-        ensures { option_map accepted_of result ≡ find (is_of_pair id serial) (accepted_in self.now.log) }
+    /// The message of a pair, if one was accepted; else the place at which the table would look first for where the
+    /// pair goes. `near` is the place at which it looks now.
+    fn named(&self, near: usize, id: u16, serial: Serial) -> Result<Kept, usize>
+        ensures { message_kept result ≡ find (is_of_pair id serial) (accepted_in self.now.log) }
     {
-        self.accepted.named(id, serial)
+        self.accepted.named(near, id, serial)
     }
 
     /// How many broadcasts of a message were completed before the clock's slot.
@@ -333,16 +343,14 @@ impl CellBook {
     }
 
     /// The message of a pair, if it is live.
-    fn live(&self, id: u16, serial: Serial) -> Option<AcceptedMessage>
+    fn live(&self, id: u16, serial: Serial) -> Option<Kept>
         ensures { MatchOption result
             (IsNotLive self.now.clock (message_named id serial self.now.log))
-            (λ kept. IsLiveAs self.now.clock id serial self.now.log (accepted_of kept)) }
+            (λ kept. IsLiveAs self.now.clock id serial self.now.log (accepted_of kept.message)) }
     {
-        let message = self.named(id, serial)?;
-        if message.is_live(self.clock) {
-            Some(message)
-        } else {
-            None
+        match self.named(BEHIND_ALL, id, serial) {
+            Ok(kept) if kept.message.is_live(self.clock) => Some(kept),
+            _ => None,
         }
     }
 
@@ -411,9 +419,9 @@ impl CellBook {
         }
         match self.live(id, serial) {
             None => Decision::Noted(Answer::Cause(cause::MESSAGE_REFERENCE_NOT_IDENTIFIED)),
-            Some(old) => Decision::Stops {
-                old,
-                completed: self.completed(&old),
+            Some(kept) => Decision::Stops {
+                old: kept.message,
+                completed: self.completed(&kept.message),
             },
         }
     }
@@ -444,14 +452,14 @@ impl CellBook {
             (load_of new.pages new.period) }
         ensures decides { DecidesWrites self.now (accepted_of new) None result }
     {
-        if self.named(new.id, new.serial).is_some() {
+        let Err(gap) = self.named(BEHIND_ALL, new.id, new.serial) else {
             return Decision::Noted(Answer::Cause(cause::MESSAGE_REFERENCE_ALREADY_USED));
-        }
+        };
         if new.category.is_background() {
-            return Decision::Starts { new };
+            return Decision::Starts { new, gap };
         }
         match self.room(new.load()) {
-            Ok(()) => Decision::Starts { new },
+            Ok(()) => Decision::Starts { new, gap },
             Err(full) => Decision::Noted(Answer::Cause(cause_of(full))),
         }
     }
@@ -465,32 +473,51 @@ impl CellBook {
             (load_of new.pages new.period) }
         ensures decides { DecidesWrites self.now (accepted_of new) (Some replaced) result }
     {
-        match self.live(new.id, replaced) {
-            None => Decision::Noted(Answer::Cause(cause::MESSAGE_REFERENCE_NOT_IDENTIFIED)),
-            Some(_) if self.named(new.id, new.serial).is_some() => {
-                Decision::Noted(Answer::Cause(cause::MESSAGE_REFERENCE_ALREADY_USED))
-            }
-            Some(old) if new.category.is_background() => Decision::Replaces {
-                old,
-                new,
-                completed: self.completed(&old),
+        let Some(kept) = self.live(new.id, replaced) else {
+            return Decision::Noted(Answer::Cause(cause::MESSAGE_REFERENCE_NOT_IDENTIFIED));
+        };
+        // The next serial number goes right behind the replaced one's.
+        match self.named(kept.at.saturating_add(1), new.id, new.serial) {
+            Ok(_) => Decision::Noted(Answer::Cause(cause::MESSAGE_REFERENCE_ALREADY_USED)),
+            Err(gap) => self.decide_takeover(&kept.message, new, gap),
+        }
+    }
+
+    /// What a write in the place of a live message comes to, where its pair is free and goes to the gap.
+    fn decide_takeover(&self, old: &AcceptedMessage, new: AcceptedMessage, gap: usize) -> Decision
+        requires legal { IsLegal self.now }
+        requires live { IsLiveIn self.now (accepted_of old.now) }
+        requires offered { IsOffered self.now (accepted_of new) }
+        ensures right { decided_answer result
+            ≡ answer_to_replacement self.now.log self.now.air self.now.clock new.category
+            (load_of new.pages new.period) (accepted_of old.now) }
+        ensures decides { (replaced : ℕ) → IsLiveAs self.now.clock new.id replaced self.now.log (accepted_of old.now)
+            → DecidesWrites self.now (accepted_of new) (Some replaced) result }
+    {
+        if new.category.is_background() {
+            return self.replacing(old, new, gap);
+        }
+        match self.room_without(old, new.load()) {
+            Ok(()) => self.replacing(old, new, gap),
+            Err(NoRoom::Table) => Decision::Noted(Answer::Cause(cause::CELL_MEMORY_EXCEEDED)),
+            Err(NoRoom::Load) => match self.later_place(old, new.load()) {
+                None => Decision::Noted(Answer::Cause(cause::BSC_CAPACITY_EXCEEDED)),
+                Some(place) => self.replacing(old, new.waiting_at(place), gap),
             },
-            Some(old) => match self.room_without(&old, new.load()) {
-                Ok(()) => Decision::Replaces {
-                    old,
-                    new,
-                    completed: self.completed(&old),
-                },
-                Err(NoRoom::Table) => Decision::Noted(Answer::Cause(cause::CELL_MEMORY_EXCEEDED)),
-                Err(NoRoom::Load) => match self.later_place(&old, new.load()) {
-                    None => Decision::Noted(Answer::Cause(cause::BSC_CAPACITY_EXCEEDED)),
-                    Some(place) => Decision::Replaces {
-                        old,
-                        new: new.waiting_at(place),
-                        completed: self.completed(&old),
-                    },
-                },
-            },
+        }
+    }
+
+    /// A message in the place of a live one.
+    fn replacing(&self, old: &AcceptedMessage, new: AcceptedMessage, gap: usize) -> Decision
+        requires { IsLiveIn self.now (accepted_of old.now) }
+        ensures { result
+            ≡ decisions.Replaces old.now new gap (completed (accepted_of old.now).message self.now.air self.now.clock) }
+    {
+        Decision::Replaces {
+            old: *old,
+            new,
+            gap,
+            completed: self.completed(old),
         }
     }
 

@@ -22,6 +22,8 @@ pub enum Decision {
     Starts {
         /// The message.
         new: AcceptedMessage,
+        /// Where its pair goes: the place at which the table looks first.
+        gap: usize,
     },
     /// A message starts in the place of a live one, which is stopped.
     Replaces {
@@ -29,6 +31,8 @@ pub enum Decision {
         old: AcceptedMessage,
         /// The one that starts.
         new: AcceptedMessage,
+        /// Where its pair goes: the place at which the table looks first.
+        gap: usize,
         /// How many broadcasts of the live one are completed.
         completed: u16,
     },
@@ -42,7 +46,7 @@ impl Decision {
         match *self {
             Decision::Noted(answer) => answer,
             Decision::Stops { completed, .. } => Answer::Stopped { completed },
-            Decision::Starts { new } => Answer::Started { slot: new.accepted },
+            Decision::Starts { new, .. } => Answer::Started { slot: new.accepted },
             Decision::Replaces { new, completed, .. } => Answer::Replaced {
                 slot: u32::from(new.start),
                 completed,

@@ -2,7 +2,7 @@
 //! and a serial number, in as many steps as the number of messages has binary digits.
 
 ghost use Rattle.std.specs.Prelude.{◌≡◌, ◌↔◌, ℕ, ◌<◌, ◌==◌, ◌&&◌, ◌++◌, ◌∷◌, [], false, true, Some, None, All, OnOk};
-ghost use Rattle.std.specs.Prelude.{length, map, slice_index_or};
+ghost use Rattle.std.specs.Prelude.{◌≢◌, ◌≤◌, length, map, slice_index_or};
 ghost use Rattle.std.specs.List.{find, HoldsAt};
 ghost use Rattle.bsc_table.specs.declared.table.Pair.{Pair};
 ghost use Rattle.std.specs.declared.cmp.Ordering.TheVariants.{Less};
@@ -10,7 +10,7 @@ ghost use Rattle.std.specs.Option.{option_map};
 ghost use Rattle.scheduler.specs.Air.{layer};
 ghost use Rattle.bsc_table.specs.Record.{is_of_pair};
 ghost use Rattle.bsc_table.specs.Accepted.{accepted_of};
-ghost use Rattle.bsc_table.specs.BookSteps.{stop_numbered};
+ghost use Rattle.bsc_table.specs.BookSteps.{message_kept, stop_numbered};
 ghost use Rattle.bsc_table.specs.Table.{AreRisingMessages, AreRisingPairs, ArePartedAt, IsGapFor, IsPairFound};
 ghost use Rattle.bsc_table.specs.Table.{IsPlaceFound, compare_pairs, pair_kept};
 
@@ -26,6 +26,19 @@ pub struct Pair {
     id: u16,
     serial: u16,
     place: u16,
+}
+
+/// A place behind all pairs. A search for which no nearer place is known looks here first, since a new pair is mostly
+/// greater than those before it.
+pub const BEHIND_ALL: usize = usize::MAX;
+
+/// A message of the table, and where its pair stands.
+#[derive(Clone, Copy)]
+pub struct Kept {
+    /// The message.
+    pub message: AcceptedMessage,
+    /// The place of its pair among the pairs in order. No clause says so: it tells a later search where to look first.
+    pub at: usize,
 }
 
 /// The accepted messages in the order of their numbers, and their pairs in order beside them.
@@ -74,8 +87,9 @@ impl Table {
         Ok(())
     }
 
-    /// Adds a message, for which there is room. Its number is above the others, and none of them has its pair.
-    pub fn push(&mut self, new: AcceptedMessage)
+    /// Adds a message, for which there is room. Its number is above the others, and none of them has its pair, whose
+    /// place is looked for at `near` first.
+    pub fn push(&mut self, near: usize, new: AcceptedMessage)
         requires room { 0 < self.old.room }
         requires few { length self.old.all < 65536 }
         requires rising { All (λ a. a.message.entry < new.entry) self.old.all }
@@ -87,19 +101,26 @@ impl Table {
             serial: new.serial.number(),
             place: self.messages.len() as u16,
         };
-        if let Err(at) = search(self.by_pair.as_slice(), new.id, new.serial) {
+        if let Err(at) = search(self.by_pair.as_slice(), near, new.id, new.serial) {
             let _ = self.by_pair.insert(at, pair);
             self.messages.push_reserved(new);
         }
     }
 
-    /// The message of a pair, if there is one.
-    pub fn named(&self, id: u16, serial: Serial) -> Option<AcceptedMessage>
-        ensures { option_map accepted_of result ≡ find (is_of_pair id serial) self.now.all }
+    /// The message of a pair, which is looked for at `near` first.
+    ///
+    /// # Errors
+    ///
+    /// Where there is none, the place at which the pair would go.
+    pub fn named(&self, near: usize, id: u16, serial: Serial) -> Result<Kept, usize>
+        ensures { message_kept result ≡ find (is_of_pair id serial) self.now.all }
     {
-        match search(self.by_pair.as_slice(), id, serial) {
-            Ok(at) => Some(self.messages[usize::from(self.by_pair[at].place)]),
-            Err(_) => None,
+        match search(self.by_pair.as_slice(), near, id, serial) {
+            Ok(at) => Ok(Kept {
+                message: self.messages[usize::from(self.by_pair[at].place)],
+                at,
+            }),
+            Err(gap) => Err(gap),
         }
     }
 
@@ -166,13 +187,53 @@ fn stands_at(pairs: &[Pair], at: usize, id: u16, serial: u16) -> bool
     }
 }
 
-/// Where a pair stands among others in order, or where it would go.
-fn search(pairs: &[Pair], id: u16, serial: Serial) -> Result<usize, usize>
+/// Whether all pairs before a place are lesser: the last of them is, if there is one.
+fn are_lesser_before(pairs: &[Pair], at: usize, id: u16, serial: u16) -> bool
+    requires rising { AreRisingPairs pairs.now }
+    requires within { at ≤ length pairs.now }
+    ensures { result ≡ true → (k : ℕ) (d : Pair) → k < at
+        → compare_pairs (pair_kept (slice_index_or pairs.now k d)) (id, serial) ≡ Less }
+{
+    if at == 0 {
+        true
+    } else {
+        is_before(&pairs[at - 1], id, serial)
+    }
+}
+
+/// Whether no pair from a place on is lesser: the one at the place isn't, if there is one.
+fn is_none_lesser_from(pairs: &[Pair], at: usize, id: u16, serial: u16) -> bool
+    requires { AreRisingPairs pairs.now }
+    ensures { result ≡ true → (k : ℕ) (d : Pair) → at ≤ k → k < length pairs.now
+        → compare_pairs (pair_kept (slice_index_or pairs.now k d)) (id, serial) ≢ Less }
+{
+    if at < pairs.len() {
+        !is_before(&pairs[at], id, serial)
+    } else {
+        true
+    }
+}
+
+/// Where a pair would go among others in order: at the place that is near, if it goes there, which two steps tell.
+fn gap_near(pairs: &[Pair], near: usize, id: u16, serial: u16) -> usize
+    requires { AreRisingPairs pairs.now }
+    ensures { ArePartedAt (id, serial) pairs.now result }
+{
+    let near = near.min(pairs.len());
+    if are_lesser_before(pairs, near, id, serial) && is_none_lesser_from(pairs, near, id, serial) {
+        near
+    } else {
+        gap_for(pairs, id, serial)
+    }
+}
+
+/// Where a pair stands among others in order, or where it would go. The place that is near is looked at first.
+fn search(pairs: &[Pair], near: usize, id: u16, serial: Serial) -> Result<usize, usize>
     requires { AreRisingPairs pairs.now }
     ensures { IsPairFound (id, serial) pairs.now result }
 {
     let serial = serial.number();
-    let at = gap_for(pairs, id, serial);
+    let at = gap_near(pairs, near, id, serial);
     if stands_at(pairs, at, id, serial) {
         Ok(at)
     } else {

@@ -75,6 +75,26 @@ kill 0001 -> stopped, 0 completed
 kill 0003 -> refused: message reference not identified
 air -> 0/1 2/1
 
+# A pair goes right behind the replaced one, before it or far behind it, or was taken: there, by itself or elsewhere.
+cell 1-1 8
+write 0005 every 8 -> started at 0
+write 0009 every 8 -> started at 0
+write 0006 for 0005 every 8 -> replaced at 0, 0 completed
+write 0009 for 0006 every 8 -> refused: message reference already used
+write 0006 for 0006 every 8 -> refused: message reference already used
+write 0003 for 0006 every 8 -> replaced at 0, 0 completed
+write 000C for 0003 every 8 -> replaced at 0, 0 completed
+write 0006 for 000C every 8 -> refused: message reference already used
+write 000D for 0006 every 8 -> refused: message reference not identified
+play 2 -> 0..2
+status 0003 -> 0 stopped at 0
+status 0005 -> 0 stopped at 0
+status 0006 -> 0 stopped at 0
+status 000D -> unknown
+kill 0009 -> stopped, 1 completed
+kill 000C -> stopped, 1 completed
+air -> 1/1 6/1
+
 # High comes before normal.
 cell 1-1 2
 write 0001 every 2 -> started at 0

@@ -62,31 +62,31 @@ kills r id serial completed old legal live =
     }
 
 -- a write in the place of none starts its message, where that has room
-pub starts : (r : Record) (new : AcceptedMessage)
+pub starts : (r : Record) (new : AcceptedMessage) (gap : ℕ)
     → IsOffered r (accepted_of new)
     → (is_background_category new.category ≡ false → HasRoom (claims_in r.log) r.clock (load_of new.pages new.period))
-    → DecidesWrites r (accepted_of new) None (decisions.Starts new)
-starts r new offered room (commands.Write id serial None category period broadcasts dcs contents) same =
+    → DecidesWrites r (accepted_of new) None (decisions.Starts new gap)
+starts r new gap offered room (commands.Write id serial None category period broadcasts dcs contents) same =
     let after = starts_one r.log r.clock id serial category period broadcasts dcs contents in
     record {
       begun = begins r None (accepted_in r.log) (accepted_of new) offered (λ front. room (is_front new.category front))
           (λ now. now);
       after = cc;
     }
-starts r new offered room (commands.Write id serial (Some old) category period broadcasts dcs contents) same = cc
-starts r new offered room (commands.Kill id serial) same = absurd same
-starts r new offered room (commands.Status id serial) same = absurd same
+starts r new gap offered room (commands.Write id serial (Some old) category period broadcasts dcs contents) same = cc
+starts r new gap offered room (commands.Kill id serial) same = absurd same
+starts r new gap offered room (commands.Status id serial) same = absurd same
 
 -- and a write in the place of a live message, where it has room once that one is stopped
-pub replaces : (r : Record) (old new : AcceptedMessage) (replaced completed : ℕ)
+pub replaces : (r : Record) (old new : AcceptedMessage) (gap replaced completed : ℕ)
     → IsLegal r
     → IsLiveAs r.clock new.id replaced r.log (accepted_of old)
     → IsOffered r (accepted_of new)
     → r.clock < LATEST_START
     → (is_background_category new.category ≡ false → HasRoom (left_by r (accepted_of old)) r.clock
     (load_of new.pages new.period))
-    → DecidesWrites r (accepted_of new) (Some replaced) (decisions.Replaces old new completed)
-replaces r old new replaced completed legal live offered soon room
+    → DecidesWrites r (accepted_of new) (Some replaced) (decisions.Replaces old new gap completed)
+replaces r old new gap replaced completed legal live offered soon room
     (commands.Write id serial (Some named) category period broadcasts dcs contents) same =
     let a : Accepted = accepted_of old in
     let once = (IsSound-legal r legal).once in
@@ -111,17 +111,17 @@ replaces r old new replaced completed legal live offered soon room
       },
       omega (arith, offered.begins, soon),
     )
-replaces r old new replaced completed legal live offered soon room
+replaces r old new gap replaced completed legal live offered soon room
     (commands.Write id serial None category period broadcasts dcs contents) same = cc
-replaces r old new replaced completed legal live offered soon room (commands.Kill id serial) same = absurd same
-replaces r old new replaced completed legal live offered soon room (commands.Status id serial) same = absurd same
+replaces r old new gap replaced completed legal live offered soon room (commands.Kill id serial) same = absurd same
+replaces r old new gap replaced completed legal live offered soon room (commands.Status id serial) same = absurd same
 
 -- the message of a write that waits
 abbrev pub waiting_at : AcceptedMessage → FoundPlace → AcceptedMessage
 waiting_at new place = record new { behind = Some place.behind; excess = place.excess; start = place.start }
 
 -- or where it takes over at a place, once that one is stopped
-pub takes_over : (r : Record) (old new : AcceptedMessage) (place : FoundPlace) (replaced completed : ℕ)
+pub takes_over : (r : Record) (old new : AcceptedMessage) (place : FoundPlace) (gap replaced completed : ℕ)
     → IsLegal r
     → IsLiveAs r.clock new.id replaced r.log (accepted_of old)
     → IsOffered r (accepted_of new)
@@ -131,8 +131,8 @@ pub takes_over : (r : Record) (old new : AcceptedMessage) (place : FoundPlace) (
     (place_found place)
     → claimed_at (left_by r (accepted_of old)) r.clock + place.excess ≤ SCALE
     → place.start < LATEST_START
-    → DecidesWrites r (accepted_of new) (Some replaced) (decisions.Replaces old (waiting_at new place) completed)
-takes_over r old new place replaced completed legal live offered room front after_old fits soon
+    → DecidesWrites r (accepted_of new) (Some replaced) (decisions.Replaces old (waiting_at new place) gap completed)
+takes_over r old new place gap replaced completed legal live offered room front after_old fits soon
     (commands.Write id serial (Some named) category period broadcasts dcs contents) same =
     let a : Accepted = accepted_of old in
     let taken = taken_after (left_by r a) r.clock (load_of new.pages new.period) a (place_found place) after_old in
@@ -214,9 +214,9 @@ takes_over r old new place replaced completed legal live offered room front afte
         ∙ ap (λ n. write_message new.entry n place.start (Some place.behind) place.excess id serial (length contents)
         period broadcasts (rank_of category)) (sym same_slot)
         ∙ ap at_place same_new
-takes_over r old new place replaced completed legal live offered room front after_old fits soon
+takes_over r old new place gap replaced completed legal live offered room front after_old fits soon
     (commands.Write id serial None category period broadcasts dcs contents) same = cc
-takes_over r old new place replaced completed legal live offered room front after_old fits soon
+takes_over r old new place gap replaced completed legal live offered room front after_old fits soon
     (commands.Kill id serial) same = absurd same
-takes_over r old new place replaced completed legal live offered room front after_old fits soon
+takes_over r old new place gap replaced completed legal live offered room front after_old fits soon
     (commands.Status id serial) same = absurd same

@@ -25,6 +25,6 @@ pub returns-in-Err : goal.returns-in-Err
 returns-in-Err c =
     let t = c.self.inside in
     let gap = rw c.as_slice.ensures.value at c.in-Err.ensures in
-    sym (none_by_pair t.messages.items t.by_pair.items c.args.id c.args.serial c.in-Err.field-0
+    sym (none_by_pair t.messages.items t.by_pair.items c.args.id c.args.serial c.in-Err.gap
     c.self.invariant.by_pair gap) ∙ ap (λ (x : TableState). find (is_of_pair c.args.id c.args.serial) x.all)
     c.self.view_is
