@@ -90,10 +90,10 @@ decided_answer (decisions.Replaces old new gap completed) = answers.Replaced new
 -- message that replaces another starts so soon that the end of its broadcasts has room in 32 bits
 abbrev pub Does : Record → Entry → Decision → Type 0
 Does r e (decisions.Noted answer) = is_accepting answer ≡ false
-Does r e (decisions.Stops old completed) = IsStop r e (accepted_of old)
+Does r e (decisions.Stops old completed) = IsStop r e (accepted_of old.message)
 Does r e (decisions.Starts new gap) = IsStart r e (accepted_of new)
 Does r e (decisions.Replaces old new gap completed) =
-    IsReplacement r e (accepted_of old) (accepted_of new) × (new.start < LATEST_START)
+    IsReplacement r e (accepted_of old.message) (accepted_of new) × (new.start < LATEST_START)
 
 -- so it is with the entry of this command, which comes next
 abbrev pub Decides : Record → Command → Decision → Type 0

@@ -270,16 +270,17 @@ impl CellBook {
     }
 
     /// Enters an entry that stops a message.
-    fn enter_stop(&mut self, entry: Entry, old: &AcceptedMessage) -> Result<(), Refused>
+    fn enter_stop(&mut self, entry: Entry, old: &Kept) -> Result<(), Refused>
         requires next { IsNextEntry self.old entry }
-        requires stop { IsStop self.old entry (accepted_of old.now) }
+        requires stop { IsStop self.old entry (accepted_of old.now.message) }
         ensures entered { OnOk result (self.new ≡ with_entry entry self.old) }
         ensures refused { OnErr result (self.new ≡ self.old) }
     {
         self.log.reserve(1)?;
-        self.accepted.stop(old.entry, self.clock);
-        let _ = self.plan.stop(old.entry, self.clock);
-        release(&mut self.budget, old, self.clock);
+        let message = &old.message;
+        self.accepted.stop(old.place, message.entry, self.clock);
+        let _ = self.plan.stop(message.entry, self.clock);
+        release(&mut self.budget, message, self.clock);
         self.log.push_reserved(entry);
         Ok(())
     }
@@ -304,12 +305,12 @@ impl CellBook {
     fn enter_replacement(
         &mut self,
         entry: Entry,
-        old: &AcceptedMessage,
+        old: &Kept,
         new: AcceptedMessage,
         gap: usize,
     ) -> Result<(), Refused>
         requires next { IsNextEntry self.old entry }
-        requires replacement { IsReplacement self.old entry (accepted_of old.now) (accepted_of new) }
+        requires replacement { IsReplacement self.old entry (accepted_of old.now.message) (accepted_of new) }
         requires soon { new.start < LATEST_START }
         ensures entered { OnOk result (self.new ≡ with_entry entry self.old) }
         ensures refused { OnErr result (self.new ≡ self.old) }
@@ -317,9 +318,10 @@ impl CellBook {
         self.log.reserve(1)?;
         self.accepted.reserve()?;
         self.plan.add(new.item())?;
-        self.accepted.stop(old.entry, self.clock);
-        let _ = self.plan.stop(old.entry, self.clock);
-        release(&mut self.budget, old, self.clock);
+        let message = &old.message;
+        self.accepted.stop(old.place, message.entry, self.clock);
+        let _ = self.plan.stop(message.entry, self.clock);
+        release(&mut self.budget, message, self.clock);
         reserve_for(&mut self.budget, &new, self.clock);
         self.accepted.push(gap, new);
         self.log.push_reserved(entry);
@@ -420,7 +422,7 @@ impl CellBook {
         match self.live(id, serial) {
             None => Decision::Noted(Answer::Cause(cause::MESSAGE_REFERENCE_NOT_IDENTIFIED)),
             Some(kept) => Decision::Stops {
-                old: kept.message,
+                old: kept,
                 completed: self.completed(&kept.message),
             },
         }
@@ -479,25 +481,25 @@ impl CellBook {
         // The next serial number goes right behind the replaced one's.
         match self.named(kept.at.saturating_add(1), new.id, new.serial) {
             Ok(_) => Decision::Noted(Answer::Cause(cause::MESSAGE_REFERENCE_ALREADY_USED)),
-            Err(gap) => self.decide_takeover(&kept.message, new, gap),
+            Err(gap) => self.decide_takeover(&kept, new, gap),
         }
     }
 
     /// What a write in the place of a live message comes to, where its pair is free and goes to the gap.
-    fn decide_takeover(&self, old: &AcceptedMessage, new: AcceptedMessage, gap: usize) -> Decision
+    fn decide_takeover(&self, old: &Kept, new: AcceptedMessage, gap: usize) -> Decision
         requires legal { IsLegal self.now }
-        requires live { IsLiveIn self.now (accepted_of old.now) }
+        requires live { IsLiveIn self.now (accepted_of old.now.message) }
         requires offered { IsOffered self.now (accepted_of new) }
         ensures right { decided_answer result
             ≡ answer_to_replacement self.now.log self.now.air self.now.clock new.category
-            (load_of new.pages new.period) (accepted_of old.now) }
-        ensures decides { (replaced : ℕ) → IsLiveAs self.now.clock new.id replaced self.now.log (accepted_of old.now)
+            (load_of new.pages new.period) (accepted_of old.now.message) }
+        ensures decides { (replaced : ℕ) → IsLiveAs self.now.clock new.id replaced self.now.log (accepted_of old.now.message)
             → DecidesWrites self.now (accepted_of new) (Some replaced) result }
     {
         if new.category.is_background() {
             return self.replacing(old, new, gap);
         }
-        match self.room_without(old, new.load()) {
+        match self.room_without(&old.message, new.load()) {
             Ok(()) => self.replacing(old, new, gap),
             Err(NoRoom::Table) => Decision::Noted(Answer::Cause(cause::CELL_MEMORY_EXCEEDED)),
             Err(NoRoom::Load) => match self.later_place(old, new.load()) {
@@ -508,16 +510,16 @@ impl CellBook {
     }
 
     /// A message in the place of a live one.
-    fn replacing(&self, old: &AcceptedMessage, new: AcceptedMessage, gap: usize) -> Decision
-        requires { IsLiveIn self.now (accepted_of old.now) }
+    fn replacing(&self, old: &Kept, new: AcceptedMessage, gap: usize) -> Decision
+        requires { IsLiveIn self.now (accepted_of old.now.message) }
         ensures { result
-            ≡ decisions.Replaces old.now new gap (completed (accepted_of old.now).message self.now.air self.now.clock) }
+            ≡ decisions.Replaces old.now new gap (completed (accepted_of old.now.message).message self.now.air self.now.clock) }
     {
         Decision::Replaces {
             old: *old,
             new,
             gap,
-            completed: self.completed(old),
+            completed: self.completed(&old.message),
         }
     }
 
@@ -538,13 +540,13 @@ impl CellBook {
     }
 
     /// The place at which a message of this load may take over from a live one, where there is room for its excess.
-    fn later_place(&self, old: &AcceptedMessage, load: u64) -> Option<Place>
-        requires live { IsLiveIn self.now (accepted_of old.now) }
-        requires room { length (filter (is_claimed_at self.now.clock) (left_by self.now (accepted_of old.now))) < 64 }
-        ensures { IsLater self.now (accepted_of old.now) load result }
+    fn later_place(&self, old: &Kept, load: u64) -> Option<Place>
+        requires live { IsLiveIn self.now (accepted_of old.now.message) }
+        requires room { length (filter (is_claimed_at self.now.clock) (left_by self.now (accepted_of old.now.message))) < 64 }
+        ensures { IsLater self.now (accepted_of old.now.message) load result }
     {
         let place = self.place_after(old, load)?;
-        match self.room_behind(old, load, place) {
+        match self.room_behind(&old.message, load, place) {
             Ok(()) => Some(place),
             Err(_) => None,
         }
@@ -552,18 +554,18 @@ impl CellBook {
 
     /// The place at which a message of this load may take over from a live one: behind that one, where it has started,
     /// else behind the one behind which it waits.
-    fn place_after(&self, old: &AcceptedMessage, load: u64) -> Option<Place>
-        requires { IsLiveIn self.now (accepted_of old.now) }
+    fn place_after(&self, old: &Kept, load: u64) -> Option<Place>
+        requires { IsLiveIn self.now (accepted_of old.now.message) }
         ensures place { option_map place_found result
-            ≡ place_after (left_by self.now (accepted_of old.now)) self.now.clock (accepted_of old.now) load }
+            ≡ place_after (left_by self.now (accepted_of old.now.message)) self.now.clock (accepted_of old.now.message) load }
         ensures soon { IfSome result (λ place. place.start < LATEST_START) }
     {
-        if old.category.is_background() {
+        if old.message.category.is_background() {
             return None;
         }
-        let entry = old.ahead_at(self.clock)?;
-        let ahead = self.accepted.reserved(entry)?;
-        let stopped = ahead.stopped_if(old.entry, self.clock);
+        let entry = old.message.ahead_at(self.clock)?;
+        let ahead = self.accepted.reserved(old.place, entry)?;
+        let stopped = ahead.stopped_if(old.message.entry, self.clock);
         stopped.place_behind(self.clock, load)
     }
 

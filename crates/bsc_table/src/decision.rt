@@ -5,6 +5,7 @@ ghost use Rattle.bsc_table.specs.BookSteps.{decided_answer};
 
 use crate::accepted::AcceptedMessage;
 use crate::entry::Answer;
+use crate::table::Kept;
 
 /// What a command comes to.
 #[derive(Clone, Copy, Debug, PartialEq, Eq)]
@@ -14,7 +15,7 @@ pub enum Decision {
     /// A live message is stopped.
     Stops {
         /// The message.
-        old: AcceptedMessage,
+        old: Kept,
         /// How many of its broadcasts are completed.
         completed: u16,
     },
@@ -28,7 +29,7 @@ pub enum Decision {
     /// A message starts in the place of a live one, which is stopped.
     Replaces {
         /// The live one.
-        old: AcceptedMessage,
+        old: Kept,
         /// The one that starts.
         new: AcceptedMessage,
         /// Where its pair goes: the place at which the table looks first.

@@ -32,12 +32,14 @@ pub struct Pair {
 /// greater than those before it.
 pub const BEHIND_ALL: usize = usize::MAX;
 
-/// A message of the table, and where its pair stands.
-#[derive(Clone, Copy)]
+/// A message of the table, and where it is kept. No clause says where: it tells a later search where to look first.
+#[derive(Clone, Copy, Debug, PartialEq, Eq)]
 pub struct Kept {
     /// The message.
     pub message: AcceptedMessage,
-    /// The place of its pair among the pairs in order. No clause says so: it tells a later search where to look first.
+    /// Its place among the messages.
+    pub place: usize,
+    /// The place of its pair among the pairs in order.
     pub at: usize,
 }
 
@@ -116,20 +118,24 @@ impl Table {
         ensures { message_kept result ≡ find (is_of_pair id serial) self.now.all }
     {
         match search(self.by_pair.as_slice(), near, id, serial) {
-            Ok(at) => Ok(Kept {
-                message: self.messages[usize::from(self.by_pair[at].place)],
-                at,
-            }),
+            Ok(at) => {
+                let place = usize::from(self.by_pair[at].place);
+                Ok(Kept {
+                    message: self.messages[place],
+                    place,
+                    at,
+                })
+            }
             Err(gap) => Err(gap),
         }
     }
 
-    /// The message of a number that reserves, if there is one: that isn't background.
-    pub fn reserved(&self, entry: u16) -> Option<AcceptedMessage>
+    /// The message of a number that reserves, if there is one: that isn't background. It is looked for at `near` first.
+    pub fn reserved(&self, near: usize, entry: u16) -> Option<AcceptedMessage>
         ensures { option_map accepted_of result
             ≡ find (λ a. (a.message.entry == entry) && (layer a.message == 0)) self.now.all }
     {
-        let at = place_of(self.messages.as_slice(), entry)?;
+        let at = place_of(self.messages.as_slice(), near, entry)?;
         let message = self.messages[at];
         if message.category.is_background() {
             None
@@ -138,12 +144,12 @@ impl Table {
         }
     }
 
-    /// Stops the message of this number before `slot`, if there is one.
-    pub fn stop(&mut self, entry: u16, slot: u16)
+    /// Stops the message of this number before `slot`, if there is one. It is looked for at `near` first.
+    pub fn stop(&mut self, near: usize, entry: u16, slot: u16)
         ensures all { self.new.all ≡ map (stop_numbered entry slot) self.old.all }
         ensures room { self.new.room ≡ self.old.room }
     {
-        if let Some(at) = place_of(self.messages.as_slice(), entry) {
+        if let Some(at) = place_of(self.messages.as_slice(), near, entry) {
             self.messages[at] = self.messages[at].stopped_if(entry, slot);
         }
     }
@@ -262,15 +268,13 @@ fn place_by_search(messages: &[AcceptedMessage], entry: u16) -> Option<usize>
     }
 }
 
-/// The place of the message of a number, if there is one. That of its number is looked at first, since it stands there
-/// if every command before it was accepted.
-fn place_of(messages: &[AcceptedMessage], entry: u16) -> Option<usize>
+/// The place of the message of a number, if there is one. The place that is near is looked at first.
+fn place_of(messages: &[AcceptedMessage], near: usize, entry: u16) -> Option<usize>
     requires { AreRisingMessages messages.now }
     ensures { IsPlaceFound entry messages.now result }
 {
-    let own = usize::from(entry);
-    if is_at(messages, own, entry) {
-        Some(own)
+    if is_at(messages, near, entry) {
+        Some(near)
     } else {
         place_by_search(messages, entry)
     }

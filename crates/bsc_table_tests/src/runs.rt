@@ -444,7 +444,7 @@ fn books_are_refused_until_there_is_memory(rt: HostRuntime) -> Result<(), Fail> 
 
 #[test]
 fn runs_air_what_was_worked_by_hand(rt: HostRuntime) -> Result<(), Fail> {
-    expect_rows(&rt, rt.alloc(), AIRS, 71)?;
+    expect_rows(&rt, rt.alloc(), AIRS, 89)?;
     expect_rows(&rt, rt.alloc(), BACKGROUND, 40)
 }
 

@@ -9,6 +9,7 @@ use Rattle.scheduler.specs.Air.{layer, layer_of}
 use Rattle.bsc_table.specs.declared.command.Command.TheVariants as commands
 use Rattle.bsc_table.specs.declared.decision.Decision.TheVariants as decisions
 use Rattle.bsc_table.specs.declared.accepted.AcceptedMessage.{AcceptedMessage}
+use Rattle.bsc_table.specs.declared.table.Kept.{Kept}
 use Rattle.bsc_table.specs.declared.accepted.Place.{Place as FoundPlace}
 use Rattle.bsc_table.specs.declared.accepted.TheConstants.{LATEST_START}
 use Rattle.bsc_table.specs.Claim.{Claim, is_claimed_at, claimed_at}
@@ -48,12 +49,12 @@ begins r replaced before a offered room either = record {
 }
 
 -- a kill of a live message stops it
-pub kills : (r : Record) (id serial completed : ℕ) (old : AcceptedMessage)
+pub kills : (r : Record) (id serial completed : ℕ) (old : Kept)
     → IsLegal r
-    → IsLiveAs r.clock id serial r.log (accepted_of old)
+    → IsLiveAs r.clock id serial r.log (accepted_of old.message)
     → Decides r (commands.Kill id serial) (decisions.Stops old completed)
 kills r id serial completed old legal live =
-    let a : Accepted = accepted_of old in
+    let a : Accepted = accepted_of old.message in
     let once = (IsSound-legal r legal).once in
     let standing = live_is_standing r.clock a.message live.live in
     record {
@@ -78,17 +79,17 @@ starts r new gap offered room (commands.Kill id serial) same = absurd same
 starts r new gap offered room (commands.Status id serial) same = absurd same
 
 -- and a write in the place of a live message, where it has room once that one is stopped
-pub replaces : (r : Record) (old new : AcceptedMessage) (gap replaced completed : ℕ)
+pub replaces : (r : Record) (old : Kept) (new : AcceptedMessage) (gap replaced completed : ℕ)
     → IsLegal r
-    → IsLiveAs r.clock new.id replaced r.log (accepted_of old)
+    → IsLiveAs r.clock new.id replaced r.log (accepted_of old.message)
     → IsOffered r (accepted_of new)
     → r.clock < LATEST_START
-    → (is_background_category new.category ≡ false → HasRoom (left_by r (accepted_of old)) r.clock
+    → (is_background_category new.category ≡ false → HasRoom (left_by r (accepted_of old.message)) r.clock
     (load_of new.pages new.period))
     → DecidesWrites r (accepted_of new) (Some replaced) (decisions.Replaces old new gap completed)
 replaces r old new gap replaced completed legal live offered soon room
     (commands.Write id serial (Some named) category period broadcasts dcs contents) same =
-    let a : Accepted = accepted_of old in
+    let a : Accepted = accepted_of old.message in
     let once = (IsSound-legal r legal).once in
     let standing = live_is_standing r.clock a.message live.live in
     let same_id : id ≡ new.id = ap (λ (x : Accepted). x.id) same.1 in
@@ -100,10 +101,10 @@ replaces r old new gap replaced completed legal live offered soon room
     let after =
     replaces_one r.log r.clock r.clock id serial named completed category period broadcasts dcs contents a None once
     found standing at_once in
-    let left : List Accepted = map (stop_numbered old.entry r.clock) (accepted_in r.log) in
+    let left : List Accepted = map (stop_numbered old.message.entry r.clock) (accepted_in r.log) in
     let Room : List Claim → Type 0 = λ claims. HasRoom claims r.clock (load_of new.pages new.period) in
     let room_left = λ (front : layer_of (rank_of new.category) ≡ 0). subst Room
-    (sym (claims_stopped old.entry r.clock (accepted_in r.log))) (room (is_front new.category front)) in (
+    (sym (claims_stopped old.message.entry r.clock (accepted_in r.log))) (room (is_front new.category front)) in (
       record {
         stops = live_in r new.id replaced a live;
         begun = begins r (Some a) left (accepted_of new) offered room_left (λ now. inl now);
@@ -121,20 +122,20 @@ abbrev pub waiting_at : AcceptedMessage → FoundPlace → AcceptedMessage
 waiting_at new place = record new { behind = Some place.behind; excess = place.excess; start = place.start }
 
 -- or where it takes over at a place, once that one is stopped
-pub takes_over : (r : Record) (old new : AcceptedMessage) (place : FoundPlace) (gap replaced completed : ℕ)
+pub takes_over : (r : Record) (old : Kept) (new : AcceptedMessage) (place : FoundPlace) (gap replaced completed : ℕ)
     → IsLegal r
-    → IsLiveAs r.clock new.id replaced r.log (accepted_of old)
+    → IsLiveAs r.clock new.id replaced r.log (accepted_of old.message)
     → IsOffered r (accepted_of new)
-    → length (filter (is_claimed_at r.clock) (left_by r (accepted_of old))) < 64
+    → length (filter (is_claimed_at r.clock) (left_by r (accepted_of old.message))) < 64
     → is_background_category new.category ≡ false
-    → place_after (left_by r (accepted_of old)) r.clock (accepted_of old) (load_of new.pages new.period) ≡ Some
+    → place_after (left_by r (accepted_of old.message)) r.clock (accepted_of old.message) (load_of new.pages new.period) ≡ Some
     (place_found place)
-    → claimed_at (left_by r (accepted_of old)) r.clock + place.excess ≤ SCALE
+    → claimed_at (left_by r (accepted_of old.message)) r.clock + place.excess ≤ SCALE
     → place.start < LATEST_START
     → DecidesWrites r (accepted_of new) (Some replaced) (decisions.Replaces old (waiting_at new place) gap completed)
 takes_over r old new place gap replaced completed legal live offered room front after_old fits soon
     (commands.Write id serial (Some named) category period broadcasts dcs contents) same =
-    let a : Accepted = accepted_of old in
+    let a : Accepted = accepted_of old.message in
     let taken = taken_after (left_by r a) r.clock (load_of new.pages new.period) a (place_found place) after_old in
     let over = taken.1 in
     let all : List Accepted = accepted_in r.log in
@@ -155,8 +156,8 @@ takes_over r old new place gap replaced completed legal live offered room front 
     let after =
     replaces_one r.log r.clock place.start id serial named completed category period broadcasts dcs contents a
     (Some place.behind) sound.once found standing placed.1 in
-    let left : List Accepted = map (stop_numbered old.entry r.clock) all in
-    let same_left = sym (claims_stopped old.entry r.clock all) in
+    let left : List Accepted = map (stop_numbered old.message.entry r.clock) all in
+    let same_left = sym (claims_stopped old.message.entry r.clock all) in
     let Room : List Claim → Type 0 = λ claims. length (filter (is_claimed_at r.clock) claims) < 64 in
     let Over : List Claim → Type 0 = λ claims. handover claims r.clock (claim_of a) (load_of new.pages new.period) ≡
     Some (place_found place) in

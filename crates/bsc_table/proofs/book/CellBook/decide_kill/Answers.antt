@@ -10,4 +10,4 @@ completed-requires c =
 
 pub returns-in-Some-clause-decides : goal.returns-in-Some-clause-decides
 returns-in-Some-clause-decides c =
-    kills c.args.self.now c.args.id c.args.serial c.completed.result c.in-Some.kept.message c.requires c.in-Some.ensures
+    kills c.args.self.now c.args.id c.args.serial c.completed.result c.in-Some.kept c.requires c.in-Some.ensures

@@ -4,6 +4,7 @@ use Rattle.admission.specs.declared.budget.NoRoom.{NoRoom}
 use Rattle.scheduler.specs.Completed.{completed}
 use Rattle.bsc_table.specs.declared.decision.Decision.TheVariants as decisions
 use Rattle.bsc_table.specs.declared.accepted.AcceptedMessage.{AcceptedMessage}
+use Rattle.bsc_table.specs.declared.table.Kept.{Kept}
 use Rattle.bsc_table.specs.declared.accepted.Place.{Place}
 use Rattle.bsc_table.specs.Record.{place_after}
 use Rattle.bsc_table.specs.declared.accepted.TheConstants.{LATEST_START}
@@ -16,8 +17,8 @@ use Rattle.bsc_table.proofs.book.CellBook.decide_takeover.Goals as goal
 pub returns-then-is_background-clause-decides : goal.returns-then-is_background-clause-decides
 returns-then-is_background-clause-decides c =
     let r = c.args.self.now in
-    let old : AcceptedMessage = c.args.old.now in
-    let done : ℕ = completed (accepted_of old).message r.air r.clock in
+    let old : Kept = c.args.old.now in
+    let done : ℕ = completed (accepted_of old.message).message r.air r.clock in
     let soon : r.clock < LATEST_START = omega (arith, c.requires.offered.accepted) in
     let back = sym c.is_background.ensures ∙ c.if-is_background.true in
     λ replaced live. subst (DecidesWrites r (accepted_of c.args.new) (Some replaced)) (sym c.replacing.ensures)
@@ -27,9 +28,9 @@ returns-then-is_background-clause-decides c =
 pub returns-in-Ok-clause-decides : goal.returns-in-Ok-clause-decides
 returns-in-Ok-clause-decides c =
     let r = c.args.self.now in
-    let old : AcceptedMessage = c.args.old.now in
-    let done : ℕ = completed (accepted_of old).message r.air r.clock in
-    let room = subst (HasRoom (left_by r (accepted_of old)) r.clock) c.load.ensures c.in-Ok.ensures.fits in
+    let old : Kept = c.args.old.now in
+    let done : ℕ = completed (accepted_of old.message).message r.air r.clock in
+    let room = subst (HasRoom (left_by r (accepted_of old.message)) r.clock) c.load.ensures c.in-Ok.ensures.fits in
     let soon : r.clock < LATEST_START = omega (arith, c.requires.offered.accepted) in
     λ replaced live. subst (DecidesWrites r (accepted_of c.args.new) (Some replaced)) (sym c.replacing-in-Ok.ensures)
     (replaces r old c.args.new c.args.gap replaced done c.requires.legal live c.requires.offered soon (λ _. room))
@@ -37,14 +38,14 @@ returns-in-Ok-clause-decides c =
 pub returns-in-Some-clause-decides : goal.returns-in-Some-clause-decides
 returns-in-Some-clause-decides c =
     let r = c.args.self.now in
-    let old : AcceptedMessage = c.args.old.now in
+    let old : Kept = c.args.old.now in
     let new : AcceptedMessage = c.args.new in
     let place : Place = c.in-Some.place in
-    let done : ℕ = completed (accepted_of old).message r.air r.clock in
-    let left = left_by r (accepted_of old) in
-    let later : IsLater r (accepted_of old) c.load-in-Err-Load.result (Some place) = subst
-    (IsLater r (accepted_of old) c.load-in-Err-Load.result) c.in-Some.is c.later_place.ensures in
-    let Over : ℕ → Type 0 = λ load. place_after left r.clock (accepted_of old) load ≡ Some (place_found place) in
+    let done : ℕ = completed (accepted_of old.message).message r.air r.clock in
+    let left = left_by r (accepted_of old.message) in
+    let later : IsLater r (accepted_of old.message) c.load-in-Err-Load.result (Some place) = subst
+    (IsLater r (accepted_of old.message) c.load-in-Err-Load.result) c.in-Some.is c.later_place.ensures in
+    let Over : ℕ → Type 0 = λ load. place_after left r.clock (accepted_of old.message) load ≡ Some (place_found place) in
     let over = subst Over c.load-in-Err-Load.ensures later.there in
     let full = c.in-Err-Load.is ∙ ap (λ (x : NoRoom). Err x) c.in-Err-Load.field-0-is in
     let room = few_places left r.clock c.load.result c.room_without.result c.room_without.ensures full in

@@ -29,7 +29,7 @@ use Rattle.bsc_table.proofs.book.CellBook.enter_replacement.Goals as goal
 pub add-requires-clause-rising : goal.add-requires-clause-rising
 add-requires-clause-rising c =
     let r : Record = record_of c.self.inside in
-    let old : Accepted = accepted_of c.args.old.now in
+    let old : Accepted = accepted_of c.args.old.now.message in
     let Replaces : Record → Type 0 = λ x. IsReplacement x c.args.entry old (accepted_of c.args.new) in
     let change = subst Replaces (sym c.self.view_is) c.requires.replacement in
     let may = change.begun in
@@ -40,7 +40,7 @@ add-requires-clause-rising c =
 pub stop-requires-2-clause-standing : goal.stop-requires-2-clause-standing
 stop-requires-2-clause-standing c =
     let r : Record = record_of c.self.inside in
-    let old : Accepted = accepted_of c.args.old.now in
+    let old : Accepted = accepted_of c.args.old.now.message in
     let Replaces : Record → Type 0 = λ x. IsReplacement x c.args.entry old (accepted_of c.args.new) in
     let change = subst Replaces (sym c.self.view_is) c.requires.replacement in
     let found = standing_in c.self.inside.plan r.clock r.log r.air old c.self.invariant.follows change.stops.there
@@ -51,7 +51,7 @@ stop-requires-2-clause-standing c =
 pub release-requires-clause-period : goal.release-requires-clause-period
 release-requires-clause-period c =
     let r : Record = record_of c.self.inside in
-    let old : Accepted = accepted_of c.args.old.now in
+    let old : Accepted = accepted_of c.args.old.now.message in
     let Replaces : Record → Type 0 = λ x. IsReplacement x c.args.entry old (accepted_of c.args.new) in
     let change = subst Replaces (sym c.self.view_is) c.requires.replacement in
     (All-contains HasLoad (accepted_in r.log) old ((IsSound-legal r c.self.invariant.legal).loaded)
@@ -60,23 +60,23 @@ release-requires-clause-period c =
 pub release-requires-clause-reserved : goal.release-requires-clause-reserved
 release-requires-clause-reserved c =
     let r : Record = record_of c.self.inside in
-    let old : Accepted = accepted_of c.args.old.now in
+    let old : Accepted = accepted_of c.args.old.now.message in
     let Replaces : Record → Type 0 = λ x. IsReplacement x c.args.entry old (accepted_of c.args.new) in
     let change = subst Replaces (sym c.self.view_is) c.requires.replacement in
     let Has : List Held → Type 0 = λ reservations. Any (λ (h : Held). h.entry ≡ old.message.entry) reservations in
     λ is. subst Has (sym c.self.invariant.held) (held_in r old c.self.invariant.legal change.stops
-    (in_front c.args.old.now.category is))
+    (in_front c.args.old.now.message.category is))
 
 pub reserve_for-requires-clause-unreserved : goal.reserve_for-requires-clause-unreserved
 reserve_for-requires-clause-unreserved c =
     let r : Record = record_of c.self.inside in
-    let old : Accepted = accepted_of c.args.old.now in
+    let old : Accepted = accepted_of c.args.old.now.message in
     let entry : ℕ = old.message.entry in
     let Replaces : Record → Type 0 = λ x. IsReplacement x c.args.entry old (accepted_of c.args.new) in
     let change = subst Replaces (sym c.self.view_is) c.requires.replacement in
     let reservations = released_reservations r old c.self.inside.budget c.release.new.budget c.self.invariant.legal
     change.stops
-    c.self.invariant.held (is_background_category c.args.old.now.category) (layer_tells c.args.old.now.category)
+    c.self.invariant.held (is_background_category c.args.old.now.message.category) (layer_tells c.args.old.now.message.category)
     c.release.ensures in
     let Below : List Held → Type 0 = λ l. All (λ (h : Held). h.entry < length r.log) l in
     let below = subst Below (sym reservations) (held_below_without r.clock entry r.log) in
@@ -85,13 +85,13 @@ reserve_for-requires-clause-unreserved c =
 pub reserve_for-requires-clause-room : goal.reserve_for-requires-clause-room
 reserve_for-requires-clause-room c =
     let r : Record = record_of c.self.inside in
-    let old : Accepted = accepted_of c.args.old.now in
+    let old : Accepted = accepted_of c.args.old.now.message in
     let new : Accepted = accepted_of c.args.new in
     let Replaces : Record → Type 0 = λ x. IsReplacement x c.args.entry old new in
     let change = subst Replaces (sym c.self.view_is) c.requires.replacement in
     let reservations = released_reservations r old c.self.inside.budget c.release.new.budget c.self.invariant.legal
     change.stops
-    c.self.invariant.held (is_background_category c.args.old.now.category) (layer_tells c.args.old.now.category)
+    c.self.invariant.held (is_background_category c.args.old.now.message.category) (layer_tells c.args.old.now.message.category)
     c.release.ensures in
     let Room : List Held → Type 0 = λ l. HasRoomFor r.clock l (claim_of new) new.behind in
     let sound = IsSound-legal r c.self.invariant.legal in
@@ -102,18 +102,18 @@ reserve_for-requires-clause-room c =
 pub release-requires-clause-free : goal.release-requires-clause-free
 release-requires-clause-free c =
     let r : Record = record_of c.self.inside in
-    let old : Accepted = accepted_of c.args.old.now in
+    let old : Accepted = accepted_of c.args.old.now.message in
     let Replaces : Record → Type 0 = λ x. IsReplacement x c.args.entry old (accepted_of c.args.new) in
     let Free : List Held → Type 0 = λ reservations. All (λ (h : Held). behind_of h ≢ Some old.message.entry)
     reservations in
     let change = subst Replaces (sym c.self.view_is) c.requires.replacement in
     λ is. subst Free (sym c.self.invariant.held) (free_of r old c.self.invariant.legal change.stops
-    (in_front c.args.old.now.category is))
+    (in_front c.args.old.now.message.category is))
 
 pub push-requires-clause-few : goal.push-requires-clause-few
 push-requires-clause-few c =
     let r : Record = record_of c.self.inside in
-    let entry : ℕ = c.args.old.now.entry in
+    let entry : ℕ = c.args.old.now.message.entry in
     let Next : Record → Type 0 = λ x. IsNextEntry x c.args.entry in
     let next = subst Next (sym c.self.view_is) c.requires.next in
     let stopped = ap length (c.stop.ensures.all ∙ ap (map (stop_numbered entry r.clock)) (c.reserve-2.ensures.same
@@ -123,8 +123,8 @@ push-requires-clause-few c =
 pub push-requires-clause-rising : goal.push-requires-clause-rising
 push-requires-clause-rising c =
     let r : Record = record_of c.self.inside in
-    let entry : ℕ = c.args.old.now.entry in
-    let Replaces : Record → Type 0 = λ x. IsReplacement x c.args.entry (accepted_of c.args.old.now)
+    let entry : ℕ = c.args.old.now.message.entry in
+    let Replaces : Record → Type 0 = λ x. IsReplacement x c.args.entry (accepted_of c.args.old.now.message)
     (accepted_of c.args.new) in
     let change = subst Replaces (sym c.self.view_is) c.requires.replacement in
     let stopped = c.stop.ensures.all ∙ ap (map (stop_numbered entry r.clock)) (c.reserve-2.ensures.same
@@ -137,10 +137,10 @@ push-requires-clause-rising c =
 pub push-requires-clause-apart : goal.push-requires-clause-apart
 push-requires-clause-apart c =
     let r : Record = record_of c.self.inside in
-    let entry : ℕ = c.args.old.now.entry in
+    let entry : ℕ = c.args.old.now.message.entry in
     let new : Accepted = accepted_of c.args.new in
     let Next : Record → Type 0 = λ x. IsNextEntry x c.args.entry in
-    let Replaces : Record → Type 0 = λ x. IsReplacement x c.args.entry (accepted_of c.args.old.now) new in
+    let Replaces : Record → Type 0 = λ x. IsReplacement x c.args.entry (accepted_of c.args.old.now.message) new in
     let next = subst Next (sym c.self.view_is) c.requires.next in
     let change = subst Replaces (sym c.self.view_is) c.requires.replacement in
     let stopped = c.stop.ensures.all ∙ ap (map (stop_numbered entry r.clock)) (c.reserve-2.ensures.same
@@ -154,7 +154,7 @@ invariant_of-self-2 c =
     let book = c.self.invariant in
     let r : Record = record_of c.self.inside in
     let e : Entry = c.args.entry in
-    let old : Accepted = accepted_of c.args.old.now in
+    let old : Accepted = accepted_of c.args.old.now.message in
     let new : Accepted = accepted_of c.args.new in
     let entry : ℕ = old.message.entry in
     let rest : List Accepted = map (stop_numbered entry r.clock) (accepted_in r.log) in
@@ -186,7 +186,7 @@ invariant_of-self-2 c =
     let left : List Claim = stop_claims entry r.clock (claims_in r.log) in
     let released = released_reservations r old c.self.inside.budget c.release.new.budget book.legal change.stops
     book.held
-    (is_background_category c.args.old.now.category) (layer_tells c.args.old.now.category) c.release.ensures in
+    (is_background_category c.args.old.now.message.category) (layer_tells c.args.old.now.message.category) c.release.ensures in
     let claims = claims_with r.log e rest new change.after ∙ ap
     (λ (l : List Claim). l ++ filter reserves (claim_of new ∷ []))
     (claims_stopped entry r.clock (accepted_in r.log)) in

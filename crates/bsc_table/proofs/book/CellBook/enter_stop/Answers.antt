@@ -20,7 +20,7 @@ use Rattle.bsc_table.proofs.book.CellBook.enter_stop.Goals as goal
 pub stop-requires-2-clause-standing : goal.stop-requires-2-clause-standing
 stop-requires-2-clause-standing c =
     let r : Record = record_of c.self.inside in
-    let old : Accepted = accepted_of c.args.old.now in
+    let old : Accepted = accepted_of c.args.old.now.message in
     let Stops : Record → Type 0 = λ x. IsStop x c.args.entry old in
     let stop = subst Stops (sym c.self.view_is) c.requires.stop in
     standing_in c.self.inside.plan r.clock r.log r.air old c.self.invariant.follows stop.stops.there stop.stops.live
@@ -28,7 +28,7 @@ stop-requires-2-clause-standing c =
 pub release-requires-clause-period : goal.release-requires-clause-period
 release-requires-clause-period c =
     let r : Record = record_of c.self.inside in
-    let old : Accepted = accepted_of c.args.old.now in
+    let old : Accepted = accepted_of c.args.old.now.message in
     let Stops : Record → Type 0 = λ x. IsStop x c.args.entry old in
     let stop = subst Stops (sym c.self.view_is) c.requires.stop in
     (All-contains HasLoad (accepted_in r.log) old ((IsSound-legal r c.self.invariant.legal).loaded) stop.stops.there).1
@@ -36,30 +36,30 @@ release-requires-clause-period c =
 pub release-requires-clause-reserved : goal.release-requires-clause-reserved
 release-requires-clause-reserved c =
     let r : Record = record_of c.self.inside in
-    let old : Accepted = accepted_of c.args.old.now in
+    let old : Accepted = accepted_of c.args.old.now.message in
     let Stops : Record → Type 0 = λ x. IsStop x c.args.entry old in
     let Has : List Held → Type 0 = λ reservations. Any (λ (h : Held). h.entry ≡ old.message.entry) reservations in
     let stop = subst Stops (sym c.self.view_is) c.requires.stop in
     λ is. subst Has (sym c.self.invariant.held) (held_in r old c.self.invariant.legal stop.stops
-    (in_front c.args.old.now.category is))
+    (in_front c.args.old.now.message.category is))
 
 pub release-requires-clause-free : goal.release-requires-clause-free
 release-requires-clause-free c =
     let r : Record = record_of c.self.inside in
-    let old : Accepted = accepted_of c.args.old.now in
+    let old : Accepted = accepted_of c.args.old.now.message in
     let Stops : Record → Type 0 = λ x. IsStop x c.args.entry old in
     let Free : List Held → Type 0 = λ reservations. All (λ (h : Held). behind_of h ≢ Some old.message.entry)
     reservations in
     let stop = subst Stops (sym c.self.view_is) c.requires.stop in
     λ is. subst Free (sym c.self.invariant.held) (free_of r old c.self.invariant.legal stop.stops
-    (in_front c.args.old.now.category is))
+    (in_front c.args.old.now.message.category is))
 
 pub invariant_of-self-2 : goal.invariant_of-self-2
 invariant_of-self-2 c =
     let book = c.self.invariant in
     let r : Record = record_of c.self.inside in
     let e : Entry = c.args.entry in
-    let old : Accepted = accepted_of c.args.old.now in
+    let old : Accepted = accepted_of c.args.old.now.message in
     let entry : ℕ = old.message.entry in
     let Next : Record → Type 0 = λ x. IsNextEntry x e in
     let Stops : Record → Type 0 = λ x. IsStop x e old in
@@ -73,7 +73,7 @@ invariant_of-self-2 c =
     let follows = c.stop-2.ensures.follows (messages_in r.log) r.air book.follows in
     let reservations = released_reservations r old c.self.inside.budget c.release.new.budget book.legal stop.stops
     book.held
-    (is_background_category c.args.old.now.category) (layer_tells c.args.old.now.category) c.release.ensures in
+    (is_background_category c.args.old.now.message.category) (layer_tells c.args.old.now.message.category) c.release.ensures in
     let FollowsAll : List ScheduledMessage → Type 0 = λ all. Follows c.stop-2.new.self all r.air in
     let claims = claims_without r.log e entry r.clock stop.after in
     let HeldFor : List Claim → Type 0 = λ all. c.release.new.budget ≡ reservations_at r.clock all in

@@ -14,7 +14,7 @@ use Rattle.bsc_table.proofs.book.CellBook.place_after.Goals as goal
 pub returns-in_err-ahead-clause-place : goal.returns-in_err-ahead-clause-place
 returns-in_err-ahead-clause-place c =
     let r : Record = record_of c.self.inside in
-    let old : Accepted = accepted_of c.args.old.now in
+    let old : Accepted = accepted_of c.args.old.now.message in
     let entry : ℕ = c.in_ok-entry.entry in
     let p : Accepted → Bool = is_reserved_as entry in
     let ahead : ahead_of r.clock (claim_of old) ≡ Some entry = sym c.ahead_at.ensures ∙ c.in_ok-entry.was in
@@ -22,7 +22,7 @@ returns-in_err-ahead-clause-place c =
     let found : find p (accepted_in r.log) ≡ None = sym table ∙ sym c.reserved.ensures
     ∙ ap (option_map accepted_of) c.in_err-ahead.was in
     let Over : Record → Type 0 = λ x. None ≡ place_after (left_by x old) x.clock old c.args.load in
-    let front = in_front c.args.old.now.category (sym c.is_background.ensures ∙ c.if-is_background.false) in
+    let front = in_front c.args.old.now.message.category (sym c.is_background.ensures ∙ c.if-is_background.false) in
     ap (option_map place_found) c.from_residual-in_err-ahead.ensures
     ∙ subst Over c.self.view_is (sym (place_in_front (left_by r old) r.clock c.args.load old front
     ∙ none_ahead r old entry c.args.load ahead found))
@@ -41,7 +41,7 @@ place_behind-requires c =
 pub returns-clause-place : goal.returns-clause-place
 returns-clause-place c =
     let r : Record = record_of c.self.inside in
-    let old : Accepted = accepted_of c.args.old.now in
+    let old : Accepted = accepted_of c.args.old.now.message in
     let k : AcceptedMessage = c.in_ok-ahead.ahead in
     let entry : ℕ = c.in_ok-entry.entry in
     let p : Accepted → Bool = is_reserved_as entry in
@@ -52,7 +52,7 @@ returns-clause-place c =
     let live = subst (λ x. IsLiveIn x old) (sym c.self.view_is) c.requires in
     let Over : Record → Type 0 = λ x. option_map place_found c.place_behind.result ≡ place_after (left_by x old) x.clock
     old c.args.load in
-    let front = in_front c.args.old.now.category (sym c.is_background.ensures ∙ c.if-is_background.false) in
+    let front = in_front c.args.old.now.message.category (sym c.is_background.ensures ∙ c.if-is_background.false) in
     let same = ap (λ (s : AcceptedMessage). place_before r.clock c.args.load (claim_of (accepted_of s)) (stopped_end s))
     c.stopped_if-stopped.ensures in
     subst Over c.self.view_is (c.place_behind.ensures.place ∙ same
