@@ -1,19 +1,30 @@
 //! Tables as CSV, in memory.
 
-ghost use Rattle.std.specs.Prelude.{◌≡◌, ℕ, List, [], ◌∷◌, ◌++◌, length, map, IfOk, OnOk};
+ghost use Rattle.std.specs.Prelude.{◌≡◌, ℕ, ◌/◌, ◌%◌, List, [], ◌∷◌, ◌++◌, length, map, IfOk, OnOk};
+ghost use Rattle.hex.specs.Hex.{encode_lower};
 ghost use Rattle.handset.specs.Keeping.{message_shown};
 ghost use Rattle.handset.specs.Tape.{reading_of};
 ghost use Rattle.warnc_inspect.specs.ReadOutput.{csv_row, row_of_message};
 
+use cbs_page::Serial;
 use csv::{Writer, WriterBuilder};
 use handset::{Reading, Shown, TakesReadings};
+use itoa::Buffer;
 use std::alloc::{AllocError, Global};
 
 /// A table of the messages that cells showed: the row of the columns' names, and a row for each message.
 #[derive(Drop)]
 pub struct Table {
-    alloc: Global,
     writer: Writer<Vec<u8>>,
+}
+
+/// Four lower hexadecimal digits.
+fn serial_digits(serial: Serial) -> [u8; 4]
+    ensures { result ≡ encode_lower ((serial / 256) ∷ (serial % 256) ∷ []) }
+{
+    let mut digits = [0; 4];
+    let _ = hex::encode_to_slice(serial.number().to_be_bytes().as_slice(), &mut digits);
+    digits
 }
 
 impl Table {
@@ -39,20 +50,22 @@ impl Table {
         ensures { IsTable result [] }
     {
         Table {
-            alloc,
             writer: WriterBuilder::new().from_writer(Vec::new(alloc)),
         }
     }
 
-    /// Appends the rows of a reading.
+    /// Appends the rows of a reading. The cell's numbers are written once for all of them, on the stack as a row's other
+    /// numbers are: no field takes memory of its own.
     fn push_reading(&mut self, reading: &Reading) -> Result<(), AllocError>
         ensures { OnOk result ((octets : List ℕ) → IsTable self.old octets →
             IsTable self.new (octets ++ reading_rows (reading_of reading.now))) }
     {
-        let lac = reading.cell.lac.to_string(self.alloc)?;
-        let ci = reading.cell.ci.to_string(self.alloc)?;
+        let mut lac_buffer = Buffer::new();
+        let mut ci_buffer = Buffer::new();
+        let lac = lac_buffer.format(reading.cell.lac);
+        let ci = ci_buffer.format(reading.cell.ci);
         for message in &reading.shown {
-            self.push_message(&lac, &ci, message)?;
+            self.push_message(lac, ci, message)?;
         }
         Ok(())
     }
@@ -67,13 +80,13 @@ impl Table {
         ensures { OnOk result ((octets : List ℕ) → IsTable self.old octets →
             IsTable self.new (octets ++ row_of_message lac.now ci.now (message_shown message.now))) }
     {
-        let id = message.id.to_string(self.alloc)?;
-        let serial = hex::encode(self.alloc, message.serial.number().to_be_bytes().as_slice())?;
+        let mut id = Buffer::new();
+        let serial = serial_digits(message.serial);
         self.push_row(&[
             lac.as_bytes(),
             ci.as_bytes(),
-            id.as_bytes(),
-            serial.as_bytes(),
+            id.format(message.id).as_bytes(),
+            &serial,
             message.text.as_bytes(),
         ])
     }

@@ -13,7 +13,7 @@ loop-message-preserved c = λ octets is.
     let front : List ℕ = octets
     ++ flat_map (shown_row c.args.reading.now.cell.lac c.args.reading.now.cell.ci)
     (messages_shown (take c.loop-message.message-index c.args.reading.now.shown.items)) in
-    let same : row_of_message c.deref.result.now c.deref-in-loop-message.result.now message
+    let same : row_of_message c.format-lac.result.now c.format-ci.result.now message
     ≡ shown_row c.args.reading.now.cell.lac c.args.reading.now.cell.ci message = search rules in
     let more : IsTable c.push_message.new.self (front ++ shown_row c.args.reading.now.cell.lac
     c.args.reading.now.cell.ci message) =
