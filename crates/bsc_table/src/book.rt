@@ -493,7 +493,8 @@ impl CellBook {
         ensures right { decided_answer result
             ≡ answer_to_replacement self.now.log self.now.air self.now.clock new.category
             (load_of new.pages new.period) (accepted_of old.now.message) }
-        ensures decides { (replaced : ℕ) → IsLiveAs self.now.clock new.id replaced self.now.log (accepted_of old.now.message)
+        ensures decides { (replaced : ℕ)
+            → IsLiveAs self.now.clock new.id replaced self.now.log (accepted_of old.now.message)
             → DecidesWrites self.now (accepted_of new) (Some replaced) result }
     {
         if new.category.is_background() {
@@ -513,7 +514,8 @@ impl CellBook {
     fn replacing(&self, old: &Kept, new: AcceptedMessage, gap: usize) -> Decision
         requires { IsLiveIn self.now (accepted_of old.now.message) }
         ensures { result
-            ≡ decisions.Replaces old.now new gap (completed (accepted_of old.now.message).message self.now.air self.now.clock) }
+            ≡ decisions.Replaces old.now new gap
+            (completed (accepted_of old.now.message).message self.now.air self.now.clock) }
     {
         Decision::Replaces {
             old: *old,
@@ -542,7 +544,8 @@ impl CellBook {
     /// The place at which a message of this load may take over from a live one, where there is room for its excess.
     fn later_place(&self, old: &Kept, load: u64) -> Option<Place>
         requires live { IsLiveIn self.now (accepted_of old.now.message) }
-        requires room { length (filter (is_claimed_at self.now.clock) (left_by self.now (accepted_of old.now.message))) < 64 }
+        requires room { length (filter (is_claimed_at self.now.clock)
+            (left_by self.now (accepted_of old.now.message))) < 64 }
         ensures { IsLater self.now (accepted_of old.now.message) load result }
     {
         let place = self.place_after(old, load)?;
@@ -557,7 +560,8 @@ impl CellBook {
     fn place_after(&self, old: &Kept, load: u64) -> Option<Place>
         requires { IsLiveIn self.now (accepted_of old.now.message) }
         ensures place { option_map place_found result
-            ≡ place_after (left_by self.now (accepted_of old.now.message)) self.now.clock (accepted_of old.now.message) load }
+            ≡ place_after (left_by self.now (accepted_of old.now.message)) self.now.clock
+            (accepted_of old.now.message) load }
         ensures soon { IfSome result (λ place. place.start < LATEST_START) }
     {
         if old.message.category.is_background() {

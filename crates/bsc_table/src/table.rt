@@ -1,5 +1,6 @@
 //! The table of the messages that a cell accepted. A message is found by its number, and by its pair of an identifier
-//! and a serial number, in as many steps as the number of messages has binary digits.
+//! and a serial number, in as many steps as the number of messages has binary digits; in a step or two if it stands
+//! where it is looked for first. What a search finds says where that is for the next one.
 
 ghost use Rattle.std.specs.Prelude.{◌≡◌, ◌↔◌, ℕ, ◌<◌, ◌==◌, ◌&&◌, ◌++◌, ◌∷◌, [], false, true, Some, None, All, OnOk};
 ghost use Rattle.std.specs.Prelude.{◌≢◌, ◌≤◌, length, map, slice_index_or};

@@ -128,8 +128,8 @@ pub takes_over : (r : Record) (old : Kept) (new : AcceptedMessage) (place : Foun
     → IsOffered r (accepted_of new)
     → length (filter (is_claimed_at r.clock) (left_by r (accepted_of old.message))) < 64
     → is_background_category new.category ≡ false
-    → place_after (left_by r (accepted_of old.message)) r.clock (accepted_of old.message) (load_of new.pages new.period) ≡ Some
-    (place_found place)
+    → place_after (left_by r (accepted_of old.message)) r.clock (accepted_of old.message)
+    (load_of new.pages new.period) ≡ Some (place_found place)
     → claimed_at (left_by r (accepted_of old.message)) r.clock + place.excess ≤ SCALE
     → place.start < LATEST_START
     → DecidesWrites r (accepted_of new) (Some replaced) (decisions.Replaces old (waiting_at new place) gap completed)

@@ -45,7 +45,8 @@ returns-in-Some-clause-decides c =
     let left = left_by r (accepted_of old.message) in
     let later : IsLater r (accepted_of old.message) c.load-in-Err-Load.result (Some place) = subst
     (IsLater r (accepted_of old.message) c.load-in-Err-Load.result) c.in-Some.is c.later_place.ensures in
-    let Over : ℕ → Type 0 = λ load. place_after left r.clock (accepted_of old.message) load ≡ Some (place_found place) in
+    let Over : ℕ → Type 0 = λ load. place_after left r.clock (accepted_of old.message) load
+    ≡ Some (place_found place) in
     let over = subst Over c.load-in-Err-Load.ensures later.there in
     let full = c.in-Err-Load.is ∙ ap (λ (x : NoRoom). Err x) c.in-Err-Load.field-0-is in
     let room = few_places left r.clock c.load.result c.room_without.result c.room_without.ensures full in

@@ -76,7 +76,8 @@ reserve_for-requires-clause-unreserved c =
     let change = subst Replaces (sym c.self.view_is) c.requires.replacement in
     let reservations = released_reservations r old c.self.inside.budget c.release.new.budget c.self.invariant.legal
     change.stops
-    c.self.invariant.held (is_background_category c.args.old.now.message.category) (layer_tells c.args.old.now.message.category)
+    c.self.invariant.held (is_background_category c.args.old.now.message.category)
+    (layer_tells c.args.old.now.message.category)
     c.release.ensures in
     let Below : List Held → Type 0 = λ l. All (λ (h : Held). h.entry < length r.log) l in
     let below = subst Below (sym reservations) (held_below_without r.clock entry r.log) in
@@ -91,7 +92,8 @@ reserve_for-requires-clause-room c =
     let change = subst Replaces (sym c.self.view_is) c.requires.replacement in
     let reservations = released_reservations r old c.self.inside.budget c.release.new.budget c.self.invariant.legal
     change.stops
-    c.self.invariant.held (is_background_category c.args.old.now.message.category) (layer_tells c.args.old.now.message.category)
+    c.self.invariant.held (is_background_category c.args.old.now.message.category)
+    (layer_tells c.args.old.now.message.category)
     c.release.ensures in
     let Room : List Held → Type 0 = λ l. HasRoomFor r.clock l (claim_of new) new.behind in
     let sound = IsSound-legal r c.self.invariant.legal in
@@ -186,7 +188,8 @@ invariant_of-self-2 c =
     let left : List Claim = stop_claims entry r.clock (claims_in r.log) in
     let released = released_reservations r old c.self.inside.budget c.release.new.budget book.legal change.stops
     book.held
-    (is_background_category c.args.old.now.message.category) (layer_tells c.args.old.now.message.category) c.release.ensures in
+    (is_background_category c.args.old.now.message.category) (layer_tells c.args.old.now.message.category)
+    c.release.ensures in
     let claims = claims_with r.log e rest new change.after ∙ ap
     (λ (l : List Claim). l ++ filter reserves (claim_of new ∷ []))
     (claims_stopped entry r.clock (accepted_in r.log)) in

@@ -73,7 +73,8 @@ invariant_of-self-2 c =
     let follows = c.stop-2.ensures.follows (messages_in r.log) r.air book.follows in
     let reservations = released_reservations r old c.self.inside.budget c.release.new.budget book.legal stop.stops
     book.held
-    (is_background_category c.args.old.now.message.category) (layer_tells c.args.old.now.message.category) c.release.ensures in
+    (is_background_category c.args.old.now.message.category) (layer_tells c.args.old.now.message.category)
+    c.release.ensures in
     let FollowsAll : List ScheduledMessage → Type 0 = λ all. Follows c.stop-2.new.self all r.air in
     let claims = claims_without r.log e entry r.clock stop.after in
     let HeldFor : List Claim → Type 0 = λ all. c.release.new.budget ≡ reservations_at r.clock all in
