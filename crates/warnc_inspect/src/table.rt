@@ -54,8 +54,8 @@ impl Table {
         }
     }
 
-    /// Appends the rows of a reading. The cell's numbers are written once for all of them, on the stack as a row's other
-    /// numbers are: no field takes memory of its own.
+    /// Appends the rows of a reading. The cell's numbers are written once for all of them, and on the stack, as a row's
+    /// other numbers are: no field takes memory of its own.
     fn push_reading(&mut self, reading: &Reading) -> Result<(), AllocError>
         ensures { OnOk result ((octets : List ℕ) → IsTable self.old octets →
             IsTable self.new (octets ++ reading_rows (reading_of reading.now))) }
