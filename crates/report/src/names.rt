@@ -36,7 +36,7 @@ impl ShownIds {
         ensures { IfOk result (λ names. (id serial : ℕ)
             → has_name names id serial ≡ is_shown (messages_shown shown.now) id serial) }
     {
-        let mut pairs = HashSet::new(alloc);
+        let mut pairs = HashSet::with_capacity(alloc, shown.len())?;
         for message in shown {
             pairs.insert((message.id, message.serial.number()))?;
         }

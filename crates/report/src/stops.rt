@@ -43,13 +43,13 @@ impl Model for Stops {
 }
 
 impl Stops {
-    /// Those of no entries. It takes no memory.
-    fn new(alloc: Global) -> Stops
-        ensures { AreStops result [] }
+    /// Those of no entries, with room for so many.
+    fn with_room(alloc: Global, stops: usize) -> Result<Stops, AllocError>
+        ensures { IfOk result (λ stops. AreStops stops []) }
     {
-        Stops {
-            by_pair: HashMap::new(alloc),
-        }
+        Ok(Stops {
+            by_pair: HashMap::with_capacity(alloc, stops)?,
+        })
     }
 
     /// The stop of the message of a command, if it is a write and its message was stopped.
@@ -82,7 +82,7 @@ pub(crate) fn stops_of(alloc: Global, log: &[Entry]) -> Result<Vec<Option<u16>>,
         → slice_index_or stops.items place None ≡ stop_at log.now place) }
 {
     let mut stops = vec![in alloc; None; log.len()]?;
-    let mut seen = Stops::new(alloc);
+    let mut seen = Stops::with_room(alloc, log.len())?;
     let mut place = log.len();
     // From the last entry on: so `seen` has the first of the stops that come after an entry.
     while place > 0 {
