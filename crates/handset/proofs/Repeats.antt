@@ -1,13 +1,14 @@
 -- A page that came before: the same four blocks again change nothing of what a handset keeps.
 use Rattle.std.proofs.Common.{◌≡◌, ℕ, Bool, true, false, eqb, is_some, List, [], ◌∷◌, ◌++◌, find, filter, refl, sym}
-use Rattle.std.proofs.Common.{◌∙◌, ap, subst, inl, inr, append-nil, append_assoc, ◌+◌, ◌-◌, length, take, drop, map, arith}
+use Rattle.std.proofs.Common.{◌∙◌, ap, subst, inl, inr, append-nil, append_assoc, ◌+◌, ◌-◌, length, take, drop, map}
+use Rattle.std.proofs.Common.{arith}
 use Rattle.std.proofs.Math.Seq.{take-add}
 use Rattle.std.specs.Prelude.{◌⊎◌, not}
 use Rattle.std.proofs.lemmas.Bool.{cases_Bool, eq-eqb, and_parts, false≢true}
 use Rattle.cbs_page.specs.declared.octets.PageView.{PageView}
 use Rattle.cbs_page.specs.Page.{view_of, is_readable}
-use Rattle.handset.specs.Reception.{Name, name_of, block_type, page_octets, pages_read, readable_pages, page_in_front, page_types}
-use Rattle.handset.specs.Reception.{is_of, pages_of, agreeing, agrees_with}
+use Rattle.handset.specs.Reception.{Name, name_of, block_type, page_octets, page_types, pages_read, readable_pages}
+use Rattle.handset.specs.Reception.{page_in_front, is_of, pages_of, agreeing, agrees_with}
 use Rattle.handset.specs.Keeping.{HandsetState, kept_of, AreKept, HasRead, is_numbered}
 use Rattle.handset.specs.KeepingSteps.{counts, agrees_with_first, pages_with_read, message_ended_read, page_ended}
 use Rattle.handset.specs.KeepingSteps.{under_way_with, TakesPage, IsPageAgain}
