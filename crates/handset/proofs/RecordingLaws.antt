@@ -1,6 +1,6 @@
 -- What an input's tapes hold is unique, is what a handset reads, and is what was written.
-use Rattle.std.proofs.Common.{◌≡◌, ℕ, ◌+◌, ◌/◌, ◌%◌, ◌≤◌, List, [], ◌∷◌, ◌++◌, length, refl, sym, ap, ◌∙◌, subst, arith}
-use Rattle.std.proofs.lemmas.List.{length-append, length-map}
+use Rattle.std.proofs.Common.{◌≡◌, ℕ, ◌/◌, ◌%◌, ◌≤◌, List, [], ◌∷◌, ◌++◌, length, refl, sym, ap, ◌∙◌, subst, arith}
+use Rattle.std.proofs.lemmas.List.{length-map}
 use Rattle.cbsp_wire.specs.declared.message.Cell.{Cell}
 use Rattle.handset.specs.Laws.{MadeAreRecordings, RecordingsAreOne, RecordingsAreRead}
 use Rattle.handset.specs.Recording.{TapeRecording, reading_of_recording, HoldsRecording, AreJoinedRecordings}

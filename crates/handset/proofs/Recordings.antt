@@ -1,12 +1,12 @@
 -- What tapes hold, one after another, and that a handset reads them so.
-use Rattle.std.proofs.Common.{◌≡◌, ℕ, ◌+◌, ◌*◌, ◌≤◌, List, [], ◌∷◌, ◌++◌, Option, IfSome, length, map}
-use Rattle.std.proofs.Common.{refl, sym, ap, ◌∙◌, subst, arith, append_assoc, append-nil}
+use Rattle.std.proofs.Common.{◌≡◌, ℕ, ◌*◌, ◌≤◌, List, [], ◌∷◌, ◌++◌, Option, IfSome, length, map}
+use Rattle.std.proofs.Common.{refl, sym, ap, ◌∙◌, arith, append_assoc, append-nil}
 use Rattle.std.specs.Io.KnownBytes.{Consumes, IsAtEnd}
 use Rattle.std.specs.Simd.{first_chunks}
 use Rattle.std.proofs.KnownBytes.{Consumes-trans, Consumes-nil}
 use Rattle.handset.specs.Recording.{TapeRecording, reading_of_recording, HoldsRecording, AreJoinedRecordings}
 use Rattle.handset.specs.Recording.{AreRecordings}
-use Rattle.handset.specs.Tape.{AreJoined, IsTape, TapeReading, cell_in, max_tapes, slots_in}
+use Rattle.handset.specs.Tape.{AreJoined, IsTape, cell_in, max_tapes, slots_in}
 use Rattle.handset.specs.TapeSteps.{ReadsHeader, ReadsRecording, ReadsTape}
 use Rattle.handset.proofs.TapeLaws.{ReadsTapes, at_end, chunks_each, chunks_joined, chunks_long}
 

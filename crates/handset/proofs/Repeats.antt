@@ -10,7 +10,7 @@ use Rattle.cbs_page.specs.Page.{view_of, is_readable}
 use Rattle.handset.specs.Reception.{Name, name_of, block_type, page_octets, page_types, pages_read, readable_pages}
 use Rattle.handset.specs.Reception.{page_in_front, is_of, pages_of, agreeing, agrees_with}
 use Rattle.handset.specs.Keeping.{HandsetState, kept_of, AreKept, HasRead, is_numbered}
-use Rattle.handset.specs.KeepingSteps.{counts, agrees_with_first, pages_with_read, message_ended_read, page_ended}
+use Rattle.handset.specs.KeepingSteps.{counts, agrees_with_first, message_ended_read, page_ended}
 use Rattle.handset.specs.KeepingSteps.{under_way_with, TakesPage, IsPageAgain}
 use Rattle.handset.proofs.Lists.{first_in, first_in-filter}
 use Rattle.handset.proofs.BlockLaws.{ends_none, pages_read-page}

@@ -1,5 +1,5 @@
 use Rattle.std.proofs.Common.{rules, arith, ap, ◌∙◌, ◌+◌, ◌++◌, ◌∷◌, ◌<◌, ◌≡◌, [], Option, List, ℕ, subst, IfSome}
-use Rattle.std.proofs.Common.{append_assoc, length, map, sym}
+use Rattle.std.proofs.Common.{append_assoc, length, map}
 use Rattle.std.specs.Io.KnownBytes.{IsAtEnd}
 use Rattle.std.specs.Prelude.{MatchBool}
 use Rattle.std.proofs.lemmas.List.{length-append, length-map}

@@ -1,4 +1,4 @@
-use Rattle.std.proofs.Common.{arith, ◌*◌, ℕ, List, Option, IfSome, subst}
+use Rattle.std.proofs.Common.{◌*◌, ℕ, List, Option, IfSome, subst}
 use Rattle.std.proofs.lemmas.Result.{err_from_is_err_and}
 use Rattle.device_ends.specs.Source.{reader_of}
 use Rattle.handset.specs.Keeping.{messages_shown}

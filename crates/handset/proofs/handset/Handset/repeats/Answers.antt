@@ -1,4 +1,4 @@
-use Rattle.std.proofs.Common.{◌≡◌, ◌∙◌, [], ap, refl, sym}
+use Rattle.std.proofs.Common.{◌≡◌, ◌∙◌, ap, refl, sym}
 use Rattle.handset.specs.Keeping.{blocks_kept}
 use Rattle.handset.proofs.Repeats.{reads_page_again}
 use Rattle.handset.proofs.handset.Handset.repeats.Goals as goal
