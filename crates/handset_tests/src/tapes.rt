@@ -598,7 +598,7 @@ fn expect_rows(rt: &impl Abort, alloc: Global, table: &str, count: u16) -> Resul
 
 #[test]
 fn tapes_are_read_and_recorded(rt: HostRuntime) -> Result<(), Fail> {
-    expect_rows(&rt, rt.alloc(), WHOLE, 19)?;
+    expect_rows(&rt, rt.alloc(), WHOLE, 50)?;
     expect_rows(&rt, rt.alloc(), FAULTS, 24)?;
     expect_rows(&rt, rt.alloc(), RECORDED, 18)?;
     expect_rows(&rt, rt.alloc(), SCARCE, 12)
