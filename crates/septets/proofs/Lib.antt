@@ -1,3 +1,4 @@
 mod Windows
+mod Groups
 mod Worked
 pub mod PackingLaws

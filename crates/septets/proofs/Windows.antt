@@ -16,12 +16,12 @@ use Rattle.septets.proofs.PackingLaws.{septet_bit-past, septet_bit-at, octet_bit
 use Rattle.septets.proofs.PackingLaws.{of_seven_bits-same}
 
 -- the low m bits of a number
-bit_at-mod : (n m j : ℕ) → j < m → bit_at (n % 2 ^ m) j ≡ bit_at n j
+pub bit_at-mod : (n m j : ℕ) → j < m → bit_at (n % 2 ^ m) j ≡ bit_at n j
 bit_at-mod n m j below =
     sym (bit_at_cat_low (n / 2 ^ m) m (n % 2 ^ m) j below) ∙ ap (λ x. bit_at x j) (shr_split n m)
 
 -- a number shifted down
-bit_at-shr : (n s j : ℕ) → bit_at (n / 2 ^ s) j ≡ bit_at n (s + j)
+pub bit_at-shr : (n s j : ℕ) → bit_at (n / 2 ^ s) j ≡ bit_at n (s + j)
 bit_at-shr n s j = ap (λ x. x % 2) (shr-shr n s j)
 
 -- m bits from bit s on, of high above the w bits of low

@@ -5,7 +5,8 @@
 //! octets, and [`packing_laws`] says that the two are inverse to each other. Nothing here allocates.
 #![tactic(auto)]
 
-ghost use Rattle.std.specs.Prelude.{◌≡◌, ◌+◌, ◌*◌, ◌/◌, ◌%◌, ◌^◌, ◌<◌, ◌≤◌, ◌++◌, All, drop, length};
+ghost use Rattle.std.specs.Prelude.{◌≡◌, ℕ, ◌+◌, ◌*◌, ◌/◌, ◌%◌, ◌^◌, ◌<◌, ◌≤◌, ◌++◌, All, drop, length};
+ghost use Rattle.std.specs.Prelude.{slice_index_or};
 ghost use Rattle.septets.specs.Packing.{filled, septet_at, unpacked, IsPacked, IsUnpacked};
 
 mod laws;
@@ -56,9 +57,7 @@ pub fn unpack(octets: &[u8; 82]) -> [u8; 93]
 {
     let mut septets = [0; SEPTETS];
     for group in 0..GROUPS {
-        for place in 0..8 {
-            septets[8 * group + place] = unpacked_septet(octets, 8 * group + place);
-        }
+        septets[8 * group..8 * group + 8].copy_from_slice(&unpacked_group(octets, group));
     }
     for place in 8 * GROUPS..SEPTETS {
         septets[place] = unpacked_septet(octets, place);
@@ -96,6 +95,27 @@ fn joined(low: u8, high: u8, step: usize) -> u8
 {
     let pair = u16::from(low) | u16::from(high) << 7;
     (pair >> step & 0xFF) as u8
+}
+
+/// The eight septets of a group. Its seven octets are taken as one number, with the octet after them, which a page
+/// always has.
+fn unpacked_group(octets: &[u8; 82], group: usize) -> [u8; 8]
+    requires { group < 11 }
+    ensures { (place : ℕ) → place < 8 → slice_index_or result place 0 ≡ septet_at octets.now (8 * group + place) }
+{
+    let mut own = [0; 8];
+    own.copy_from_slice(&octets[7 * group..7 * group + 8]);
+    spread(u64::from_le_bytes(own)).to_le_bytes()
+}
+
+/// The eight septets of a number's lowest 56 bits, each in an octet of its own: the upper half of them is moved up first,
+/// then the upper half of each half, then of each quarter.
+fn spread(septets: u64) -> u64
+    ensures { (place : ℕ) → place < 8 → result / 2 ^ (8 * place) % 2 ^ 8 ≡ septets / 2 ^ (7 * place) % 2 ^ 7 }
+{
+    let halves = septets & 0x0000_0000_0FFF_FFFF | (septets & 0x00FF_FFFF_F000_0000) << 4;
+    let quarters = halves & 0x0000_3FFF_0000_3FFF | (halves & 0x0FFF_C000_0FFF_C000) << 2;
+    quarters & 0x007F_007F_007F_007F | (quarters & 0x3F80_3F80_3F80_3F80) << 1
 }
 
 /// The septet at a place of the page: of two octets, seven bits.

@@ -1,4 +1,4 @@
-use Rattle.std.proofs.Common.{◌≡◌, ℕ, ◌+◌, ◌*◌, ◌<◌, List, length, get_or}
+use Rattle.std.proofs.Common.{◌≡◌, ℕ, ◌*◌, ◌<◌, List, length, get_or}
 use Rattle.septets.specs.Packing.{septet_at}
 use Rattle.septets.proofs.unpack.Given as goal
 
@@ -11,7 +11,4 @@ abbrev pub invariant-loop-group : goal.invariant-loop-group
 invariant-loop-group l = AreRead l.octets l.septets (8 * l.group)
 
 abbrev pub invariant-loop-place : goal.invariant-loop-place
-invariant-loop-place l = AreRead l.octets l.septets (8 * l.group + l.place)
-
-abbrev pub invariant-loop-place-2 : goal.invariant-loop-place-2
-invariant-loop-place-2 l = AreRead l.octets l.septets l.place
+invariant-loop-place l = AreRead l.octets l.septets l.place
