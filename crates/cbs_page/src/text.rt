@@ -1,7 +1,7 @@
 //! The text that a page shows (3GPP TS 23.038, clauses 6.1.2.2, 6.2.1 and 6.2.3).
 
 ghost use Rattle.std.specs.Prelude.{◌≡◌, ◌++◌, ◌&&◌, nat_le, IsTrue, IfOk, OnErr, OnOk, ◌≤◌, take, length};
-ghost use Rattle.std.specs.Prelude.{map, encode_utf8_all, string_bytes};
+ghost use Rattle.std.specs.Prelude.{ℕ, ◌<◌, map, encode_utf8_all, slice_index_or, string_bytes, true};
 ghost use Rattle.std.specs.List.{list_all};
 ghost use Rattle.gsm_alphabet.specs.Alphabet.{text_of_septets};
 ghost use Rattle.ucs2_text.specs.Ucs2.{character_of_unit};
@@ -59,24 +59,41 @@ pub fn push_page_text(text: &mut String, view: &PageView) -> Result<(), Refused>
     match view.dcs.alphabet() {
         Some(Alphabet::Gsm) => {
             let septets = unpack(&view.content);
-            push_gsm(text, without_filling(&septets, CR))
+            push_gsm(text, without_filling(&septets, filled_from(&septets), CR))
         }
         Some(Alphabet::Ucs2) => {
             let units = units_of(&view.content);
-            push_units(text, without_filling(&units, CR_UNIT))
+            push_units(text, without_filling(&units, units.len(), CR_UNIT))
         }
         None => Ok(()),
     }
 }
 
-/// The items before those at the end that fill the page.
-fn without_filling<T: Copy + PartialEq>(items: &[T], filling: T) -> &[T]
+/// The items before those at the end that fill the page, as all from `end` on do.
+fn without_filling<T: Copy + PartialEq>(items: &[T], end: usize, filling: T) -> &[T]
+    requires within { end ≤ length items.now }
+    requires filled { (place : ℕ) → end ≤ place → place < length items.now
+        → T.eq (slice_index_or items.now place filling) filling ≡ true }
     ensures { result.now ≡ without_trailing (λ item. T.eq item filling) items.now }
 {
-    match items.iter().rposition(|item| *item != filling) {
+    match items[..end].iter().rposition(|item| *item != filling) {
         Some(last) => &items[..=last],
         None => &items[..0],
     }
+}
+
+/// A place from which on carriage return fills the page. After a short text there are many, so eight are compared at
+/// once, and at most seven are left before that place.
+fn filled_from(septets: &[u8]) -> usize
+    ensures within { result ≤ length septets.now }
+    ensures filled { (place : ℕ) → result ≤ place → place < length septets.now
+        → slice_index_or septets.now place 13 ≡ 13 }
+{
+    let mut end = septets.len();
+    while let Some(front) = septets[..end].strip_suffix(&[CR; 8]) {
+        end = front.len();
+    }
+    end
 }
 
 /// Puts the text of septets behind a text. Most pages are plain, and then their septets are the text's octets.
