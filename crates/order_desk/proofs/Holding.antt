@@ -1,13 +1,9 @@
 -- What a lock held stays a run of its cell.
-use Rattle.std.proofs.Common.{◌≡◌, ℕ, ◌∙◌, true, List, Some, inr, slice_get, sym, subst}
+use Rattle.std.proofs.Common.{◌≡◌, ℕ, ◌∙◌, true, List, Some, inr, slice_get}
 use Rattle.cbsp_wire.specs.declared.message.Cell.{Cell}
 use Rattle.bsc_table.specs.Record.{Record}
-use Rattle.bsc_table.specs.declared.command.Command.{Command}
-use Rattle.order_desk.specs.declared.desk.cell_task.CellTask.{CellTask}
-use Rattle.order_desk.specs.declared.desk.cell_task.CellTask.TheVariants as errands
 use Rattle.order_desk.specs.declared.note.Note.{Note}
 use Rattle.order_desk.specs.Desk.{IsAtMostPlayed, IsHeld, DeskState, has_cell}
-use Rattle.order_desk.specs.DeskSteps.{CanBeDone, task_cell}
 use Rattle.order_desk.specs.Notes.{IsPlayedFor, IsRunOf}
 use Rattle.cbsp_wire.proofs.CellLists.{found_near}
 
@@ -27,26 +23,13 @@ pub has_placed : (desk : DeskState) (cell : Cell) (place : ℕ) → slice_get de
     → has_cell desk cell ≡ true
 has_placed desk cell place at = found_near desk.cells cell place at
 
--- an errand that was given up after a play
-pub given_up : (desk : DeskState) (at : ℕ) (errand : CellTask) (cell : Cell) (place : ℕ) (command : Command)
-    (before after : Record) (notes : List Note)
-    → errand ≡ errands.Own cell place command
-    → CanBeDone desk errand
+-- a cell with a place at the desk that gave an order up after a play
+pub given_up : (desk : DeskState) (at : ℕ) (cell : Cell) (place : ℕ) (before after : Record) (notes : List Note)
+    → slice_get desk.cells place ≡ Some cell
     → IsHeld desk cell before
     → IsRunOf before.cell before.slots after
     → IsPlayedFor at before after notes
-    → (has_cell desk (task_cell errand) ≡ true) × IsAtMostPlayed desk at (task_cell errand) notes
-given_up desk at errand cell place command before after notes is can held left played =
-    let own = subst (CanBeDone desk) is can in
-    let here = has_placed desk cell place own.0 in
-    subst (λ e. (has_cell desk (task_cell e) ≡ true) × IsAtMostPlayed desk at (task_cell e) notes) (sym is)
-    (here, inr (before, after, here, held, run_on cell desk.slots before after held left, played))
-
--- an errand to a cell that has a place at the desk is to a cell of the desk
-pub is_to_own : (desk : DeskState) (errand : CellTask) (cell : Cell) (place : ℕ) (command : Command)
-    → errand ≡ errands.Own cell place command
-    → CanBeDone desk errand
-    → has_cell desk (task_cell errand) ≡ true
-is_to_own desk errand cell place command is can =
-    subst (λ e. has_cell desk (task_cell e) ≡ true) (sym is)
-    (has_placed desk cell place (subst (CanBeDone desk) is can).0)
+    → (has_cell desk cell ≡ true) × IsAtMostPlayed desk at cell notes
+given_up desk at cell place before after notes there held left played =
+    let own = has_placed desk cell place there in
+    (own, inr (before, after, own, held, run_on cell desk.slots before after held left, played))

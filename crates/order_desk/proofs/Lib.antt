@@ -3,7 +3,7 @@ pub mod GivenAnswers
 pub mod Pieces
 pub mod Holding
 pub mod Orders
-pub mod Errands
+pub mod Answered
 pub mod Counted
 pub mod FirstNot
 pub mod Walked

@@ -1,17 +1,19 @@
 //! The desk: the books of cells, each under a lock, and the calls of its users.
 
 ghost use Rattle.std.specs.Prelude.{◌≡◌, ◌+◌, ◌*◌, ◌<◌, ◌≤◌, ◌∷◌, [], ◌++◌, List, length, map, false, true, vec_len};
-ghost use Rattle.std.specs.Prelude.{vec_capacity, All, IfErr, IfNone, IfOk, IfSome, OnErr, OnOk};
+ghost use Rattle.std.specs.Prelude.{vec_capacity, IfErr, IfNone, IfOk, IfSome, OnErr, OnOk, Some};
+ghost use Rattle.std.specs.List.{slice_get};
 ghost use Rattle.cbsp_wire.specs.Range.{cells_are_valid};
+ghost use Rattle.bsc_table.specs.Orders.{IsWellFormed};
 ghost use Rattle.bsc_table.specs.Transitions.{opened};
 ghost use Rattle.order_desk.specs.declared.note.Note.{Note};
-ghost use Rattle.order_desk.specs.Desk.{AddsNote, AddsNotes, IsCarriedOut, IsPlayed, IsRefusedOrder, IsRefusedPlay};
-ghost use Rattle.order_desk.specs.Desk.{IsRefusedStatus, IsTold, has_cell};
-ghost use Rattle.order_desk.specs.DeskSteps.{AreTasksDone, AreHalted, CanBeDone, IsTaskDone, IsHalted};
+ghost use Rattle.order_desk.specs.Desk.{AddsNote, AddsNotes, AreAnswered, IsAnswered, IsCarriedOut, IsPlayed};
+ghost use Rattle.order_desk.specs.Desk.{IsRefusedOrder, IsRefusedPlay, IsRefusedStatus, IsTold, has_cell};
+ghost use Rattle.order_desk.specs.DeskSteps.{AreHalted, IsHalted};
 ghost use Rattle.order_desk.specs.Pieces.{IsPieceOf, IsRefusedPiece};
+ghost use Rattle.order_desk.specs.Reply.{cells_answered};
 
 use crate::closed::Closed;
-use crate::desk::cell_task::CellTask;
 use crate::desk::in_cell::is_book_of;
 use crate::desk::order::{CellFault, PreparedOrder, prepared};
 use crate::desk::piece::{Piece, put_pages};
@@ -19,15 +21,14 @@ use crate::desk::reply::reply_in;
 use crate::fault::DeskFault;
 use crate::gate::Gate;
 use crate::note::{Note, Pass};
-use bsc_table::{Answer, CellBook, Refused, SlotRange, State};
+use bsc_table::{Answer, CellBook, Command, Refused, SlotRange, State};
 use cbs_page::Serial;
-use cbsp_wire::cells::find;
+use cbsp_wire::cells::{find, find_near};
 use cbsp_wire::{Cell, cause};
 use std::alloc::Global;
 use std::marker::Model;
 use std::sync::{Mutex, Wait};
 
-pub(crate) mod cell_task;
 pub(crate) mod in_cell;
 pub(crate) mod order;
 pub(crate) mod piece;
@@ -173,33 +174,40 @@ impl Desk {
         find(&self.cells, cell)
     }
 
-    /// Does an errand of an order in its cell.
+    /// A place of a cell, if it is of the desk, which is looked for first near a place.
+    fn place_near(&self, cell: Cell, near: usize) -> Option<usize>
+        ensures own { IfSome result (λ place. slice_get self.now.cells place ≡ Some cell) }
+        ensures foreign { IfNone result (has_cell self.now cell ≡ false) }
+    {
+        find_near(self.cells(), cell, near)
+    }
+
+    /// Serves an order in a cell of its list, which has this place at the desk, or none there.
     fn serve_cell<R: Wait, G: Gate>(
         &self,
         rt: &R,
         notes: &mut Vec<Note>,
         at: u16,
-        errand: CellTask,
+        cell: Cell,
+        place: Option<usize>,
+        command: &Command,
         gate: &G,
     ) -> Result<Answer, CellFault>
-        requires errand { CanBeDone self.now errand }
+        requires own { IfSome place (λ place. slice_get self.now.cells place ≡ Some cell) }
+        requires foreign { IfNone place (has_cell self.now cell ≡ false) }
+        requires formed { IsWellFormed command.now }
         requires room { vec_len notes.old + 2 ≤ vec_capacity notes.old }
         ensures done { OnOk result (IfOk result (λ answer. (added : List Note)
-            × IsTaskDone self.now at errand answer added
+            × IsAnswered self.now at command.now cell answer added
             × (notes.new.items ≡ notes.old.items ++ added))) }
         ensures halted { OnErr result (IfErr result (λ halt. (added : List Note)
-            × IsHalted self.now at errand halt added
+            × IsHalted self.now at cell halt added
             × (notes.new.items ≡ notes.old.items ++ added))) }
         ensures few { vec_len notes.new ≤ vec_len notes.old + 2 }
         ensures room_stays { vec_capacity notes.new ≡ vec_capacity notes.old }
     {
-        let (cell, place, command) = match errand {
-            CellTask::Own {
-                cell,
-                place,
-                command,
-            } => (cell, place, command),
-            CellTask::Foreign { .. } => return Ok(Answer::Cause(cause::CELL_IDENTITY_NOT_VALID)),
+        let Some(place) = place else {
+            return Ok(Answer::Cause(cause::CELL_IDENTITY_NOT_VALID));
         };
         let mut guard = self.books[place].lock(rt);
         gate.inside(place as u16);
@@ -213,32 +221,36 @@ impl Desk {
         }
     }
 
-    /// Does the errands of an order, one after the other.
+    /// Serves an order in the cells of its list, one after the other.
     fn serve_cells<R: Wait, G: Gate>(
         &self,
         rt: &R,
         notes: &mut Vec<Note>,
         at: u16,
-        errands: Vec<CellTask>,
+        cells: &[Cell],
+        command: &Command,
         mut answers: Vec<(Cell, Answer)>,
         gate: &G,
     ) -> Result<Vec<(Cell, Answer)>, DeskFault>
-        requires each { All (CanBeDone self.now) errands.items }
-        requires few { vec_len errands ≤ 64 }
+        requires formed { IsWellFormed command.now }
+        requires few { length cells.now ≤ 64 }
         requires no_answers { answers.items ≡ [] }
-        requires room_for_answers { vec_len errands ≤ vec_capacity answers }
-        requires room_for_notes { vec_len notes.old + 2 * vec_len errands ≤ vec_capacity notes.old }
+        requires room_for_answers { length cells.now ≤ vec_capacity answers }
+        requires room_for_notes { vec_len notes.old + 2 * length cells.now ≤ vec_capacity notes.old }
+        ensures named { IfOk result (λ answers. cells_answered answers.items ≡ cells.now) }
         ensures done { OnOk result (IfOk result (λ answers. (added : List Note)
-            × AreTasksDone self.now at errands.items answers.items added
+            × AreAnswered self.now at command.now answers.items added
             × (notes.new.items ≡ notes.old.items ++ added))) }
         ensures halted { OnErr result (IfErr result (λ fault. (added : List Note)
-            × AreHalted self.now at errands.items fault added
+            × AreHalted self.now at cells.now command.now fault added
             × (notes.new.items ≡ notes.old.items ++ added))) }
     {
-        for errand in errands {
-            let cell = errand.cell();
-            match self.serve_cell(rt, notes, at, errand, gate) {
-                Ok(answer) => answers.push_reserved((cell, answer)),
+        let mut near = 0;
+        for cell in cells {
+            let place = self.place_near(*cell, near);
+            near = place.unwrap_or(near);
+            match self.serve_cell(rt, notes, at, *cell, place, command, gate) {
+                Ok(answer) => answers.push_reserved((*cell, answer)),
                 Err(CellFault::WrongBook) => return Err(DeskFault::Unknown),
                 Err(CellFault::Refused) => {
                     return Err(DeskFault::Memory {
@@ -259,7 +271,8 @@ impl Desk {
     ///
     /// - `Wire` if the octets are no message, `Cause` if the message is no order (see `orders_of`): nothing is done.
     /// - `Memory { done }` if out of memory, with the number of cells of the list that had answered: the next one, a
-    ///   cell of the desk, was at most played. All that the call itself takes is taken before the first cell.
+    ///   cell of the desk, was at most played. All that the call itself takes is taken before the first cell, but for
+    ///   contents that have as many owners as can be counted, of which a note takes its own.
     /// - `Unknown` if the lock of a cell of the desk holds the book of another cell or run, which no call leaves there:
     ///   the cells before it have answered, and nothing of it is noted.
     ///
@@ -280,14 +293,14 @@ impl Desk {
     {
         let PreparedOrder {
             command,
-            errands,
+            cells,
             answers,
             room,
-        } = prepared(alloc, self.cells(), bytes)?;
-        if pass.notes.reserve(2 * errands.len()).is_err() {
+        } = prepared(alloc, bytes)?;
+        if pass.notes.reserve(2 * cells.len()).is_err() {
             return Err(DeskFault::Memory { done: 0 });
         }
-        match self.serve_cells(rt, &mut pass.notes, at, errands, answers, gate) {
+        match self.serve_cells(rt, &mut pass.notes, at, &cells, &command, answers, gate) {
             Ok(answers) => Ok(reply_in(room, &command, &answers)),
             Err(fault) => Err(fault),
         }

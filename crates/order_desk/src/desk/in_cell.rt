@@ -1,11 +1,9 @@
 //! What is done in a cell whose book is lent, and noted.
 
 ghost use Rattle.std.specs.Prelude.{◌≡◌, ◌+◌, ◌≤◌, ◌∷◌, [], ◌++◌, IfOk, IfErr, OnOk, OnErr, IsTrue, List, vec_len};
-ghost use Rattle.std.specs.Prelude.{vec_capacity, if◌then◌else◌};
+ghost use Rattle.std.specs.Prelude.{vec_capacity};
 ghost use Rattle.bsc_table.specs.Orders.{IsWellFormed};
-ghost use Rattle.bsc_table.specs.Transitions.{has_entry};
 ghost use Rattle.order_desk.specs.declared.note.Note.{Note};
-ghost use Rattle.order_desk.specs.declared.note.Note.TheVariants as notes_of;
 ghost use Rattle.order_desk.specs.DeskSteps.{IsUntold};
 ghost use Rattle.order_desk.specs.Notes.{IsAsked, IsPlay, IsPlayedFor, IsRunOf, IsOrderServed, IsStatus};
 
@@ -15,26 +13,12 @@ use bsc_table::{Answer, CellBook, Command, Entry, Refused, SlotRange, State};
 use cbs_page::Serial;
 use cbsp_wire::{Cell, cause};
 
-/// The note of a command that a cell answered.
-fn answer_note(cell: Cell, number: u16, entry: Entry) -> Note
-    ensures { result ≡ (if has_entry entry.answer then notes_of.Event cell number entry else notes_of.Full cell) }
-{
-    match entry.answer {
-        Answer::Cause(cause::BSC_MEMORY_EXCEEDED) | Answer::Refused => Note::Full { cell },
-        _ => Note::Event {
-            cell,
-            number,
-            entry,
-        },
-    }
-}
-
-/// Has a cell answer a command, and notes it.
-fn ask(book: &mut CellBook, notes: &mut Vec<Note>, command: Command) -> Result<Answer, Refused>
-    requires formed { IsWellFormed command }
+/// Has a cell answer a command, and notes it. What the note takes is taken before the answer, which it can't undo.
+fn ask(book: &mut CellBook, notes: &mut Vec<Note>, command: &Command) -> Result<Answer, Refused>
+    requires formed { IsWellFormed command.now }
     requires room { vec_len notes.old + 1 ≤ vec_capacity notes.old }
     ensures asked { OnOk result (IfOk result (λ answer. (note : Note)
-        × IsAsked command answer book.old book.new note
+        × IsAsked command.now answer book.old book.new note
         × (notes.new.items ≡ notes.old.items ++ note ∷ []))) }
     ensures refused { OnErr result ((book.new ≡ book.old) × (notes.new ≡ notes.old)) }
     ensures stays { IsRunOf book.old.cell book.old.slots book.new }
@@ -43,21 +27,22 @@ fn ask(book: &mut CellBook, notes: &mut Vec<Note>, command: Command) -> Result<A
     let cell = book.cell();
     let slot = book.clock();
     let number = book.log().len() as u16;
-    match book.apply(&command) {
-        Answer::Refused => Err(Refused),
-        answer => {
-            notes.push_reserved(answer_note(
-                cell,
-                number,
-                Entry {
-                    command,
-                    slot,
-                    answer,
-                },
-            ));
-            Ok(answer)
-        }
+    let copy = command.copy(*notes.allocator())?;
+    let answer = book.apply(command);
+    match answer {
+        Answer::Refused => return Err(Refused),
+        Answer::Cause(cause::BSC_MEMORY_EXCEEDED) => notes.push_reserved(Note::Full { cell }),
+        _ => notes.push_reserved(Note::Event {
+            cell,
+            number,
+            entry: Entry {
+                command: copy,
+                slot,
+                answer,
+            },
+        }),
     }
+    Ok(answer)
 }
 
 /// Whether a lent book is that of a cell in a run of so many slots.
@@ -92,12 +77,12 @@ pub(crate) fn play_and_ask(
     book: &mut CellBook,
     notes: &mut Vec<Note>,
     at: u16,
-    command: Command,
+    command: &Command,
 ) -> Result<Answer, Refused>
-    requires formed { IsWellFormed command }
+    requires formed { IsWellFormed command.now }
     requires room { vec_len notes.old + 2 ≤ vec_capacity notes.old }
     ensures served { OnOk result (IfOk result (λ answer. (added : List Note)
-        × IsOrderServed at command answer book.old book.new added
+        × IsOrderServed at command.now answer book.old book.new added
         × (notes.new.items ≡ notes.old.items ++ added))) }
     ensures refused { OnErr result ((ranges : List Note)
         × IsPlayedFor at book.old book.new ranges
@@ -144,7 +129,7 @@ pub(crate) fn status(
         × (notes.new.items ≡ notes.old.items ++ added))) }
     ensures stays { IsRunOf book.old.cell book.old.slots book.new }
 {
-    match ask(book, notes, Command::Status { id, serial }) {
+    match ask(book, notes, &Command::Status { id, serial }) {
         Ok(Answer::Told { completed, state }) => Ok(Some((completed, state))),
         Ok(Answer::Unknown) => Ok(None),
         // The log is full.

@@ -6,7 +6,6 @@ ghost use Rattle.bsc_table.specs.Orders.{IsWellFormed};
 ghost use Rattle.order_desk.specs.Desk.{IsNoOrder, IsOrderOf};
 ghost use Rattle.order_desk.specs.DeskSteps.{IsPrepared};
 
-use crate::desk::cell_task::{CellTask, cell_tasks};
 use crate::desk::reply::{ReplyRoom, room_for};
 use crate::fault::DeskFault;
 use bsc_table::{Answer, Command, orders_of};
@@ -26,7 +25,7 @@ pub(crate) enum CellFault {
 #[derive(Drop)]
 pub(crate) struct PreparedOrder {
     pub(crate) command: Command,
-    pub(crate) errands: Vec<CellTask>,
+    pub(crate) cells: Vec<Cell>,
     pub(crate) answers: Vec<(Cell, Answer)>,
     pub(crate) room: ReplyRoom,
 }
@@ -51,21 +50,17 @@ fn order_in(alloc: Global, octets: &[u8]) -> Result<(Vec<Cell>, Command), DeskFa
     }
 }
 
-/// The order that a message is, at a desk with these cells, with all the room that it takes.
-pub(crate) fn prepared(
-    alloc: Global,
-    own: &[Cell],
-    octets: &[u8],
-) -> Result<PreparedOrder, DeskFault>
-    ensures prepared { IfOk result (IsPrepared own.now octets.now) }
+/// The order that a message is, with all the room that it takes.
+pub(crate) fn prepared(alloc: Global, octets: &[u8]) -> Result<PreparedOrder, DeskFault>
+    ensures prepared { IfOk result (IsPrepared octets.now) }
     ensures refused { IfErr result (IsNoOrder octets.now) }
 {
     let (cells, command) = order_in(alloc, octets)?;
-    let errands = cell_tasks(alloc, own, &cells, &command)?;
+    let count = cells.len();
     Ok(PreparedOrder {
         command,
-        errands,
-        answers: Vec::with_capacity(alloc, cells.len())?,
-        room: room_for(alloc, cells.len())?,
+        cells,
+        answers: Vec::with_capacity(alloc, count)?,
+        room: room_for(alloc, count)?,
     })
 }
