@@ -1,7 +1,7 @@
 -- A table that is passed in place: what is still counted goes to its front, place by place.
 use Rattle.std.proofs.Common.{◌≡◌, ℕ, ◌+◌, ◌≤◌, ◌<◌, true, false, List, [], ◌∷◌, ◌++◌, length, get_or, set, take, drop}
-use Rattle.std.proofs.Common.{map, filter, append-nil, refl, sym, ap, ◌∙◌, arith}
-use Rattle.std.proofs.lemmas.List.{drop_more, map-append, take_more, take_more_set}
+use Rattle.std.proofs.Common.{map, filter, append-nil, refl, sym, ap, subst, ◌∙◌, arith}
+use Rattle.std.proofs.lemmas.List.{drop_more, get_or-set_same, map-append, set-set, take_more, take_more_set}
 use Rattle.std.proofs.lemmas.List.Elements.{filter-append}
 use Rattle.std.proofs.Math.Seq.{drop-set-lt}
 use Rattle.admission.specs.declared.budget.Held.{Held}
@@ -72,6 +72,22 @@ HasPassed-kept slot kept place table old d had long within is =
       rest = drop-set-lt (place + 1) table kept y (omega (arith, had.few))
           ∙ rest_is table old place d (omega (arith, long, within)) within had.rest;
     }
+
+-- so is one that is put in its place first, and then starts there
+pub HasPassed-put : (slot kept place : ℕ) (table old : List Held) (d : Held) → HasPassed slot kept place table old
+    → length table ≡ length old → place < length old → is_before_end slot (get_or table place d).end ≡ true
+    → HasPassed slot (kept + 1) (place + 1) (set (set table kept (get_or table place d)) kept
+    (started_at slot (get_or (set table kept (get_or table place d)) kept d))) old
+HasPassed-put slot kept place table old d had long within is =
+    let x = get_or table place d in
+    let put : get_or (set table kept x) kept d ≡ x =
+    get_or-set_same table kept x d (omega (arith, had.few, long, within)) in
+    let once : set (set table kept x) kept (started_at slot (get_or (set table kept x) kept d))
+    ≡ set table kept (started_at slot x) =
+    set-set table kept x (started_at slot (get_or (set table kept x) kept d))
+    ∙ ap (λ (h : Held). set table kept (started_at slot h)) put in
+    let Passed : List Held → Type 0 = λ l. HasPassed slot (kept + 1) (place + 1) l old in
+    subst Passed (sym once) (HasPassed-kept slot kept place table old d had long within is)
 
 -- a reservation that ends is gone as the slot passes
 pub HasPassed-gone : (slot kept place : ℕ) (table old : List Held) (d : Held) → HasPassed slot kept place table old

@@ -1,7 +1,7 @@
 //! The table of the loads that are reserved in a cell.
 
 ghost use Rattle.std.specs.Prelude.{◌≡◌, ◌≢◌, ℕ, ◌==◌, ◌≤◌, Some, None, List, [], length, ◌∷◌, ◌++◌, sum_by, take, All};
-ghost use Rattle.std.specs.Prelude.{Any};
+ghost use Rattle.std.specs.Prelude.{Any, nat_lt};
 ghost use Rattle.std.specs.Prelude.{OnOk, OnErr, MatchBool};
 ghost use Rattle.std.specs.Option.{option_map};
 ghost use Rattle.admission.specs.Table.{room_answer_for, room_answer, remaining_without, load_for, excess_over};
@@ -9,7 +9,7 @@ ghost use Rattle.admission.specs.Table.{ends_at};
 ghost use Rattle.admission.specs.Table.{ends_if, passed, IsAdmitted};
 ghost use Rattle.std.specs.List.{list_all};
 ghost use Rattle.admission.specs.TableSteps.{HasPlace, goes_on, stays_at};
-ghost use Rattle.admission.specs.Waiting.{IsWhether, behind_of, held_now, held_at, waits_at, started_at};
+ghost use Rattle.admission.specs.Waiting.{IsWhether, behind_of, held_now, held_at, started_at};
 ghost use Rattle.admission.specs.Reservation.{is_before_end};
 
 use crate::measure::SCALE;
@@ -117,7 +117,7 @@ impl Budget {
             None => room(self.table.len(), total(self.table.as_slice()), load),
             Some(entry) => {
                 let others = total_without(self.table.as_slice(), entry);
-                room(count_without(self.table.as_slice(), entry), others, load)
+                room(places_without(self.table.as_slice(), entry), others, load)
             }
         }
     }
@@ -348,6 +348,18 @@ fn count_without(table: &[Held], entry: u16) -> usize
     table.iter().filter(|held| held.entry != entry).count()
 }
 
+/// How many others stand in a table that is full; of one that isn't, whose others aren't counted, as many as there are.
+fn places_without(table: &[Held], entry: u16) -> usize
+    ensures { nat_lt result 64 ≡ nat_lt (length (remaining_without (Some entry) table.now)) 64 }
+{
+    let places = table.len();
+    if places < MAX_RESERVED {
+        places
+    } else {
+        count_without(table, entry)
+    }
+}
+
 /// Whether a load has room beside `places` reserved messages that hold `sum`.
 fn room(places: usize, sum: u64, load: u64) -> Result<(), NoRoom>
     requires { sum ≤ SCALE }
@@ -405,32 +417,21 @@ fn keep_remaining(table: &mut [Held], slot: u16) -> usize
 {
     let mut kept = 0;
     for place in 0..table.len() {
-        let held = table[place];
-        if is_counted(held.end, slot) {
-            table[kept] = started(held, slot);
+        if is_counted(table[place].end, slot) {
+            table[kept] = table[place];
+            start(&mut table[kept], slot);
             kept += 1;
         }
     }
     kept
 }
 
-/// A reservation as it is at `slot`: it waits no more, where it starts by then.
-fn started(held: Held, slot: u16) -> Held
-    ensures { result ≡ started_at slot held }
+/// Lets a reservation wait no more, where it starts by `slot`. Others aren't written.
+fn start(held: &mut Held, slot: u16)
+    ensures { held.new ≡ started_at slot held.old }
 {
-    Held {
-        waits: still_waits(held.waits, slot),
-        ..held
-    }
-}
-
-/// What is still waited for at `slot`.
-fn still_waits(waits: Option<Waits>, slot: u16) -> Option<Waits>
-    ensures { result ≡ waits_at slot waits }
-{
-    match waits {
-        Some(waits) if u32::from(slot) < waits.start => Some(waits),
-        _ => None,
+    if !goes_on(held.waits, slot) {
+        held.waits = None;
     }
 }
 

@@ -33,6 +33,9 @@ pub struct Pair {
 /// greater than those before it.
 pub const BEHIND_ALL: usize = usize::MAX;
 
+/// How many pairs at the end are looked at first for a pair.
+const NEAR: usize = 64;
+
 /// A message of the table, and where it is kept. No clause says where: it tells a later search where to look first.
 #[derive(Clone, Copy, Debug, PartialEq, Eq)]
 pub struct Kept {
@@ -163,13 +166,29 @@ fn is_before(pair: &Pair, id: u16, serial: u16) -> bool
     pair.id < id || (pair.id == id && pair.serial < serial)
 }
 
+/// A place up to which all pairs are lesser: one near the end, if that can be seen there, since most of those that are
+/// looked for were added of late; else the first.
+fn near_end(pairs: &[Pair], id: u16, serial: u16) -> usize
+    requires { AreRisingPairs pairs.now }
+    ensures within { result ≤ length pairs.now }
+    ensures before { (k : ℕ) (d : Pair) → k < result
+        → compare_pairs (pair_kept (slice_index_or pairs.now k d)) (id, serial) ≡ Less }
+{
+    let near = pairs.len().saturating_sub(NEAR);
+    if are_lesser_before(pairs, near, id, serial) {
+        near
+    } else {
+        0
+    }
+}
+
 /// Where a pair would go among others in order: the lesser ones stand before it. `binary_search_by_key` compares
 /// tuples, and takes nearly twice as many instructions.
 fn gap_for(pairs: &[Pair], id: u16, serial: u16) -> usize
     requires { AreRisingPairs pairs.now }
     ensures { ArePartedAt (id, serial) pairs.now result }
 {
-    let mut low = 0;
+    let mut low = near_end(pairs, id, serial);
     let mut high = pairs.len();
     while low < high {
         let middle = low + (high - low) / 2;

@@ -1,10 +1,10 @@
 -- Lemmas on the messages of a plan, of which those at the front have ended.
-use Rattle.std.proofs.Common.{◌≡◌, ℕ, ◌+◌, ◌-◌, ◌≤◌, ◌<◌, Bool, false, true, leb, Option, Some, None, List, []}
+use Rattle.std.proofs.Common.{◌≡◌, ℕ, ◌+◌, ◌-◌, ◌*◌, ◌≤◌, ◌<◌, Bool, false, true, leb, Option, Some, None, List, []}
 use Rattle.std.proofs.Common.{◌∷◌, ◌++◌, append_assoc, length, get_or, map, set, take, drop, inl, inr, refl, sym, ap}
 use Rattle.std.proofs.Common.{subst, ◌∙◌, arith}
 use Rattle.std.specs.Bool.{MatchBool}
 use Rattle.std.specs.List.{All, AllPairs}
-use Rattle.std.proofs.Math.Seq.{take-append_seam, drop-append_seam}
+use Rattle.std.proofs.Math.Seq.{get_or-append_seam, take-append_seam, drop-append_seam}
 use Rattle.std.proofs.lemmas.Bool.{cases_eq, ne_eqb, false≢true, leb-true, leb-false}
 use Rattle.std.proofs.lemmas.List.{length-append, length-map, length-take-le, length-drop, map-append, drop-map}
 use Rattle.std.proofs.lemmas.List.{get_or-map, get_or_default, get_or_append_left, get_or-append-add, get_or-take}
@@ -17,11 +17,13 @@ use Rattle.scheduler.specs.Air.{airs}
 use Rattle.scheduler.specs.PlanSteps.{IsChoice, IsServedFirst, NoneReady, is_ready, after_slot}
 use Rattle.scheduler.specs.QueueSteps.{kept_in, seen_in, seen, stopped, nothing_ahead, IsRight, HasTurn, IsNode, IsTree}
 use Rattle.scheduler.specs.QueueSteps.{IsTreeBut, AreKeptInOrder, HasNoMore, HasEnded, AreSettled, AreRising}
-use Rattle.scheduler.specs.QueueSteps.{HasReached, IsFoundTurn}
+use Rattle.scheduler.specs.QueueSteps.{HasReached, IsFoundTurn, IsTreeWithout, ahead_at, ahead_below, joined, own}
+use Rattle.scheduler.specs.QueueSteps.{own_at}
 use Rattle.scheduler.proofs.FirstTurn.{blank}
 use Rattle.scheduler.proofs.Found.{push_others}
 use Rattle.scheduler.proofs.Passed.{map_same, map_twice}
 use Rattle.scheduler.proofs.Places.{kept_at, right_at, lesser_before}
+use Rattle.scheduler.proofs.Tree.{ahead_at-is, among-past, below_is, joined-both, own_at-is}
 use Rattle.scheduler.proofs.Tree.{put_in, put_kept, put_node, put_nodes, kept_same}
 use Rattle.scheduler.proofs.Windows.{seen_is, seen_after_other, IsRight-later, IsRight-stopped}
 
@@ -219,6 +221,33 @@ push_later past nodes k within tree =
     let ButOf : List Node → Type 0 = λ ns. IsTreeBut ns (length nodes - past) in
     subst ButOf (sym (drop-append-le past nodes (n ∷ []) within)) (subst But (length-drop past nodes)
     (push_others (drop past nodes) k tree))
+
+-- of what is ahead of its place its own turn alone is missing
+pub push_without : (past : ℕ) (nodes : List Node) (k : Progress) → past ≤ length nodes → IsTree (drop past nodes)
+    → IsTreeWithout (drop past (nodes ++ record { kept = k; ahead = nothing_ahead } ∷ [])) (length nodes - past)
+    (own k)
+push_without past nodes k within tree =
+    let n : Node = record { kept = k; ahead = nothing_ahead } in
+    let later = drop past nodes in
+    let all = drop past (nodes ++ n ∷ []) in
+    let place = length nodes - past in
+    let is : all ≡ later ++ n ∷ [] = drop-append-le past nodes (n ∷ []) within in
+    let long : length later ≡ place = length-drop past nodes in
+    let whole : length all ≡ place + 1 = omega (arith, ap length is, length-append later (n ∷ []), long) in
+    let At : ℕ → Type 0 = λ i. get_or (later ++ n ∷ []) i blank ≡ n in
+    let last : get_or all place blank ≡ n = ap (λ (ns : List Node). get_or ns place blank) is
+    ∙ subst At long (get_or-append_seam later n [] blank) in
+    let ahead : ahead_at all place ≡ nothing_ahead = ahead_at-is all place blank (omega (arith, whole))
+    ∙ ap (λ (m : Node). m.ahead) last in
+    let mine : own_at all place ≡ own k = own_at-is all place blank (omega (arith, whole))
+    ∙ ap (λ (m : Node). own m.kept) last in
+    let below : ahead_below all place ≡ nothing_ahead = below_is all place
+    ∙ among-past all (place * 8 + 1) 8 (omega (arith, whole)) in
+    record {
+      others = push_later past nodes k within tree;
+      here = ap (λ a. joined a (own k)) ahead ∙ joined-both nothing_ahead (own k)
+          ∙ ap (joined (own k)) (sym below) ∙ ap (λ a. joined a (ahead_below all place)) (sym mine);
+    }
 
 -- one more message behind the others
 pub settled_pushed : (slot past : ℕ) (old new : List Node) (k : Progress) → kept_in new ≡ kept_in old ++ k ∷ []

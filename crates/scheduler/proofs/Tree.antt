@@ -10,7 +10,7 @@ use Rattle.scheduler.specs.declared.progress.Progress.{Progress}
 use Rattle.scheduler.specs.declared.tournament.Node.{Node}
 use Rattle.scheduler.specs.QueueSteps.{aired, joined, nothing_ahead, no_turn, own, kept_in, ahead_at, own_at, node_with}
 use Rattle.scheduler.specs.QueueSteps.{ahead_among, ahead_below, seen_in, IsRight, HasTurn}
-use Rattle.scheduler.specs.QueueSteps.{IsNode, IsTree, IsTreeBut, KeepsNodesBut}
+use Rattle.scheduler.specs.QueueSteps.{IsNode, IsTree, IsTreeBut, IsTreeWithout, KeepsNodesBut, with_below}
 use Rattle.scheduler.proofs.Turns.{IsAhead, IsAhead-same, IsAhead-trans, joined-left, joined-right, joined-one}
 
 -- past the end nothing is ahead
@@ -410,3 +410,82 @@ among_both nodes from n (suc more) =
     ∙ (ap (λ a. joined a (ahead_at nodes (from + n + more))) (among_both nodes from n more)
     ∙ (ap (λ k. joined (ahead_among nodes from (n + more)) (ahead_at nodes k)) at
     ∙ (sym (among_more nodes from (n + more)) ∙ ap (ahead_among nodes from) one)))
+
+-- what is ahead of some places is ahead of as many more, where these are past the end
+pub among_short : (nodes : List Node) (from n more : ℕ) → length nodes ≤ from + n
+    → ahead_among nodes from n ≡ ahead_among nodes from (n + more)
+among_short nodes from n more past =
+    sym (joined-none (ahead_among nodes from n) (among-some nodes from n))
+    ∙ ap (joined (ahead_among nodes from n)) (sym (among-past nodes (from + n) more past))
+    ∙ among_both nodes from n more
+
+-- what is ahead of the place that is written
+pub put_here : (nodes : List Node) (place : ℕ) (k : Progress) → place < length nodes
+    → ahead_at (put_in nodes place k) place ≡ with_below nodes place (own k)
+put_here nodes place k h =
+    ap (λ xs. get_or xs place nothing_ahead) (map-set (λ (n : Node). n.ahead) nodes place (node_with nodes place k))
+    ∙ get_or-set_same (map (λ (n : Node). n.ahead) nodes) place (node_with nodes place k).ahead nothing_ahead
+    (omega (arith, length-map nodes (λ (n : Node). n.ahead)))
+
+-- what is ahead of some messages and of others is ahead of these and of those
+pub joined-both : (a b : First) → joined a b ≡ joined b a
+joined-both a b =
+    let first : min a.first b.first ≡ min b.first a.first = omega arith in
+    let wake : min a.wake b.wake ≡ min b.wake a.wake = omega arith in
+    rw (first, wake) refl
+
+joined-swap : (a b c : First) → joined (joined a b) c ≡ joined (joined a c) b
+joined-swap a b c =
+    let first : min (min a.first b.first) c.first ≡ min (min a.first c.first) b.first = omega arith in
+    let wake : min (min a.wake b.wake) c.wake ≡ min (min a.wake c.wake) b.wake = omega arith in
+    rw (first, wake) refl
+
+-- what more is ahead of one of some places is ahead of all of these
+among_raised : (old new : List Node) (from n i : ℕ) (more : First) → i < n
+    → ahead_at new (from + i) ≡ joined (ahead_at old (from + i)) more
+    → ((k : ℕ) → k < n → k ≢ i → ahead_at new (from + k) ≡ ahead_at old (from + k))
+    → ahead_among new from n ≡ joined (ahead_among old from n) more
+among_raised old new from zero i more h here others = absurd (omega (arith, h))
+among_raised old new from (suc n) i more h here others =
+    let mine = ahead_among old from n in
+    let last = ahead_at old (from + n) in
+    elim (cases_lt i n) [
+      | inl before ↦
+          let less = among_raised old new from n i more before here (λ k g apart. others k (omega (arith, g)) apart) in
+          let same = others n (omega arith) (λ e. omega (arith, e, before)) in
+          ap (λ a. joined a (ahead_at new (from + n))) less ∙ ap (joined (joined mine more)) same
+          ∙ joined-swap mine more last
+      | inr not ↦
+          let at : i ≡ n = omega (arith, h, not) in
+          let Raised : ℕ → Type 0 = λ k. ahead_at new (from + k) ≡ joined (ahead_at old (from + k)) more in
+          let less = among_same old new from n (λ k g. others k (omega (arith, g)) (λ e. omega (arith, e, g, at))) in
+          ap (λ a. joined a (ahead_at new (from + n))) less ∙ ap (joined mine) (subst Raised at here)
+          ∙ joined-assoc mine last more
+    ]
+
+-- so the place above lacks the same
+pub raised_above : (nodes : List Node) (place : ℕ) (k : Progress) (more : First) → place < length nodes → 0 < place
+    → own_at nodes place ≡ own k → IsTreeWithout nodes place more
+    → IsTreeWithout (put_in nodes place k) ((place - 1) / 8) more
+raised_above nodes place k more h some mine was =
+    let up = (place - 1) / 8 in
+    let i = (place - 1) % 8 in
+    let new = put_in nodes place k in
+    let is : place ≡ up * 8 + 1 + i = omega (arith, some) in
+    let apart : up ≢ place = λ e. omega (arith, e, some) in
+    let here : ahead_at new place ≡ joined (ahead_at nodes place) more =
+    put_here nodes place k h ∙ ap (with_below nodes place) (sym mine) ∙ sym was.here in
+    let Raised : ℕ → Type 0 = λ j. ahead_at new j ≡ joined (ahead_at nodes j) more in
+    let below : ahead_below new up ≡ joined (ahead_below nodes up) more =
+    below_is new up ∙ among_raised nodes new (up * 8 + 1) 8 i more (omega arith) (subst Raised is here)
+    (λ j g other. put_others nodes place k (up * 8 + 1 + j) (λ e. other (omega (arith, e, is))))
+    ∙ ap (λ a. joined a more) (sym (below_is nodes up)) in
+    let node = was.others up apart in
+    let own_same = put_own nodes place k up apart in
+    record {
+      others = put_above nodes place k h some was.others;
+      here = ap (λ a. joined a more) (put_others nodes place k up apart ∙ node)
+          ∙ sym (joined-assoc (own_at nodes up) (ahead_below nodes up) more)
+          ∙ ap (joined (own_at nodes up)) (sym below)
+          ∙ ap (λ a. joined a (ahead_below new up)) (sym own_same);
+    }

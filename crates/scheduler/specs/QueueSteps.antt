@@ -150,6 +150,11 @@ IsTree nodes = (place : ℕ) → IsNode nodes place
 abbrev pub IsTreeBut : List Node → ℕ → Type 0
 IsTreeBut nodes but = (place : ℕ) → place ≢ but → IsNode nodes place
 
+-- of what is ahead of one place this alone is missing, and elsewhere all is right
+pub record IsTreeWithout (nodes : List Node) (place : ℕ) (more : First) : Type 0 where
+  pub others : IsTreeBut nodes place
+  pub here : joined (ahead_at nodes place) more ≡ with_below nodes place (own_at nodes place)
+
 -- the place with this message
 abbrev pub node_with : List Node → ℕ → Progress → Node
 node_with nodes place k = record { kept = k; ahead = with_below nodes place (own k) }

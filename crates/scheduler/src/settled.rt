@@ -10,7 +10,7 @@ ghost use Rattle.scheduler.specs.QueueSteps.{AreSettled, HasEnded, HasNoMore, Ha
 
 use crate::plan::{Item, Refused};
 use crate::progress::Progress;
-use crate::tournament::{Node, ahead_below, find, lift, play, stop_at};
+use crate::tournament::{Node, ahead_below, find, play, raise, stop_at};
 use crate::turn::First;
 
 /// How many messages the tree holds at the least before some are taken out of it.
@@ -107,7 +107,7 @@ pub(crate) fn push(nodes: &mut Vec<Node>, past: usize, item: Item) -> Result<(),
     match nodes.push(Node { kept, ahead }) {
         Ok(()) => {
             let (_, later) = nodes.as_mut_slice().split_at_mut(past);
-            lift(later, place - past);
+            raise(later, place - past, kept.own());
             Ok(())
         }
         Err(_) => Err(Refused),

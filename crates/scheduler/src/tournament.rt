@@ -9,7 +9,7 @@ ghost use Rattle.std.specs.Prelude.{Option, Some, None, slice_index_or};
 ghost use Rattle.scheduler.specs.PlanSteps.{IsChoice, after_slot, scheduled_stopped};
 ghost use Rattle.scheduler.specs.declared.tournament.Node.{Node};
 ghost use Rattle.scheduler.specs.QueueSteps.{ahead_among, ahead_at, ahead_below, kept_in, seen_in};
-ghost use Rattle.scheduler.specs.QueueSteps.{IsNode, IsTree, HasTurn};
+ghost use Rattle.scheduler.specs.QueueSteps.{IsNode, IsTree, IsTreeWithout, HasTurn};
 ghost use Rattle.scheduler.specs.QueueSteps.{IsTreeBut, KeepsNodesBut, own, own_at, IsRight, IsPlaceOf, IsFoundTurn};
 ghost use Rattle.scheduler.specs.QueueSteps.{AreRising};
 ghost use Rattle.scheduler.specs.QueueSteps.{AreKeptInOrder, AreListed, AreDue, renewed_node};
@@ -99,8 +99,10 @@ pub(crate) fn ahead_below(nodes: &[Node], place: usize) -> First
     if place * BELOW + BELOW < nodes.len() {
         return ahead_of_eight(nodes, place);
     }
-    for below in 0..BELOW {
-        ahead = ahead.joined(ahead_at(nodes, place * BELOW + 1 + below));
+    // the others of the eight are past the end
+    let first = place * BELOW + 1;
+    for below in 0..nodes.len().saturating_sub(first) {
+        ahead = ahead.joined(nodes[first + below].ahead);
     }
     ahead
 }
@@ -120,6 +122,25 @@ pub(crate) fn lift(nodes: &mut [Node], place: usize)
     nodes[place].ahead = ahead;
     if place > 0 {
         lift(nodes, (place - 1) / BELOW);
+    }
+}
+
+/// Puts what is missing ahead of a place, and of those above it, up to one of which nothing is: what is added needs no
+/// look at the other places.
+pub(crate) fn raise(nodes: &mut [Node], place: usize, more: First)
+    requires within { place < length nodes.old }
+    requires missing { IsTreeWithout nodes.old place more }
+    ensures kept { kept_in nodes.new ≡ kept_in nodes.old }
+    ensures tree { IsTree nodes.new }
+{
+    let old = nodes[place].ahead;
+    let ahead = old.joined(more);
+    if ahead.is(old) {
+        return;
+    }
+    nodes[place].ahead = ahead;
+    if place > 0 {
+        raise(nodes, (place - 1) / BELOW, more);
     }
 }
 
@@ -214,12 +235,12 @@ fn list_below(nodes: &[Node], listed: &mut [usize], count: usize, place: usize, 
     if place * BELOW + BELOW < nodes.len() {
         return list_eight(nodes, listed, count, place, slot);
     }
-    for below in 0..BELOW {
-        let child = place * BELOW + 1 + below;
-        if child < nodes.len() {
-            let is_due = nodes[child].ahead.wake <= u32::from(slot);
-            found = list_place(listed, found, child, is_due);
-        }
+    // the others of the eight are past the end
+    let first = place * BELOW + 1;
+    for below in 0..nodes.len().saturating_sub(first) {
+        let child = first + below;
+        let is_due = nodes[child].ahead.wake <= u32::from(slot);
+        found = list_place(listed, found, child, is_due);
     }
     found
 }
@@ -316,11 +337,15 @@ fn stands_at(nodes: &[Node], place: usize, entry: u16) -> bool
     place < nodes.len() && nodes[place].kept.scheduled.item.entry == entry
 }
 
-/// The place at which the message of `entry` stands if all numbers from the first message's on were given to messages.
+/// The place at which the message of `entry` stands if all numbers from its own to the last message's were given to
+/// messages: most of those that are looked for were added of late.
 fn likely_place(nodes: &[Node], entry: u16) -> usize {
-    match nodes.first() {
+    match nodes.last() {
         None => 0,
-        Some(first) => usize::from(entry.saturating_sub(first.kept.scheduled.item.entry)),
+        Some(last) => {
+            let later = last.kept.scheduled.item.entry.saturating_sub(entry);
+            (nodes.len() - 1).saturating_sub(usize::from(later))
+        }
     }
 }
 

@@ -1,4 +1,4 @@
-use Rattle.std.proofs.Common.{◌≡◌, ◌==◌, List, arith, map, ap, subst, sym, ◌∙◌}
+use Rattle.std.proofs.Common.{◌==◌, List, arith, map, ap, subst, sym, ◌∙◌}
 use Rattle.std.specs.List.{All}
 use Rattle.scheduler.specs.declared.scheduled.Scheduled.{Scheduled}
 use Rattle.scheduler.specs.declared.tournament.Node.{Node}
