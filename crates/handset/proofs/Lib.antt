@@ -3,6 +3,7 @@ pub mod BlockLaws
 pub mod PageLaws
 pub mod NamedPages
 pub mod ReadingLaws
+pub mod WholePages
 pub mod Repeats
 pub mod TapeLaws
 pub mod TapeExtents

@@ -10,12 +10,11 @@ use Rattle.cbs_page.specs.Page.{view_of, is_readable}
 use Rattle.handset.specs.Reception.{Name, name_of, block_type, page_octets, page_types, pages_read, readable_pages}
 use Rattle.handset.specs.Reception.{page_in_front, is_of, pages_of, agreeing, agrees_with}
 use Rattle.handset.specs.Keeping.{HandsetState, kept_of, AreKept, HasRead, is_numbered}
-use Rattle.handset.specs.KeepingSteps.{counts, agrees_with_first, message_ended_read, page_ended}
-use Rattle.handset.specs.KeepingSteps.{under_way_with, TakesPage, IsPageAgain}
+use Rattle.handset.specs.KeepingSteps.{counts, agrees_with_first, message_ended_read, TakesPage, IsPageAgain}
 use Rattle.handset.proofs.Lists.{first_in, first_in-filter}
-use Rattle.handset.proofs.BlockLaws.{ends_none, pages_read-page}
+use Rattle.handset.proofs.BlockLaws.{pages_read-page}
 use Rattle.handset.proofs.PageLaws.{is_of-own}
-use Rattle.handset.proofs.ReadingLaws.{reads_none, reads_page}
+use Rattle.handset.proofs.WholePages.{four, reads_four, TookPage}
 
 -- the page is one of these
 abbrev Came : PageView → List PageView → Type 0
@@ -112,10 +111,6 @@ shown-once pages blocks page are came =
       | inr passed ↦ rw passed refl
     ]
 
--- the four blocks of a page
-abbrev pub four : (first second third last : List ℕ) → List (List ℕ)
-four first second third last = first ∷ second ∷ third ∷ last ∷ []
-
 -- the four blocks of a page right after the same four change nothing of what a handset keeps
 pub reads_again : (handset : HandsetState) (front : List (List ℕ)) (first second third last : List ℕ)
     → handset.under_way ≡ [] → block_type first ≡ 0x20 → block_type second ≡ 0x21 → block_type third ≡ 0x22
@@ -128,31 +123,14 @@ reads_again handset front first second third last none one two three end read =
     pages_read-page first second third last [] one two three end in
     let came : Came page (pages_read blocks) = came-read front (four first second third last) page
     (subst (Came page) (sym once) (inl refl)) in
-    let begun : HandsetState = record handset { under_way = first ∷ [] } in
-    let second_read : HandsetState = record handset { under_way = first ∷ second ∷ [] } in
-    let third_read : HandsetState = record handset { under_way = first ∷ second ∷ third ∷ [] } in
-    let after_first : HasRead begun (blocks ++ first ∷ []) = reads_none handset begun blocks first
-    (ends_none first ∙ ap (λ k. page_ended k first) (sym none))
-    (let is : first ∷ [] ≡ under_way_with [] first = simp one refl in
-    is ∙ ap (λ k. under_way_with k first) (sym none)) refl refl read in
-    let after_second : HasRead second_read ((blocks ++ first ∷ []) ++ second ∷ []) =
-    reads_none begun second_read (blocks ++ first ∷ []) second (simp two refl) (simp two refl) refl refl after_first in
-    let after_third : HasRead third_read (((blocks ++ first ∷ []) ++ second ∷ []) ++ third ∷ []) =
-    reads_none second_read third_read ((blocks ++ first ∷ []) ++ second ∷ []) third (simp three refl)
-    (simp three refl) refl refl after_second in
-    let after_last : HasRead handset ((((blocks ++ first ∷ []) ++ second ∷ []) ++ third ∷ []) ++ last ∷ []) =
-    reads_page third_read handset (((blocks ++ first ∷ []) ++ second ∷ []) ++ third ∷ []) last page (simp end refl)
-    (none ∙ (let is : [] ≡ under_way_with (first ∷ second ∷ third ∷ []) last = simp end refl in is))
-    (kept-once handset.pages blocks page read.pages came)
-    (sym (append-nil handset.shown)
-    ∙ ap (λ more. handset.shown ++ more) (sym (shown-once handset.pages blocks page read.pages came)))
-    after_third in
-    let joined : (((blocks ++ first ∷ []) ++ second ∷ []) ++ third ∷ []) ++ last ∷ []
-    ≡ blocks ++ four first second third last =
-    append_assoc ((blocks ++ first ∷ []) ++ second ∷ []) (third ∷ []) (last ∷ [])
-    ∙ append_assoc (blocks ++ first ∷ []) (second ∷ []) (third ∷ last ∷ [])
-    ∙ append_assoc blocks (first ∷ []) (second ∷ third ∷ last ∷ []) in
-    subst (HasRead handset) joined after_last
+    let took : TookPage handset handset page = record {
+      none = none;
+      pages = kept-once handset.pages blocks page read.pages came;
+      shown =
+          sym (append-nil handset.shown)
+          ∙ ap (λ more. handset.shown ++ more) (sym (shown-once handset.pages blocks page read.pages came));
+    } in
+    reads_four handset handset blocks first second third last none one two three end took read
 
 -- the same of four blocks of which only the types are known
 types_again : (handset : HandsetState) (front page : List (List ℕ)) → handset.under_way ≡ []

@@ -6,6 +6,8 @@ use Rattle.std.specs.List.{flat_map, list_all, range_with_len}
 use Rattle.cbs_page.specs.declared.octets.PageView.{PageView}
 use Rattle.cbs_page.specs.Page.{view_of, is_readable}
 use Rattle.cbs_page.specs.Text.{text_of_page}
+use Rattle.handset.specs.declared.pages.Kept.{Kept}
+use Rattle.handset.specs.declared.pages.Kept.TheVariants as kept
 use Rattle.handset.specs.Reception.{block_type, page_types, page_octets, Name, name_of, is_of, agrees_with}
 use Rattle.handset.specs.Reception.{ShownMessage}
 use Rattle.handset.specs.Keeping.{is_numbered, kept_of}
@@ -32,6 +34,11 @@ abbrev pub counts : List PageView → PageView → Bool
 counts pages page =
     not (is_some (find (is_numbered (name_of page) page.number) pages))
     && agrees_with_first (find (is_of (name_of page)) pages) page
+
+-- the pages of a message that are kept
+abbrev pub pages_in : Kept → List PageView
+pages_in (kept.One page) = page ∷ []
+pages_in (kept.More pages) = pages.items
 
 -- the name that a pair of an identifier and a serial number is
 abbrev pub name_at : ℕ × ℕ → Name

@@ -1,13 +1,14 @@
 //! The handset: what it keeps of the blocks that it has read. A contract sees no more of that than whether it stands
 //! for a list of blocks (`HasRead`).
 
-ghost use Rattle.std.specs.Prelude.{◌≡◌, ◌≤◌, ◌+◌, ◌++◌, ◌∷◌, [], ℕ, List, length, take, IfOk, IsTrue, OnErr, OnOk};
+ghost use Rattle.std.specs.Prelude.{◌≡◌, ◌≤◌, ◌<◌, ◌+◌, ◌++◌, ◌∷◌, [], ℕ, List, length, take, IfOk, IfSome, IsTrue};
+ghost use Rattle.std.specs.Prelude.{OnErr, OnOk};
 ghost use Rattle.std.specs.Option.{option_to_list};
 ghost use Rattle.handset.specs.Keeping.{HasRead, kept_of, messages_shown};
 ghost use Rattle.handset.specs.KeepingSteps.{TakesPage, message_ended_read};
-ghost use Rattle.handset.specs.Reception.{name_of, shown_in};
+ghost use Rattle.handset.specs.Reception.{name_of, page_in_front, shown_in};
 
-use crate::blocks::{PartialPage, is_page_again};
+use crate::blocks::{PartialPage, is_page_again, page_in_front};
 use crate::messages::{Refused, Shown, is_counted, message_if_complete};
 use crate::pages::Pages;
 use cbs_page::PageView;
@@ -121,18 +122,45 @@ impl Handset {
     {
         let mut place = 0;
         while place < blocks.len() {
-            let block = &blocks[place];
             // Most blocks are those of idle slots, and one look at each is enough; many pages are those before them.
-            if self.passes_over(block) {
+            if self.passes_over(&blocks[place]) {
                 place += 1;
             } else if self.repeats(blocks, place) {
                 place += 4;
             } else {
-                self.accept(block)?;
-                place += 1;
+                place += self.accept_next(blocks, place)?;
             }
         }
         Ok(())
+    }
+
+    /// Reads the block at a place, or the four of the page that stands there, and returns how many they are. Pages
+    /// seldom lie otherwise, and four blocks that are at hand need not be put aside one by one. The only error is out
+    /// of memory.
+    fn accept_next(&mut self, blocks: &[[u8; 23]], place: usize) -> Result<usize, Refused>
+        requires { place < length blocks.now }
+        ensures within { IfOk result (λ count. (0 < count) × (place + count ≤ length blocks.now)) }
+        ensures read { IfOk result (λ count. (before : List (List ℕ))
+            → HasRead self.old (before ++ take place blocks.now)
+            → HasRead self.new (before ++ take (place + count) blocks.now)) }
+    {
+        if let Some(page) = self.page_ahead(&blocks[place..]) {
+            take(self.alloc, &mut self.pages, &mut self.shown, &page)?;
+            return Ok(4);
+        }
+        self.accept(&blocks[place])?;
+        Ok(1)
+    }
+
+    /// The page that stands at the front of some blocks, if none is under way.
+    fn page_ahead(&self, blocks: &[[u8; 23]]) -> Option<PageView>
+        ensures { IfSome result (λ page. (self.now.under_way ≡ []) × (page ∷ [] ≡ page_in_front blocks.now)) }
+    {
+        if self.partial.is_empty() {
+            page_in_front(blocks)
+        } else {
+            None
+        }
     }
 
     /// Whether the four blocks at a place are a page that was read right before it: reading it again changes nothing.
@@ -183,11 +211,12 @@ fn take(
     if !is_counted(kept, page) {
         return Ok(());
     }
+    let is_first = kept.is_empty();
     match message_if_complete(alloc, kept, page)? {
-        None => pages.push(page),
+        None => pages.push(page, is_first),
         Some(message) => {
             shown.reserve(1)?;
-            pages.push(page)?;
+            pages.push(page, is_first)?;
             shown.push_reserved(message);
             Ok(())
         }

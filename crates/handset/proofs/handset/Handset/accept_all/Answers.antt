@@ -12,10 +12,7 @@ one_more before blocks i within =
 
 pub loop-place-preserved : goal.loop-place-preserved
 loop-place-preserved c before read =
-    let place : ℕ = c.loop-place.place in
-    let blocks : List (List ℕ) = c.args.blocks.now in
-    subst (HasRead c.accept.new.self) (one_more before blocks place c.loop-place-test.true)
-    (c.in_ok-accept.ensures.read (before ++ take place blocks) (c.loop-place.invariant before read))
+    c.in_ok-place.ensures.read before (c.loop-place.invariant before read)
 
 pub loop-place-preserved-then-passes_over : goal.loop-place-preserved-then-passes_over
 loop-place-preserved-then-passes_over c before read =

@@ -9,7 +9,7 @@ use Rattle.handset.proofs.pages.Pages.of_message.Goals as goal
 
 pub returns-in-Some-clause-pages : goal.returns-in-Some-clause-pages
 returns-in-Some-clause-pages c =
-    c.deref.ensures.value ∙ ap found_items c.in-Some.ensures.value
+    c.as_slice.ensures ∙ ap found_items c.in-Some.ensures.value
     ∙ ap (λ n. found_items (lookup (same_key (c.args.page.now.id, n)) c.self.inside.by_name.entries)) c.number.ensures
     ∙ sym (kept_is c.self.inside.by_name.entries (name_of c.args.page.now))
     ∙ ap (λ pages. kept_of pages (name_of c.args.page.now)) c.self.view_is
@@ -20,7 +20,7 @@ returns-in-Some-clause-readable c =
     kept_is c.self.inside.by_name.entries (name_of c.args.page.now)
     ∙ ap (λ n. found_items (lookup (same_key (c.args.page.now.id, n)) c.self.inside.by_name.entries))
     (sym c.number.ensures)
-    ∙ ap found_items (sym c.in-Some.ensures.value) ∙ sym c.deref.ensures.value in
+    ∙ ap found_items (sym c.in-Some.ensures.value) ∙ sym c.as_slice.ensures in
     subst (All (λ (p : PageView). IsTrue (is_readable p))) same (c.self.invariant (name_of c.args.page.now))
 
 pub returns-in-None-clause-pages : goal.returns-in-None-clause-pages
