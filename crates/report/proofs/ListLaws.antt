@@ -1,6 +1,7 @@
 -- Lists, one step further.
-use Rattle.std.proofs.Common.{◌≡◌, ℕ, ◌+◌, ◌<◌, List, [], ◌∷◌, ◌++◌, length, take, sym}
+use Rattle.std.proofs.Common.{◌≡◌, ℕ, ◌+◌, ◌<◌, List, [], ◌∷◌, ◌++◌, length, take, drop, sym}
 use Rattle.std.proofs.Common.{◌∙◌, ap, append_assoc, append-nil, arith, slice_index_or}
+use Rattle.std.proofs.Math.Seq.{take-add}
 use Rattle.std.specs.List.{flat_map, range_with_len}
 use Rattle.std.proofs.lemmas.Grind.{flat_map-append}
 use Rattle.std.proofs.lemmas.List.{take_more}
@@ -16,6 +17,14 @@ flat_map-next f xs i item front within is =
     ∙ ap (λ ys. front ++ ys) (sym (flat_map-append f (take i xs) (item ∷ [])))
     ∙ ap (λ x. front ++ flat_map f (take i xs ++ x ∷ [])) is
     ∙ ap (λ ys. front ++ flat_map f ys) (sym (take_more xs i item within))
+
+-- and of some items more
+pub flat_map-more : {X Y : Type 0} (f : X → List Y) (xs : List X) (i count : ℕ) (front : List Y) →
+    (front ++ flat_map f (take i xs)) ++ flat_map f (take count (drop i xs)) ≡ front ++ flat_map f (take (i + count) xs)
+flat_map-more f xs i count front =
+    append_assoc front (flat_map f (take i xs)) (flat_map f (take count (drop i xs)))
+    ∙ ap (λ ys. front ++ ys) (sym (flat_map-append f (take i xs) (take count (drop i xs))))
+    ∙ ap (λ ys. front ++ flat_map f ys) (sym (take-add i count xs))
 
 range-next : (place : ℕ) → range_with_len 0 (place + 1) ≡ range_with_len 0 place ++ place ∷ []
 range-next place =

@@ -1,5 +1,5 @@
 -- The first stops of messages, as the entries of a log are read from the last one on.
-use Rattle.std.proofs.Common.{◌≡◌, ℕ, Bool, true, false, cond, Option, Some, None, List, ◌∷◌, find}
+use Rattle.std.proofs.Common.{◌≡◌, ℕ, Bool, true, false, cond, Option, Some, None, List, [], ◌∷◌, find}
 use Rattle.std.proofs.Common.{refl, sym, ◌∙◌, ap, eqb}
 use Rattle.std.specs.Prelude.{◌&&◌}
 use Rattle.std.specs.Map.{lookup}
@@ -11,7 +11,7 @@ use Rattle.bsc_table.specs.declared.entry.Answer.{Answer}
 use Rattle.bsc_table.specs.declared.entry.Answer.TheVariants as answers
 use Rattle.bsc_table.specs.declared.entry.Entry.{Entry}
 use Rattle.bsc_table.specs.Record.{is_stop_by, is_stop_of}
-use Rattle.report.specs.RowSteps.{Pair, is_pair, stopped_by_answer, stopped_pair, stop_in, AreStops}
+use Rattle.report.specs.RowSteps.{Pair, is_pair, stopped_by_answer, stopped_pair, stop_in, stop_of_command, AreStops}
 
 -- whether the pair that was stopped, if one was, is this one
 abbrev names : Pair → Option Pair → Bool
@@ -79,3 +79,11 @@ stops-more old new e later named is updated are pair =
     ∙ ap (λ (here : Bool). cond here (Some e.slot) (stop_in later pair))
     (pair-symm named pair ∙ sym (stops_by pair e (Some named) is))
     ∙ sym (found_more (is_stop_of pair.0 pair.1 e) e (find (is_stop_of pair.0 pair.1) later))
+
+-- where a map has no stop, no message was stopped
+pub stops-nothing : (entries : List (Pair × ℕ)) (later : List Entry) (command : Command) → entries ≡ [] →
+    AreStops entries later → None ≡ stop_of_command later command
+stops-nothing entries later (commands.Write id serial replaces category period broadcasts dcs contents) none are =
+    sym (ap (lookup (is_pair (id, serial))) none) ∙ are (id, serial)
+stops-nothing entries later (commands.Kill id serial) none are = refl
+stops-nothing entries later (commands.Status id serial) none are = refl

@@ -24,8 +24,9 @@ pub fn text_of(alloc: Global, headed: bool, rows: &[Row]) -> Result<Vec<u8>, All
     ensures { IfOk result (λ octets. octets.items ≡ part_text headed rows.now) }
 {
     let mut table = Table::new(alloc, headed)?;
-    for row in rows {
-        table.push(row)?;
+    let mut place = 0;
+    while place < rows.len() {
+        place += table.push_cell(&rows[place..])?;
     }
     table.into_octets()
 }

@@ -52,10 +52,14 @@ impl Stops {
         })
     }
 
-    /// The stop of the message of a command, if it is a write and its message was stopped.
+    /// The stop of the message of a command, if it is a write and its message was stopped. Most logs stop few messages,
+    /// so that mostly there is none to look for.
     fn of(&self, command: &Command) -> Option<u16>
         ensures { (later : List Entry) → AreStops self.now later → result ≡ stop_of_command later command.now }
     {
+        if self.by_pair.is_empty() {
+            return None;
+        }
         match command {
             Command::Write { id, serial, .. } => self.by_pair.get(&(*id, serial.number())).copied(),
             Command::Kill { .. } => None,

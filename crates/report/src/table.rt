@@ -1,6 +1,8 @@
 //! A report's text, in memory.
 
-ghost use Rattle.std.specs.Prelude.{◌≡◌, ℕ, List, [], ◌∷◌, ◌++◌, codes, map, IfOk, OnOk};
+ghost use Rattle.std.specs.Prelude.{◌≡◌, ◌<◌, ◌≤◌, ℕ, List, [], ◌∷◌, ◌++◌, codes, length, map, take, IfOk, OnOk};
+ghost use Rattle.std.specs.Fmt.{decimal};
+ghost use Rattle.std.specs.List.{flat_map};
 ghost use Rattle.hex.specs.Hex.{encode_lower};
 ghost use Rattle.report.specs.ReportText.{header_line, line, part_text, row_line, serial_text, showing_text};
 
@@ -79,39 +81,70 @@ impl Table {
         }
     }
 
-    /// Appends the line of a row.
+    /// Appends the lines of the rows at the front that are of one cell, and returns how many they are. The cell's
+    /// numbers are written once for all of them, and on the stack, as a row's other numbers are: memory for each would
+    /// take longer than all else.
     ///
     /// # Errors
     ///
     /// Out of memory.
-    pub fn push(&mut self, row: &Row) -> Result<(), AllocError>
+    pub fn push_cell(&mut self, rows: &[Row]) -> Result<usize, AllocError>
+        requires { 0 < length rows.now }
+        ensures within { IfOk result (λ count. (0 < count) × (count ≤ length rows.now)) }
+        ensures lines { IfOk result (λ count. (octets : List ℕ) → IsTable self.old octets
+            → IsTable self.new (octets ++ flat_map row_line (take count rows.now))) }
+    {
+        let lac = rows[0].lac;
+        let ci = rows[0].ci;
+        let mut lac_buffer = Buffer::new();
+        let mut ci_buffer = Buffer::new();
+        let lac_text = lac_buffer.format(lac);
+        let ci_text = ci_buffer.format(ci);
+        self.push(lac_text, ci_text, &rows[0])?;
+        let mut count = 1;
+        while count < rows.len() && rows[count].lac == lac && rows[count].ci == ci {
+            self.push(lac_text, ci_text, &rows[count])?;
+            count += 1;
+        }
+        Ok(count)
+    }
+
+    /// Appends the line of a row, of whose cell these are the numbers. The only error is out of memory.
+    fn push(&mut self, lac: &str, ci: &str, row: &Row) -> Result<(), AllocError>
+        requires lac { lac.now ≡ decimal row.now.lac }
+        requires ci { ci.now ≡ decimal row.now.ci }
         ensures { OnOk result ((octets : List ℕ) → IsTable self.old octets
             → IsTable self.new (octets ++ row_line row.now)) }
     {
         match row.shown {
-            Showing::Yes => self.push_shown(row, b"yes"),
-            Showing::No => self.push_shown(row, b"no"),
-            Showing::Refused(cause) => self.push_shown(row, &refused_text(cause)),
+            Showing::Yes => self.push_shown(lac, ci, row, b"yes"),
+            Showing::No => self.push_shown(lac, ci, row, b"no"),
+            Showing::Refused(cause) => self.push_shown(lac, ci, row, &refused_text(cause)),
         }
     }
 
-    /// Appends the line of a row, whose last column has this text. The other fields are made on the stack: memory for
-    /// each would take longer than all else.
-    fn push_shown(&mut self, row: &Row, shown: &[u8]) -> Result<(), AllocError>
-        requires { shown.now ≡ showing_text row.now.shown }
+    /// Appends the line of a row, whose last column has this text.
+    fn push_shown<'a>(
+        &mut self,
+        lac: &'a str,
+        ci: &'a str,
+        row: &Row,
+        shown: &'a [u8],
+    ) -> Result<(), AllocError>
+        requires lac { lac.now ≡ decimal row.now.lac }
+        requires ci { ci.now ≡ decimal row.now.ci }
+        requires shown { shown.now ≡ showing_text row.now.shown }
         ensures { OnOk result ((octets : List ℕ) → IsTable self.old octets
             → IsTable self.new (octets ++ row_line row.now)) }
     {
-        let mut lac = Buffer::new();
-        let mut ci = Buffer::new();
         let mut id = Buffer::new();
         let serial = serial_text(row.serial);
         let mut start = Buffer::new();
         let mut end = Buffer::new();
         let mut completed = Buffer::new();
         self.push_line(&[
-            lac.format(row.lac).as_bytes(),
-            ci.format(row.ci).as_bytes(),
+            lac.as_bytes(),
+            ci.as_bytes(),
             id.format(row.id).as_bytes(),
             &serial,
             start.format(row.start).as_bytes(),
