@@ -13,7 +13,7 @@ use Rattle.book_runs.proofs.Lists.{any_left, any_mapped, any_right, any_weaker}
 -- a stop of a message leaves it that write's
 still : (e : Entry) (a : Accepted) (command : Command) (start : Option ℕ) → IsWriteBy a command start
     → IsWriteBy (stopped_by e a) command start
-still e a (commands.Write id serial replaces category period broadcasts dcs contents) start by = by
+still e a (commands.Write id serial replaces category dcs period broadcasts contents) start by = by
 still e a (commands.Kill id serial) start by = by
 still e a (commands.Status id serial) start by = by
 
@@ -31,7 +31,7 @@ stays command start all place (e ∷ later) some =
 -- a write's entry adds its message
 adds : (all : List Accepted) (place slot start : ℕ) (command : Command) → IsWrite command
     → Any (λ a. IsWriteBy a command (Some start)) (added_by all place slot (Some start) command)
-adds all place slot start (commands.Write id serial replaces category period broadcasts dcs contents) write =
+adds all place slot start (commands.Write id serial replaces category dcs period broadcasts contents) write =
     (0, _, omega arith, refl, (refl, refl, refl, refl))
 adds all place slot start (commands.Kill id serial) write = absurd write
 adds all place slot start (commands.Status id serial) write = absurd write

@@ -59,7 +59,7 @@ order_asks : (m : Message) (cells : List Cell) (command : Command) → order_of 
     → cells ≡ cells_asked m
 order_asks (messages.Write id new old named channel category period broadcasts dcs contents) cells command order =
     sym (of_category (category_of category) cells named channel command
-    (λ c. commands.Write id new old c period broadcasts dcs contents) order)
+    (λ c. commands.Write id new old c dcs period broadcasts contents) order)
 order_asks (messages.Kill id old named channel) cells command order =
     sym (of_channel channel cells named command (commands.Kill id old) order)
 order_asks (messages.WriteDone a b c d e f) cells command order = absurd (cc)

@@ -64,8 +64,8 @@ sent_as laws a start order
     (messages.Write id new old asked channel category period broadcasts dcs contents) cells command utf8 sent serial is
     by =
     let found = written (category_of category) (λ known. if_basic_channel channel asked
-    (commands.Write id new old known period broadcasts dcs contents)) cells command is in
-    let asks : Command = commands.Write id new old found.0 period broadcasts dcs contents in
+    (commands.Write id new old known dcs period broadcasts contents)) cells command is in
+    let asks : Command = commands.Write id new old found.0 dcs period broadcasts contents in
     let same : asks ≡ command = basic channel asked cells asks command found.1 in
     let first : IsWriteBy a asks start = subst (λ (c : Command). IsWriteBy a c start) (sym same) by in
     let text : IsUtf8 sent.0.text = utf8 sent.0 sent.2 in

@@ -87,7 +87,7 @@ abbrev write : (id serial : ℕ) (old : Option ℕ) (cells : List Cell) (dcs : D
 write id serial old cells dcs contents = messages.Write id serial old cells None (Some 2) 4 0 dcs contents
 
 abbrev asks : (id serial : ℕ) (old : Option ℕ) (dcs : Dcs) (contents : List Content) → Command
-asks id serial old dcs contents = commands.Write id serial old Normal 4 0 dcs contents
+asks id serial old dcs contents = commands.Write id serial old Normal dcs 4 0 contents
 
 abbrev request : (row at number : ℕ) (version : Option ℕ) (message : Message) → Request
 request row at number version message =

@@ -109,7 +109,7 @@ abbrev pub answer_with_room : ℕ → List Entry → Air → ℕ → Command →
 answer_with_room slots log air slot (commands.Status id serial) = status_answer air slot (message_named id serial log)
 answer_with_room slots log air slot (commands.Kill id serial) = before_end slots slot
     (answer_to_kill log air slot id serial)
-answer_with_room slots log air slot (commands.Write id serial replaces category period broadcasts dcs contents) =
+answer_with_room slots log air slot (commands.Write id serial replaces category dcs period broadcasts contents) =
     before_end slots slot (answer_to_write log air slot id serial replaces category (load_of (length contents) period))
 
 -- the answer to a command at a slot of a run of so many slots, by the entries before it and what is aired

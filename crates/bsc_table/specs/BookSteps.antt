@@ -112,7 +112,7 @@ pub record IsOffered (r : Record) (a : Accepted) : Type 0 where
 
 -- a write of that message, in the place of the one of this serial number or of none
 abbrev pub IsWriteOf : Accepted → Option ℕ → Command → Type 0
-IsWriteOf a replaced (commands.Write id serial replaces category period broadcasts dcs contents) =
+IsWriteOf a replaced (commands.Write id serial replaces category dcs period broadcasts contents) =
     (replaces ≡ replaced)
     × (write_message a.message.entry a.accepted a.message.start a.behind a.excess id serial (length contents) period
     broadcasts (rank_of category) ≡ a)

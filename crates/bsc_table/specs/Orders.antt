@@ -17,7 +17,7 @@ use Rattle.bsc_table.specs.declared.command.Command.TheVariants as commands
 
 -- a write, which alone has contents
 abbrev pub IsWrite : Command → Type 0
-IsWrite (commands.Write id serial replaces category period broadcasts dcs contents) = ⊤
+IsWrite (commands.Write id serial replaces category dcs period broadcasts contents) = ⊤
 IsWrite (commands.Kill id serial) = ⊥
 IsWrite (commands.Status id serial) = ⊥
 
@@ -34,7 +34,7 @@ pub record IsBroadcastable (period : ℕ) (dcs : Dcs) (contents : List Content) 
 
 -- a command that such a message can ask for
 abbrev pub IsWellFormed : Command → Type 0
-IsWellFormed (commands.Write id serial replaces category period broadcasts dcs contents) = IsBroadcastable period dcs
+IsWellFormed (commands.Write id serial replaces category dcs period broadcasts contents) = IsBroadcastable period dcs
     contents
 IsWellFormed (commands.Kill id serial) = ⊤
 IsWellFormed (commands.Status id serial) = ⊤
@@ -69,6 +69,6 @@ if_category_known (Some category) order = order category
 abbrev pub order_of : Message → Result (List Cell × Command) ℕ
 order_of (messages.Write id new_serial old_serial cells channel category period broadcasts dcs contents) =
     if_category_known (category_of category) (λ known. if_basic_channel channel cells
-    (commands.Write id new_serial old_serial known period broadcasts dcs contents))
+    (commands.Write id new_serial old_serial known dcs period broadcasts contents))
 order_of (messages.Kill id old_serial cells channel) = if_basic_channel channel cells (commands.Kill id old_serial)
 order_of reply = Err UNRECOGNISED_MESSAGE

@@ -70,7 +70,7 @@ is_background_category Background = true
 abbrev pub is_stop_by : ℕ → ℕ → Command → Answer → Bool
 is_stop_by id serial (commands.Kill of_id of_serial) (answers.Stopped completed) = (id == of_id) &&
     (serial == of_serial)
-is_stop_by id serial (commands.Write of_id new (Some of_serial) category period broadcasts dcs contents)
+is_stop_by id serial (commands.Write of_id new (Some of_serial) category dcs period broadcasts contents)
     (answers.Replaced slot completed) =
     (id == of_id) && (serial == of_serial)
 is_stop_by id serial command answer = false
@@ -147,7 +147,7 @@ written_behind all place slot start behind id serial pages period broadcasts ran
 -- the message that an entry at this place of the log and at this slot adds to those accepted before, by its start and
 -- its command: a write's that was accepted
 abbrev pub added_by : List Accepted → ℕ → ℕ → Option ℕ → Command → List Accepted
-added_by all place slot (Some start) (commands.Write id serial replaces category period broadcasts dcs contents) =
+added_by all place slot (Some start) (commands.Write id serial replaces category dcs period broadcasts contents) =
     let behind = predecessor_of slot start (replaced_in all id replaces) in
     written_behind all place slot start behind id serial (length contents) period broadcasts (rank_of category) ∷ []
 added_by all place slot start command = []

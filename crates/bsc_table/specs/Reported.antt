@@ -21,7 +21,7 @@ completed_in other = None
 
 -- the command is about the message of this pair: a write that replaces it, a kill of it, or a status of it
 abbrev pub IsAbout : ℕ → ℕ → Command → Type 0
-IsAbout id serial (commands.Write of_id new replaces category period broadcasts dcs contents) = (of_id ≡ id)
+IsAbout id serial (commands.Write of_id new replaces category dcs period broadcasts contents) = (of_id ≡ id)
     × (replaces ≡ Some serial)
 IsAbout id serial (commands.Kill of_id of_serial) = (of_id ≡ id) × (of_serial ≡ serial)
 IsAbout id serial (commands.Status of_id of_serial) = (of_id ≡ id) × (of_serial ≡ serial)

@@ -9,7 +9,7 @@ use Rattle.bsc_table.specs.Legal.{IsLegal}
 
 -- the message is this write's: it has its pair and as many pages as contents, and starts where the answer says
 abbrev pub IsWriteBy : Accepted → Command → Option ℕ → Type 0
-IsWriteBy a (commands.Write id serial replaces category period broadcasts dcs contents) start =
+IsWriteBy a (commands.Write id serial replaces category dcs period broadcasts contents) start =
     (a.id ≡ id) × (a.serial ≡ serial) × (a.message.pages ≡ length contents) × (start ≡ Some a.message.start)
 IsWriteBy a (commands.Kill id serial) start = ⊥
 IsWriteBy a (commands.Status id serial) start = ⊥
@@ -24,7 +24,7 @@ AcceptedAreWrites = (log : List Entry) (d : Entry)
 
 -- a write, with a page of this number, whose answer starts a message
 abbrev pub HasPage : ℕ → Command → Option ℕ → Type 0
-HasPage page (commands.Write id serial replaces category period broadcasts dcs contents) start =
+HasPage page (commands.Write id serial replaces category dcs period broadcasts contents) start =
     (1 ≤ page) × (page ≤ length contents) × (is_some start ≡ true)
 HasPage page (commands.Kill id serial) start = ⊥
 HasPage page (commands.Status id serial) start = ⊥

@@ -48,6 +48,8 @@ impl Category {
 }
 
 /// What a cell is asked to do.
+//
+// The fields of a write stand in an order that leaves no gaps: a log and the notes keep a command for each order.
 #[derive(Debug, PartialEq, Eq, Drop)]
 pub enum Command {
     /// Broadcast this message, in place of an older one if one is named (3GPP TS 48.049, 8.1, WRITE-REPLACE).
@@ -60,12 +62,12 @@ pub enum Command {
         replaces: Option<Serial>,
         /// The category.
         category: Category,
+        /// The data coding of the pages.
+        dcs: Dcs,
         /// The repetition period in slots, from 1.
         period: u16,
         /// The broadcasts requested; 0 asks for broadcasts until a stop.
         broadcasts: u16,
-        /// The data coding of the pages.
-        dcs: Dcs,
         /// The pages' contents, in page order.
         contents: Contents,
     },

@@ -20,7 +20,7 @@ no_entry = record { command = commands.Status 0 0; slot = 0; answer = answers.Un
 
 can_send : (page : ℕ) (command : Command) (start : Option ℕ) → HasPage page command start → IsWellFormed command
     → CanSendPage page command
-can_send page (commands.Write id serial replaces category period broadcasts dcs contents) start has formed =
+can_send page (commands.Write id serial replaces category dcs period broadcasts contents) start has formed =
     (has.0, has.1, formed.few_pages)
 can_send page (commands.Kill id serial) start has formed = absurd has
 can_send page (commands.Status id serial) start has formed = absurd has

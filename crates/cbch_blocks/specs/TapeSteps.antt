@@ -8,7 +8,7 @@ use Rattle.cbch_blocks.specs.RecordBlocks.{blocks_of_slot, octets_of_blocks, pag
 
 -- a command that can be sent has a page of this number, and 15 pages at most
 abbrev pub CanSendPage : ℕ → Command → Type 0
-CanSendPage page (commands.Write id serial replaces category period broadcasts dcs contents) =
+CanSendPage page (commands.Write id serial replaces category dcs period broadcasts contents) =
     (1 ≤ page) × (page ≤ length contents) × (length contents ≤ 15)
 CanSendPage page (commands.Kill id serial) = ⊥
 CanSendPage page (commands.Status id serial) = ⊥

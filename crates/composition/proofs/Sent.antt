@@ -70,7 +70,7 @@ pub record IsSentMessage (a : Accepted) (pages : List PageView) : Type 0 where
 
 sent_by_command : (a : Accepted) (command : Command) (start : Option ℕ) → IsWriteBy a command start
     → IsWellFormed command → IsSentMessage a (pages_of_command command)
-sent_by_command a (commands.Write id serial replaces category period broadcasts dcs contents) start write formed =
+sent_by_command a (commands.Write id serial replaces category dcs period broadcasts contents) start write formed =
     let pages : List PageView = pages_from id serial dcs.0 (length contents) 1 contents in
     let long = length-pages_from id serial dcs.0 (length contents) 1 contents in
     record {

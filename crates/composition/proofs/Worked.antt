@@ -11,7 +11,7 @@ use Rattle.cbch_blocks.specs.RecordBlocks.{blocks_of_uses}
 
 abbrev log : List Entry
 log = record {
-  command = commands.Write 4370 16 None Normal 2 0 (record { 0 = 1 })
+  command = commands.Write 4370 16 None Normal (record { 0 = 1 }) 2 0
       (record { used = 1; octets = replicate 82 13 } ∷ []);
   slot = 0;
   answer = answers.Started 0;

@@ -79,7 +79,7 @@ abbrev IsGiven : Command → Answer → Type 0
 IsGiven command answer = IsAnswerTo command answer × (has_entry answer ≡ true)
 
 refused_write : (id serial : ℕ) (replaces : Option ℕ) (category : Category) (period broadcasts : ℕ) (dcs : Dcs)
-    (contents : List Content) → HasRefusals (IsGiven (commands.Write id serial replaces category period broadcasts dcs
+    (contents : List Content) → HasRefusals (IsGiven (commands.Write id serial replaces category dcs period broadcasts
     contents))
 refused_write id serial None category period broadcasts dcs contents cause other = (tt, rw (other) refl)
 refused_write id serial (Some old) category period broadcasts dcs contents cause other = (tt, rw (other) refl)
@@ -94,16 +94,16 @@ with_room slots log air slot (commands.Kill id serial) ordered =
     of_end fact refuses slots slot (answer_to_kill log air slot id serial)
     (of_one fact refuses slot (accepted_named id serial log)
     (λ a. answers.Stopped (completed a.message air slot)) (λ a. (tt, refl)))
-with_room slots log air slot (commands.Write id serial None category period broadcasts dcs contents) ordered =
-    let command = commands.Write id serial None category period broadcasts dcs contents in
+with_room slots log air slot (commands.Write id serial None category dcs period broadcasts contents) ordered =
+    let command = commands.Write id serial None category dcs period broadcasts contents in
     let refuses = refused_write id serial None category period broadcasts dcs contents in
     let load = load_of (length contents) period in
     of_end (IsGiven command) refuses slots slot (answer_to_write log air slot id serial None category load)
     (of_pair (IsGiven command) refuses (message_named id serial log) (answer_to_new log slot category load)
     (of_category (IsGiven command) refuses category (claims_in log) slot load None
     (λ start. answers.Started start) (λ start. (tt, refl))))
-with_room slots log air slot (commands.Write id serial (Some old) category period broadcasts dcs contents) ordered =
-    let command = commands.Write id serial (Some old) category period broadcasts dcs contents in
+with_room slots log air slot (commands.Write id serial (Some old) category dcs period broadcasts contents) ordered =
+    let command = commands.Write id serial (Some old) category dcs period broadcasts contents in
     let fact = IsGiven command in
     let refuses = refused_write id serial (Some old) category period broadcasts dcs contents in
     let load = load_of (length contents) period in

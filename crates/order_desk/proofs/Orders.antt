@@ -81,7 +81,7 @@ order_is : (m : Message) (cells : List Cell) (command : Command) → order_of m 
     → IsOrder m cells command
 order_is (messages.Write id new old named channel category period broadcasts dcs contents) cells command order =
     let parts = of_category (category_of category) cells named channel command
-    (λ c. commands.Write id new old c period broadcasts dcs contents) (λ c. tt) order in
+    (λ c. commands.Write id new old c dcs period broadcasts contents) (λ c. tt) order in
     record { asked = sym parts.0; ordered = parts.1 }
 order_is (messages.Kill id old named channel) cells command order =
     let parts = of_channel channel cells named command (commands.Kill id old) order in

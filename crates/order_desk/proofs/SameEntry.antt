@@ -3,24 +3,37 @@ use Rattle.std.proofs.Common.{◌≡◌, Decides, rules, true, subst, refl, ◌=
 use Rattle.std.proofs.lemmas.Bool.{and_from, eqb-true, eq-eqb}
 use Rattle.cbsp_wire.proofs.Tests.{and_parts}
 use Rattle.cbsp_wire.specs.Same.{same_contents_decides}
+use Rattle.bsc_table.specs.declared.command.Category.{Category}
 use Rattle.bsc_table.specs.declared.command.Command.{Command}
 use Rattle.bsc_table.specs.declared.command.Command.TheVariants as commands
 use Rattle.bsc_table.specs.declared.entry.Entry.{Entry}
+use Rattle.cbs_page.specs.declared.coding.Dcs.{Dcs}
+use Rattle.cbs_page.specs.contracts.coding.DcsPartialEq as coding
+use Rattle.bsc_table.specs.contracts.command.CategoryPartialEq as category
 use Rattle.bsc_table.specs.contracts.command.CommandPartialEq as command
 use Rattle.bsc_table.specs.declared.entry.Answer.{Answer}
 use Rattle.bsc_table.specs.contracts.entry.AnswerPartialEq as answer
 use Rattle.bsc_table.specs.contracts.entry.EntryPartialEq as entry
 
+category_decides : (a b : Category) → Decides (category.TheImpl.eq-value.it a b) (a ≡ b)
+category_decides a b = search rules
+
+coding_decides : (a b : Dcs) → Decides (coding.TheImpl.eq-value.it a b) (a ≡ b)
+coding_decides a b = search rules
+
 -- commands are equal exactly if the code says so
 pub same_command : (a b : Command) → Decides (command.TheImpl.eq-value.it a b) (a ≡ b)
-same_command (commands.Write i s r c p n d x) (commands.Write i' s' r' c' p' n' d' x') =
-    let list = same_contents_decides x x' in search (rules, list)
-same_command (commands.Write i s r c p n d x) (commands.Kill i' s') = search rules
-same_command (commands.Write i s r c p n d x) (commands.Status i' s') = search rules
-same_command (commands.Kill i s) (commands.Write i' s' r' c' p' n' d' x') = search rules
+same_command (commands.Write i s r c d p n x) (commands.Write i' s' r' c' d' p' n' x') =
+    let list = same_contents_decides x x' in
+    let kind = category_decides c c' in
+    let coding = coding_decides d d' in
+    search (rules, list, kind, coding)
+same_command (commands.Write i s r c d p n x) (commands.Kill i' s') = search rules
+same_command (commands.Write i s r c d p n x) (commands.Status i' s') = search rules
+same_command (commands.Kill i s) (commands.Write i' s' r' c' d' p' n' x') = search rules
 same_command (commands.Kill i s) (commands.Kill i' s') = search rules
 same_command (commands.Kill i s) (commands.Status i' s') = search rules
-same_command (commands.Status i s) (commands.Write i' s' r' c' p' n' d' x') = search rules
+same_command (commands.Status i s) (commands.Write i' s' r' c' d' p' n' x') = search rules
 same_command (commands.Status i s) (commands.Kill i' s') = search rules
 same_command (commands.Status i s) (commands.Status i' s') = search rules
 

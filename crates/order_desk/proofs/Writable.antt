@@ -189,10 +189,10 @@ kill_reply-writable id old (failure ∷ failures) completed failed counted =
 -- the reply to an order that valid cells answered can be written
 pub reply_is_writable : (command : Command) (xs : List (Cell × Answer)) → cells_are_valid (cells_answered xs) ≡ true
     → is_writable (reply_message command xs) ≡ true
-reply_is_writable (commands.Write id serial None category period broadcasts dcs contents) xs h =
+reply_is_writable (commands.Write id serial None category dcs period broadcasts contents) xs h =
     write_reply-writable id serial None (refused_in xs) [] (accepting_cells xs) (refused_valid xs h) refl
     (accepted_valid xs h)
-reply_is_writable (commands.Write id serial (Some old) category period broadcasts dcs contents) xs h =
+reply_is_writable (commands.Write id serial (Some old) category dcs period broadcasts contents) xs h =
     write_reply-writable id serial (Some old) (refused_in xs) (counted_in xs) [] (refused_valid xs h)
     (counted_valid xs h) refl
 reply_is_writable (commands.Kill id serial) xs h =

@@ -18,7 +18,7 @@ use Rattle.order_desk.specs.Desk.{IsHeld, DeskState, has_cell}
 
 -- the octets of a page of a write, of which the pages are numbered from 1 and are 15 at most
 abbrev pub write_page_octets : ℕ → Command → Option (List ℕ)
-write_page_octets page (commands.Write id serial replaces category period broadcasts dcs contents) =
+write_page_octets page (commands.Write id serial replaces category dcs period broadcasts contents) =
     if (page == 0) || nat_lt (length contents) page || nat_lt 15 (length contents)
     then None
     else option_map (λ (content : Content). octets_of_page id serial dcs.0 page (length contents) content.octets)

@@ -29,8 +29,8 @@ IsAnswerToKill other = ⊥
 
 -- the answers that a command of an order can get; a status is of no order
 abbrev pub IsAnswerTo : Command → Answer → Type 0
-IsAnswerTo (commands.Write id serial None category period broadcasts dcs contents) answer = IsAnswerToWrite answer
-IsAnswerTo (commands.Write id serial (Some old) category period broadcasts dcs contents) answer =
+IsAnswerTo (commands.Write id serial None category dcs period broadcasts contents) answer = IsAnswerToWrite answer
+IsAnswerTo (commands.Write id serial (Some old) category dcs period broadcasts contents) answer =
     IsAnswerToReplacement answer
 IsAnswerTo (commands.Kill id serial) answer = IsAnswerToKill answer
 IsAnswerTo (commands.Status id serial) answer = ⊥
@@ -80,9 +80,9 @@ kill_reply id old (failure ∷ failures) completed = messages.KillFailed id old 
 -- the reply to an order. A plain write has its accepting cells in the list of cells; a replacement and a kill have them
 -- with the completed broadcasts of the message that went. A status is of no order: what stands for it says nothing.
 abbrev pub reply_message : Command → List (Cell × Answer) → Message
-reply_message (commands.Write id serial None category period broadcasts dcs contents) answers =
+reply_message (commands.Write id serial None category dcs period broadcasts contents) answers =
     write_reply id serial None (refused_in answers) [] (accepting_cells answers)
-reply_message (commands.Write id serial (Some old) category period broadcasts dcs contents) answers =
+reply_message (commands.Write id serial (Some old) category dcs period broadcasts contents) answers =
     write_reply id serial (Some old) (refused_in answers) (counted_in answers) []
 reply_message (commands.Kill id serial) answers = kill_reply id serial (refused_in answers) (counted_in answers)
 reply_message (commands.Status id serial) answers = kill_reply id serial [] []

@@ -44,7 +44,7 @@ ReplacedAreCounted = (cell : Cell) (slot completed : ℕ) (before after : List (
 
 -- the commands of orders: a write or a kill
 abbrev pub IsOrdered : Command → Type 0
-IsOrdered (commands.Write id serial replaces category period broadcasts dcs contents) = ⊤
+IsOrdered (commands.Write id serial replaces category dcs period broadcasts contents) = ⊤
 IsOrdered (commands.Kill id serial) = ⊤
 IsOrdered (commands.Status id serial) = ⊥
 

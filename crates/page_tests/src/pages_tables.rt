@@ -143,6 +143,11 @@ content 1 und a<000A>b<00A0>c -> 0061000a006200a00063..
 shown 01 c14da3d168341a<10*8d46a3d168341a>8d46a3d100 -> A<0020>
 # Escapes before 65, a line feed and A; then a carriage return in the middle, and B.
 shown 40 9bf246b1093684<10*8d46a3d168341a>8d46a3d100 -> €<000A>A<000D>B
+# Eight carriage returns and more before the last letters, which are no filling; and five after them.
+shown 01 <10*e170381c0e87c3>8d46a3d168341ae170381c06 -> <80*a><000D><000D><000D><000D><000D><000D><000D><000D><5*a>
+shown 01 <2*8d46a3d168341a>e170381c0e87c3<8*8d46a3d168341a>8d46a3d100 -> \
+    <000D><000D><000D><000D><000D><000D><000D><000D><000D><000D><000D><000D><000D><000D><000D><000D><8*a>
+shown 01 <11*e170381c0e87c3>8d46a3d100 -> <88*a>
 # A surrogate, and a carriage return in the middle.
 shown 48 d83d000d0041<38*000d> -> <FFFD><000D>A
 # Behind another text: a plain page, one with an escape, one in UCS-2, and one that is all filling.
@@ -188,7 +193,7 @@ scarce behind ( 48 <41*000d> -> (
 #[test]
 fn pages_have_their_octets_and_show_their_texts(rt: HostRuntime) -> Result<(), Fail> {
     expect_rows(&rt, rt.alloc(), PAGES, 58)?;
-    expect_rows(&rt, rt.alloc(), TEXTS, 54)
+    expect_rows(&rt, rt.alloc(), TEXTS, 57)
 }
 
 #[test]

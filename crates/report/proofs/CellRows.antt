@@ -77,11 +77,11 @@ started : Laws → (r : Record) (shown : List ShownMessage) → IsLegal r → r.
     (before later : List Entry) (slot start id serial : ℕ) (replaces : Option ℕ) (category : _) (period broadcasts : ℕ)
     (dcs : _) (contents : _) → accepted_at (length before) r.log
     ≡ map (stopped_after later) (added_by (accepted_in before) (length before) slot (Some start)
-    (commands.Write id serial replaces category period broadcasts dcs contents)) →
+    (commands.Write id serial replaces category dcs period broadcasts contents)) →
     map (message_row r shown) (accepted_at (length before) r.log) ++ []
     ≡ option_to_list (started_row r.cell r.slots shown (stop_in later (id, serial))
     (times_aired (length before) (length contents) r.air (length r.air))
-    (commands.Write id serial replaces category period broadcasts dcs contents) start)
+    (commands.Write id serial replaces category dcs period broadcasts contents) start)
 started laws r shown legal ended before later slot start id serial replaces category period broadcasts dcs contents is =
     let all : List Accepted = accepted_in before in
     let a : Accepted = written_behind all (length before) slot start
@@ -106,27 +106,27 @@ by_parts : Laws → (r : Record) (shown : List ShownMessage) → IsLegal r → r
     ≡ option_to_list (row_by r.cell r.slots shown (stop_of_command later command)
     (times_aired (length before) (page_count_of command) r.air (length r.air)) slot command answer)
 by_parts laws r shown legal ended before later slot
-    (commands.Write id serial replaces category period broadcasts dcs contents) (answers.Started start) is =
+    (commands.Write id serial replaces category dcs period broadcasts contents) (answers.Started start) is =
     started laws r shown legal ended before later slot start id serial replaces category period broadcasts dcs contents
     is
 by_parts laws r shown legal ended before later slot
-    (commands.Write id serial replaces category period broadcasts dcs contents) (answers.Replaced start others) is =
+    (commands.Write id serial replaces category dcs period broadcasts contents) (answers.Replaced start others) is =
     started laws r shown legal ended before later slot start id serial replaces category period broadcasts dcs contents
     is
 by_parts laws r shown legal ended before later slot
-    (commands.Write id serial replaces category period broadcasts dcs contents) (answers.Stopped completed) is =
+    (commands.Write id serial replaces category dcs period broadcasts contents) (answers.Stopped completed) is =
     without r shown _ [] is
 by_parts laws r shown legal ended before later slot
-    (commands.Write id serial replaces category period broadcasts dcs contents) (answers.Told completed state) is =
+    (commands.Write id serial replaces category dcs period broadcasts contents) (answers.Told completed state) is =
     without r shown _ [] is
 by_parts laws r shown legal ended before later slot
-    (commands.Write id serial replaces category period broadcasts dcs contents) answers.Unknown is =
+    (commands.Write id serial replaces category dcs period broadcasts contents) answers.Unknown is =
     without r shown _ [] is
 by_parts laws r shown legal ended before later slot
-    (commands.Write id serial replaces category period broadcasts dcs contents) (answers.Cause cause) is =
+    (commands.Write id serial replaces category dcs period broadcasts contents) (answers.Cause cause) is =
     without r shown _ _ is
 by_parts laws r shown legal ended before later slot
-    (commands.Write id serial replaces category period broadcasts dcs contents) answers.Refused is =
+    (commands.Write id serial replaces category dcs period broadcasts contents) answers.Refused is =
     without r shown _ [] is
 by_parts laws r shown legal ended before later slot (commands.Kill id serial) (answers.Started start) is =
     without r shown _ [] is

@@ -39,19 +39,19 @@ filter-stopped place e (a ∷ all) = by_test (is_at place a) (filter-stopped pla
 filter-added : (place now : ℕ) (all : List Accepted) (slot : ℕ) (start : Option ℕ) (command : Command) → place < now →
     filter (is_at place) (added_by all now slot start command) ≡ []
 filter-added place now all slot (Some start)
-    (commands.Write id serial replaces category period broadcasts dcs contents) below =
+    (commands.Write id serial replaces category dcs period broadcasts contents) below =
     let other : eqb now place ≡ false = ne_eqb now place (λ same. omega (arith, same)) in
     ap (λ (here : Bool). cond here (added_by all now slot (Some start)
-    (commands.Write id serial replaces category period broadcasts dcs contents)) []) other
+    (commands.Write id serial replaces category dcs period broadcasts contents)) []) other
 filter-added place now all slot (Some start) (commands.Kill id serial) below = refl
 filter-added place now all slot (Some start) (commands.Status id serial) below = refl
 filter-added place now all slot None command below = refl
 
 filter-own : (place : ℕ) (all : List Accepted) (slot : ℕ) (start : Option ℕ) (command : Command) →
     filter (is_at place) (added_by all place slot start command) ≡ added_by all place slot start command
-filter-own place all slot (Some start) (commands.Write id serial replaces category period broadcasts dcs contents) =
+filter-own place all slot (Some start) (commands.Write id serial replaces category dcs period broadcasts contents) =
     ap (λ (here : Bool). cond here (added_by all place slot (Some start)
-    (commands.Write id serial replaces category period broadcasts dcs contents)) []) (eq-eqb place place refl)
+    (commands.Write id serial replaces category dcs period broadcasts contents)) []) (eq-eqb place place refl)
 filter-own place all slot (Some start) (commands.Kill id serial) = refl
 filter-own place all slot (Some start) (commands.Status id serial) = refl
 filter-own place all slot None command = refl

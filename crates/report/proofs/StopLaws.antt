@@ -29,20 +29,20 @@ stops_what_it_names pair (commands.Kill id serial) answers.Unknown = refl
 stops_what_it_names pair (commands.Kill id serial) (answers.Cause cause) = refl
 stops_what_it_names pair (commands.Kill id serial) answers.Refused = refl
 stops_what_it_names pair (commands.Status id serial) answer = refl
-stops_what_it_names pair (commands.Write id serial None category period broadcasts dcs contents) answer = refl
-stops_what_it_names pair (commands.Write id serial (Some old) category period broadcasts dcs contents)
+stops_what_it_names pair (commands.Write id serial None category dcs period broadcasts contents) answer = refl
+stops_what_it_names pair (commands.Write id serial (Some old) category dcs period broadcasts contents)
     (answers.Started slot) = refl
-stops_what_it_names pair (commands.Write id serial (Some old) category period broadcasts dcs contents)
+stops_what_it_names pair (commands.Write id serial (Some old) category dcs period broadcasts contents)
     (answers.Replaced slot completed) = refl
-stops_what_it_names pair (commands.Write id serial (Some old) category period broadcasts dcs contents)
+stops_what_it_names pair (commands.Write id serial (Some old) category dcs period broadcasts contents)
     (answers.Stopped completed) = refl
-stops_what_it_names pair (commands.Write id serial (Some old) category period broadcasts dcs contents)
+stops_what_it_names pair (commands.Write id serial (Some old) category dcs period broadcasts contents)
     (answers.Told completed state) = refl
-stops_what_it_names pair (commands.Write id serial (Some old) category period broadcasts dcs contents) answers.Unknown
+stops_what_it_names pair (commands.Write id serial (Some old) category dcs period broadcasts contents) answers.Unknown
     = refl
-stops_what_it_names pair (commands.Write id serial (Some old) category period broadcasts dcs contents)
+stops_what_it_names pair (commands.Write id serial (Some old) category dcs period broadcasts contents)
     (answers.Cause cause) = refl
-stops_what_it_names pair (commands.Write id serial (Some old) category period broadcasts dcs contents) answers.Refused
+stops_what_it_names pair (commands.Write id serial (Some old) category dcs period broadcasts contents) answers.Refused
     = refl
 
 stops_by : (pair : Pair) (e : Entry) (named : Option Pair) → stopped_pair e ≡ named →
@@ -83,7 +83,7 @@ stops-more old new e later named is updated are pair =
 -- where a map has no stop, no message was stopped
 pub stops-nothing : (entries : List (Pair × ℕ)) (later : List Entry) (command : Command) → entries ≡ [] →
     AreStops entries later → None ≡ stop_of_command later command
-stops-nothing entries later (commands.Write id serial replaces category period broadcasts dcs contents) none are =
+stops-nothing entries later (commands.Write id serial replaces category dcs period broadcasts contents) none are =
     sym (ap (lookup (is_pair (id, serial))) none) ∙ are (id, serial)
 stops-nothing entries later (commands.Kill id serial) none are = refl
 stops-nothing entries later (commands.Status id serial) none are = refl

@@ -19,7 +19,7 @@ use Rattle.report.specs.Rows.{refusal_row, showing_of, is_shown}
 
 -- how many pages a command's message has: none, unless it is a write
 abbrev pub page_count_of : Command → ℕ
-page_count_of (commands.Write id serial replaces category period broadcasts dcs contents) = length contents
+page_count_of (commands.Write id serial replaces category dcs period broadcasts contents) = length contents
 page_count_of (commands.Kill id serial) = 0
 page_count_of (commands.Status id serial) = 0
 
@@ -41,7 +41,7 @@ is_pair a b = (a.0 == b.0) && (a.1 == b.1)
 -- the pair of the message that an answer stops, if it stops one
 abbrev pub stopped_by_answer : Command → Answer → Option Pair
 stopped_by_answer (commands.Kill id serial) (answers.Stopped completed) = Some (id, serial)
-stopped_by_answer (commands.Write id new (Some serial) category period broadcasts dcs contents)
+stopped_by_answer (commands.Write id new (Some serial) category dcs period broadcasts contents)
     (answers.Replaced slot completed) = Some (id, serial)
 stopped_by_answer command answer = None
 
@@ -58,7 +58,7 @@ AreStops entries later = (pair : Pair) → lookup (is_pair pair) entries ≡ sto
 
 -- the stop of what the entry at a place accepts, by the entries after it: nothing, unless it is a write
 abbrev pub stop_of_command : List Entry → Command → Option ℕ
-stop_of_command later (commands.Write id serial replaces category period broadcasts dcs contents) =
+stop_of_command later (commands.Write id serial replaces category dcs period broadcasts contents) =
     stop_in later (id, serial)
 stop_of_command later (commands.Kill id serial) = None
 stop_of_command later (commands.Status id serial) = None
@@ -76,7 +76,7 @@ end_slot slots start period broadcasts stop =
 abbrev pub started_row : Cell → (slots : ℕ) → List ShownMessage → (stop : Option ℕ) → (completed : ℕ) → Command → ℕ
     → Option Row
 started_row cell slots shown stop completed
-    (commands.Write id serial replaces category period broadcasts dcs contents) start =
+    (commands.Write id serial replaces category dcs period broadcasts contents) start =
     Some (record {
       lac = cell.lac;
       ci = cell.ci;
@@ -91,7 +91,7 @@ started_row cell slots shown stop completed command start = None
 
 -- the row of a refused command
 abbrev pub refused_row : Cell → (slot cause : ℕ) → Command → Option Row
-refused_row cell slot cause (commands.Write id serial replaces category period broadcasts dcs contents) =
+refused_row cell slot cause (commands.Write id serial replaces category dcs period broadcasts contents) =
     Some (refusal_row cell id serial slot cause)
 refused_row cell slot cause (commands.Kill id serial) = Some (refusal_row cell id serial slot cause)
 refused_row cell slot cause (commands.Status id serial) = None

@@ -68,7 +68,7 @@ refusal_row cell id serial slot cause = record {
 
 -- the row of a command, by its answer, where that is a refusal
 abbrev pub refusal_rows : Cell → (slot : ℕ) → Answer → Command → List Row
-refusal_rows cell slot (answers.Cause cause) (commands.Write id serial replaces category period broadcasts dcs contents)
+refusal_rows cell slot (answers.Cause cause) (commands.Write id serial replaces category dcs period broadcasts contents)
     = refusal_row cell id serial slot cause ∷ []
 refusal_rows cell slot (answers.Cause cause) (commands.Kill id serial) = refusal_row cell id serial slot cause ∷ []
 refusal_rows cell slot answer command = []

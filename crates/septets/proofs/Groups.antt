@@ -100,13 +100,15 @@ module _ (x low high s a w : ℕ) (wide : 7 ≤ w) (within : a + w ≤ 64) where
       ∙ (let same : a + j - s ≡ a - s + j = omega arith in ap (λ i. bit_at x i) same))
       ∙ bit_at-seven x (a - s) j)
 
--- the word with the upper half of its septets moved up, then of each half, then of each quarter
+-- the word with the upper half of its septets moved up
 abbrev pub halves : ℕ → ℕ
 halves n = merged n 0x0FFFFFFF 0x00FFFFFFF0000000 4
 
+-- the upper half of each half moved up too
 abbrev pub quarters : ℕ → ℕ
 quarters n = merged (halves n) 0x00003FFF00003FFF 0x0FFFC0000FFFC000 2
 
+-- and of each quarter, so that each septet has an octet
 abbrev pub octets : ℕ → ℕ
 octets n = merged (quarters n) 0x007F007F007F007F 0x3F803F803F803F80 1
 
@@ -166,6 +168,7 @@ module _ (n : ℕ) where
 abbrev IsOctet : ℕ → ℕ → Type 0
 IsOctet n place = get_or (to_le_bytes w64 n) place 0 ≡ n / 2 ^ (8 * place) % 2 ^ 8
 
+-- each of the eight is as many bits of it
 pub octet_of : (n place : ℕ) → place < 8 → IsOctet n place
 octet_of n =
     below_more (IsOctet n) 7 (below_more (IsOctet n) 6 (below_more (IsOctet n) 5 (below_more (IsOctet n) 4

@@ -108,8 +108,8 @@ fn unpacked_group(octets: &[u8; 82], group: usize) -> [u8; 8]
     spread(u64::from_le_bytes(own)).to_le_bytes()
 }
 
-/// The eight septets of a number's lowest 56 bits, each in an octet of its own: the upper half of them is moved up first,
-/// then the upper half of each half, then of each quarter.
+/// The eight septets of a number's lowest 56 bits, each in an octet of its own: the upper half of them is moved up
+/// first, then the upper half of each half, then of each quarter.
 fn spread(septets: u64) -> u64
     ensures { (place : ℕ) → place < 8 → result / 2 ^ (8 * place) % 2 ^ 8 ≡ septets / 2 ^ (7 * place) % 2 ^ 7 }
 {

@@ -193,15 +193,15 @@ pub order_says : (m : Message) (cells : List Cell) (command : Command)
 order_says (messages.Write id new None named channel category period broadcasts dcs contents) cells command order =
     let m = messages.Write id new None named channel category period broadcasts dcs contents in
     of_category m (category_of category) cells named channel command
-    (λ c. commands.Write id new None c period broadcasts dcs contents)
-    (λ c. of_plain id new m (commands.Write id new None c period broadcasts dcs contents) (is_write_itself id new None)
+    (λ c. commands.Write id new None c dcs period broadcasts contents)
+    (λ c. of_plain id new m (commands.Write id new None c dcs period broadcasts contents) (is_write_itself id new None)
     tt (λ given. refl)) order
 order_says (messages.Write id new (Some old) named channel category period broadcasts dcs contents) cells command
     order =
     let m = messages.Write id new (Some old) named channel category period broadcasts dcs contents in
     of_category m (category_of category) cells named channel command
-    (λ c. commands.Write id new (Some old) c period broadcasts dcs contents)
-    (λ c. of_counted m (commands.Write id new (Some old) c period broadcasts dcs contents) tt
+    (λ c. commands.Write id new (Some old) c dcs period broadcasts contents)
+    (λ c. of_counted m (commands.Write id new (Some old) c dcs period broadcasts contents) tt
     (λ answer is. no_start_of_replacement answer is)
     (λ given. write_says id new (Some old) m (refused_in given) (counted_in given) []
     (is_write_itself id new (Some old)))) order

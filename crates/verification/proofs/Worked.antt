@@ -34,7 +34,7 @@ idle = (0x2F ∷ []) ∷ (0x2F ∷ []) ∷ (0x2F ∷ []) ∷ (0x2F ∷ []) ∷ [
 -- slot, if one is given
 abbrev write : Entry
 write = record {
-  command = commands.Write 0x1112 0x0010 None Normal 4 2 (record { 0 = 0x48 }) (content 65 ∷ content 66 ∷ []);
+  command = commands.Write 0x1112 0x0010 None Normal (record { 0 = 0x48 }) 4 2 (content 65 ∷ content 66 ∷ []);
   slot = 0;
   answer = answers.Started 0;
 }

@@ -29,7 +29,7 @@ stop_among later id serial = option_map (λ e. e.slot) (find (is_stop_of id seri
 
 -- the message of a command that was accepted with this start, by the entries that come later: a write's
 abbrev pub asked_from : Option ℕ → Command → List Entry → List AskedMessage
-asked_from (Some start) (commands.Write id serial replaces category period broadcasts dcs contents) later =
+asked_from (Some start) (commands.Write id serial replaces category dcs period broadcasts contents) later =
     record {
       id = id;
       serial = serial;

@@ -98,14 +98,14 @@ added : (log later : List Entry) (all : List Accepted) (place slot : ℕ) (start
     (e : Entry)
     → slice_get log place ≡ Some e → e.command ≡ command →
     AreComing log later (asked_from start command later) (added_by all place slot start command)
-added log later all place slot None (commands.Write id serial replaces category period broadcasts dcs contents) e there
+added log later all place slot None (commands.Write id serial replaces category dcs period broadcasts contents) e there
     is = tt
 added log later all place slot None (commands.Kill id serial) e there is = tt
 added log later all place slot None (commands.Status id serial) e there is = tt
 added log later all place slot (Some start) (commands.Kill id serial) e there is = tt
 added log later all place slot (Some start) (commands.Status id serial) e there is = tt
 added log later all place slot (Some start)
-    (commands.Write id serial replaces category period broadcasts dcs contents) e there is = (
+    (commands.Write id serial replaces category dcs period broadcasts contents) e there is = (
       record {
         id_is = refl;
         serial_is = refl;

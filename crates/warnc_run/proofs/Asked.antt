@@ -67,7 +67,7 @@ is_order order (messages.Write id new old cells channel category period broadcas
     let small = (and_parts _ (passes (λ n. nat_le n 2) category) (and_parts _ _ numbers).0).1 in
     let n = sent.0.category in
     category_known n (subst (λ (c : Option ℕ). passes (λ k. nat_le k 2) c ≡ true) sent.6 small) cells
-    (λ known. commands.Write id new old known period broadcasts dcs contents) cause
+    (λ known. commands.Write id new old known dcs period broadcasts contents) cause
     (subst (λ (c : Option ℕ). order_of (messages.Write id new old cells None c period broadcasts dcs contents)
     ≡ Err cause) sent.6 (subst (λ (c : Option ℕ).
     order_of (messages.Write id new old cells c category period broadcasts dcs contents) ≡ Err cause) sent.5 is))

@@ -67,14 +67,14 @@ pub starts : (r : Record) (new : AcceptedMessage) (gap : ℕ)
     → IsOffered r (accepted_of new)
     → (is_background_category new.category ≡ false → HasRoom (claims_in r.log) r.clock (load_of new.pages new.period))
     → DecidesWrites r (accepted_of new) None (decisions.Starts new gap)
-starts r new gap offered room (commands.Write id serial None category period broadcasts dcs contents) same =
+starts r new gap offered room (commands.Write id serial None category dcs period broadcasts contents) same =
     let after = starts_one r.log r.clock id serial category period broadcasts dcs contents in
     record {
       begun = begins r None (accepted_in r.log) (accepted_of new) offered (λ front. room (is_front new.category front))
           (λ now. now);
       after = cc;
     }
-starts r new gap offered room (commands.Write id serial (Some old) category period broadcasts dcs contents) same = cc
+starts r new gap offered room (commands.Write id serial (Some old) category dcs period broadcasts contents) same = cc
 starts r new gap offered room (commands.Kill id serial) same = absurd same
 starts r new gap offered room (commands.Status id serial) same = absurd same
 
@@ -88,7 +88,7 @@ pub replaces : (r : Record) (old : Kept) (new : AcceptedMessage) (gap replaced c
     (load_of new.pages new.period))
     → DecidesWrites r (accepted_of new) (Some replaced) (decisions.Replaces old new gap completed)
 replaces r old new gap replaced completed legal live offered soon room
-    (commands.Write id serial (Some named) category period broadcasts dcs contents) same =
+    (commands.Write id serial (Some named) category dcs period broadcasts contents) same =
     let a : Accepted = accepted_of old.message in
     let once = (IsSound-legal r legal).once in
     let standing = live_is_standing r.clock a.message live.live in
@@ -113,7 +113,7 @@ replaces r old new gap replaced completed legal live offered soon room
       omega (arith, offered.begins, soon),
     )
 replaces r old new gap replaced completed legal live offered soon room
-    (commands.Write id serial None category period broadcasts dcs contents) same = cc
+    (commands.Write id serial None category dcs period broadcasts contents) same = cc
 replaces r old new gap replaced completed legal live offered soon room (commands.Kill id serial) same = absurd same
 replaces r old new gap replaced completed legal live offered soon room (commands.Status id serial) same = absurd same
 
@@ -134,7 +134,7 @@ pub takes_over : (r : Record) (old : Kept) (new : AcceptedMessage) (place : Foun
     → place.start < LATEST_START
     → DecidesWrites r (accepted_of new) (Some replaced) (decisions.Replaces old (waiting_at new place) gap completed)
 takes_over r old new place gap replaced completed legal live offered room front after_old fits soon
-    (commands.Write id serial (Some named) category period broadcasts dcs contents) same =
+    (commands.Write id serial (Some named) category dcs period broadcasts contents) same =
     let a : Accepted = accepted_of old.message in
     let taken = taken_after (left_by r a) r.clock (load_of new.pages new.period) a (place_found place) after_old in
     let over = taken.1 in
@@ -216,7 +216,7 @@ takes_over r old new place gap replaced completed legal live offered room front 
         period broadcasts (rank_of category)) (sym same_slot)
         ∙ ap at_place same_new
 takes_over r old new place gap replaced completed legal live offered room front after_old fits soon
-    (commands.Write id serial None category period broadcasts dcs contents) same = cc
+    (commands.Write id serial None category dcs period broadcasts contents) same = cc
 takes_over r old new place gap replaced completed legal live offered room front after_old fits soon
     (commands.Kill id serial) same = absurd same
 takes_over r old new place gap replaced completed legal live offered room front after_old fits soon

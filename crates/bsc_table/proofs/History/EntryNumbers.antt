@@ -47,7 +47,7 @@ numbered_with all before place slot (Some start) (commands.Kill id serial) numbe
     numbered
 numbered_with all before place slot (Some start) (commands.Status id serial) numbered = numbered_later before place
     numbered
-numbered_with all before place slot (Some start) (commands.Write id serial replaces category period broadcasts dcs
+numbered_with all before place slot (Some start) (commands.Write id serial replaces category dcs period broadcasts
     contents) numbered =
     let new : Accepted = written_behind all place slot start (predecessor_of slot start (replaced_in all id replaces))
     id

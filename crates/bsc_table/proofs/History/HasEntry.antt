@@ -84,7 +84,7 @@ has_entry-with_room slots log air slot (commands.Kill id serial) =
     (λ a. refl) in
     cond_both (slot == slots) (answers.Cause 0x0A) (answer_to_kill log air slot id serial) HasOne (λ _. refl)
     (λ _. kill)
-has_entry-with_room slots log air slot (commands.Write id serial replaces category period broadcasts dcs contents) =
+has_entry-with_room slots log air slot (commands.Write id serial replaces category dcs period broadcasts contents) =
     let load = load_of (length contents) period in
     cond_both (slot == slots) (answers.Cause 0x0A) (answer_to_write log air slot id serial replaces category load)
     HasOne (λ _. refl) (λ _. of_write log air slot id serial replaces category load)

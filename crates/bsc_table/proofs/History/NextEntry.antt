@@ -92,11 +92,11 @@ new_message all entry slot start behind id serial category period broadcasts con
 -- a write in the place of none
 pub starts_one : (log : List Entry) (slot id serial : ℕ) (category : Category) (period broadcasts : ℕ) (dcs : Dcs)
     (contents : List Content)
-    → accepted_in (log ++ entry_with (commands.Write id serial None category period broadcasts dcs contents) slot
+    → accepted_in (log ++ entry_with (commands.Write id serial None category dcs period broadcasts contents) slot
     (answers.Started slot) ∷ []) ≡ accepted_in log ++ new_message (accepted_in log) (length log) slot slot None id
     serial category period broadcasts contents ∷ []
 starts_one log slot id serial category period broadcasts dcs contents =
-    let e = entry_with (commands.Write id serial None category period broadcasts dcs contents) slot
+    let e = entry_with (commands.Write id serial None category dcs period broadcasts contents) slot
     (answers.Started slot) in
     accepted_in-push log e
     ∙ ap (λ (l : List Accepted). l ++ new_message (accepted_in log) (length log) slot slot None id serial category
@@ -122,12 +122,12 @@ pub replaces_one : (log : List Entry) (slot start id serial old completed : ℕ)
     → find (is_of_pair id old) (accepted_in log) ≡ Some a
     → a.message.stop ≡ None
     → predecessor_of slot start (Some a) ≡ behind
-    → accepted_in (log ++ entry_with (commands.Write id serial (Some old) category period broadcasts dcs contents) slot
+    → accepted_in (log ++ entry_with (commands.Write id serial (Some old) category dcs period broadcasts contents) slot
     (answers.Replaced start completed) ∷ []) ≡ map (stop_numbered a.message.entry slot) (accepted_in log) ++
     new_message (accepted_in log) (length log) slot start behind id serial category period broadcasts contents ∷ []
 replaces_one log slot start id serial old completed category period broadcasts dcs contents a behind once found
     standing waits =
-    let e = entry_with (commands.Write id serial (Some old) category period broadcasts dcs contents) slot
+    let e = entry_with (commands.Write id serial (Some old) category dcs period broadcasts contents) slot
     (answers.Replaced start completed) in
     let all = accepted_in log in
     let stopped = map (stop_numbered a.message.entry slot) all in
@@ -142,8 +142,8 @@ replaces_one log slot start id serial old completed category period broadcasts d
 -- a cause stops nothing
 nothing_of_cause : (cause id serial : ℕ) (command : Command)
     → is_stop_by id serial command (answers.Cause cause) ≡ false
-nothing_of_cause cause id serial (commands.Write of_id new None category period broadcasts dcs contents) = refl
-nothing_of_cause cause id serial (commands.Write of_id new (Some old) category period broadcasts dcs contents) = refl
+nothing_of_cause cause id serial (commands.Write of_id new None category dcs period broadcasts contents) = refl
+nothing_of_cause cause id serial (commands.Write of_id new (Some old) category dcs period broadcasts contents) = refl
 nothing_of_cause cause id serial (commands.Kill of_id of_serial) = refl
 nothing_of_cause cause id serial (commands.Status of_id of_serial) = refl
 
@@ -319,11 +319,11 @@ begun_now all before entry slot replaced id serial category period broadcasts dc
 new_outcome : (log : List Entry) (slot id serial : ℕ) (category : Category) (period broadcasts : ℕ) (dcs : Dcs)
     (contents : List Content)
     → IsBroadcastable period dcs contents
-    → Outcome log (entry_with (commands.Write id serial None category period broadcasts dcs contents) slot
+    → Outcome log (entry_with (commands.Write id serial None category dcs period broadcasts contents) slot
     (unless_accepted (message_named id serial log) (answer_to_new log slot category
     (load_of (length contents) period))))
 new_outcome log slot id serial category period broadcasts dcs contents formed =
-    let command = commands.Write id serial None category period broadcasts dcs contents in
+    let command = commands.Write id serial None category dcs period broadcasts contents in
     let P : Answer → Type 0 = λ answer. Outcome log (entry_with command slot answer) in
     let all = accepted_in log in
     let load = load_of (length contents) period in
@@ -370,10 +370,10 @@ replacement_outcome : (log : List Entry) (air : Air) (slot id serial old : ℕ) 
     → AllPairs OfAnotherPair (accepted_in log)
     → AreInOrder (claims_in log) slot
     → IsBroadcastable period dcs contents
-    → Outcome log (entry_with (commands.Write id serial (Some old) category period broadcasts dcs contents) slot
+    → Outcome log (entry_with (commands.Write id serial (Some old) category dcs period broadcasts contents) slot
     (answer_to_write log air slot id serial (Some old) category (load_of (length contents) period)))
 replacement_outcome log air slot id serial old category period broadcasts dcs contents once order formed =
-    let command = commands.Write id serial (Some old) category period broadcasts dcs contents in
+    let command = commands.Write id serial (Some old) category dcs period broadcasts contents in
     let P : Answer → Type 0 = λ answer. Outcome log (entry_with command slot answer) in
     let all = accepted_in log in
     let load = load_of (length contents) period in
@@ -453,16 +453,16 @@ outcome_with_room slots log air slot (commands.Kill id serial) once order formed
     let P : Answer → Type 0 = λ answer. Outcome log (entry_with command slot answer) in
     before_end_cases P slots slot (answer_to_kill log air slot id serial) (refused log slot command)
     (kill_outcome log air slot id serial once)
-outcome_with_room slots log air slot (commands.Write id serial None category period broadcasts dcs contents) once order
+outcome_with_room slots log air slot (commands.Write id serial None category dcs period broadcasts contents) once order
     formed =
-    let command = commands.Write id serial None category period broadcasts dcs contents in
+    let command = commands.Write id serial None category dcs period broadcasts contents in
     let P : Answer → Type 0 = λ answer. Outcome log (entry_with command slot answer) in
     before_end_cases P slots slot (answer_to_write log air slot id serial None category
     (load_of (length contents) period)) (refused log slot command)
     (new_outcome log slot id serial category period broadcasts dcs contents formed)
-outcome_with_room slots log air slot (commands.Write id serial (Some old) category period broadcasts dcs contents) once
+outcome_with_room slots log air slot (commands.Write id serial (Some old) category dcs period broadcasts contents) once
     order formed =
-    let command = commands.Write id serial (Some old) category period broadcasts dcs contents in
+    let command = commands.Write id serial (Some old) category dcs period broadcasts contents in
     let P : Answer → Type 0 = λ answer. Outcome log (entry_with command slot answer) in
     before_end_cases P slots slot (answer_to_write log air slot id serial (Some old) category
     (load_of (length contents) period)) (refused log slot command)

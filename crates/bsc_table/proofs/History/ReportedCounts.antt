@@ -129,8 +129,8 @@ tells_with_room slots log air slot (commands.Kill id serial) =
     let command = commands.Kill id serial in
     before_end_cases (TellsTrue log air slot command) slots slot (answer_to_kill log air slot id serial)
     (λ cause. tells_none log air slot command (answers.Cause cause) refl) (kill_tells log air slot id serial)
-tells_with_room slots log air slot (commands.Write id serial replaces category period broadcasts dcs contents) =
-    let command = commands.Write id serial replaces category period broadcasts dcs contents in
+tells_with_room slots log air slot (commands.Write id serial replaces category dcs period broadcasts contents) =
+    let command = commands.Write id serial replaces category dcs period broadcasts contents in
     let load = load_of (length contents) period in
     before_end_cases (TellsTrue log air slot command) slots slot
     (answer_to_write log air slot id serial replaces category load)

@@ -69,21 +69,21 @@ stops_by id serial (commands.Kill of_id of_serial) (answers.Told completed state
 stops_by id serial (commands.Kill of_id of_serial) answers.Unknown h = absurd (false≢true h)
 stops_by id serial (commands.Kill of_id of_serial) (answers.Cause cause) h = absurd (false≢true h)
 stops_by id serial (commands.Kill of_id of_serial) answers.Refused h = absurd (false≢true h)
-stops_by id serial (commands.Write of_id new (Some of_serial) category period broadcasts dcs contents)
+stops_by id serial (commands.Write of_id new (Some of_serial) category dcs period broadcasts contents)
     (answers.Replaced slot completed) h = refl
-stops_by id serial (commands.Write of_id new (Some of_serial) category period broadcasts dcs contents)
+stops_by id serial (commands.Write of_id new (Some of_serial) category dcs period broadcasts contents)
     (answers.Started slot) h = refl
-stops_by id serial (commands.Write of_id new (Some of_serial) category period broadcasts dcs contents)
+stops_by id serial (commands.Write of_id new (Some of_serial) category dcs period broadcasts contents)
     (answers.Stopped completed) h = refl
-stops_by id serial (commands.Write of_id new (Some of_serial) category period broadcasts dcs contents)
+stops_by id serial (commands.Write of_id new (Some of_serial) category dcs period broadcasts contents)
     (answers.Told completed state) h = absurd (false≢true h)
-stops_by id serial (commands.Write of_id new (Some of_serial) category period broadcasts dcs contents) answers.Unknown
+stops_by id serial (commands.Write of_id new (Some of_serial) category dcs period broadcasts contents) answers.Unknown
     h = absurd (false≢true h)
-stops_by id serial (commands.Write of_id new (Some of_serial) category period broadcasts dcs contents)
+stops_by id serial (commands.Write of_id new (Some of_serial) category dcs period broadcasts contents)
     (answers.Cause cause) h = absurd (false≢true h)
-stops_by id serial (commands.Write of_id new (Some of_serial) category period broadcasts dcs contents) answers.Refused
+stops_by id serial (commands.Write of_id new (Some of_serial) category dcs period broadcasts contents) answers.Refused
     h = absurd (false≢true h)
-stops_by id serial (commands.Write of_id new None category period broadcasts dcs contents) answer h = absurd
+stops_by id serial (commands.Write of_id new None category dcs period broadcasts contents) answer h = absurd
     (false≢true h)
 stops_by id serial (commands.Status of_id of_serial) answer h = absurd (false≢true h)
 
@@ -234,11 +234,11 @@ added_alike : (f : ℕ → ℕ)
     → f among ≡ place
     → added_by (map (accepted_renumbered f) front) place slot start command ≡ map (accepted_renumbered f)
     (added_by front among slot start command)
-added_alike f keeps front place among slot (Some start) (commands.Write id serial replaces category period broadcasts
-    dcs contents) at =
+added_alike f keeps front place among slot (Some start) (commands.Write id serial replaces category dcs period
+    broadcasts contents) at =
     ap (λ (a : Accepted). a ∷ []) (written_alike f keeps front place among slot start id serial replaces
     (length contents) period broadcasts (rank_of category) at)
-added_alike f keeps front place among slot None (commands.Write id serial replaces category period broadcasts dcs
+added_alike f keeps front place among slot None (commands.Write id serial replaces category dcs period broadcasts
     contents) at = refl
 added_alike f keeps front place among slot (Some start) (commands.Kill id serial) at = refl
 added_alike f keeps front place among slot None (commands.Kill id serial) at = refl

@@ -24,7 +24,7 @@ IsWritten log d a =
 -- it stays so where it is stopped
 still_written : (e : Entry) (a : Accepted) (command : Command) (start : Option ℕ) → IsWriteBy a command start
     → IsWriteBy (stopped_by e a) command start
-still_written e a (commands.Write id serial replaces category period broadcasts dcs contents) start h = h
+still_written e a (commands.Write id serial replaces category dcs period broadcasts contents) start h = h
 still_written e a (commands.Kill id serial) start h = h
 still_written e a (commands.Status id serial) start h = h
 
@@ -32,7 +32,7 @@ still_written e a (commands.Status id serial) start h = h
 added_is_written : (log : List Entry) (d : Entry) (all : List Accepted) (place slot : ℕ) (answer : Answer)
     (command : Command) (start : Option ℕ) → place < length log → get_or log place d ≡ entry_with command slot answer
     → start_of answer ≡ start → All (IsWritten log d) (added_by all place slot start command)
-added_is_written log d all place slot answer (commands.Write id serial replaces category period broadcasts dcs
+added_is_written log d all place slot answer (commands.Write id serial replaces category dcs period broadcasts
     contents) (Some start) within here told =
     let a : Accepted = written_behind all place slot start (predecessor_of slot start (replaced_in all id replaces)) id
     serial (length contents) period broadcasts (rank_of category) in
@@ -43,7 +43,7 @@ added_is_written log d all place slot answer (commands.Write id serial replaces 
       sym
           (ap (λ (x : Entry). x.slot) here),
     ) (All-nil (IsWritten log d))
-added_is_written log d all place slot answer (commands.Write id serial replaces category period broadcasts dcs
+added_is_written log d all place slot answer (commands.Write id serial replaces category dcs period broadcasts
     contents) None within here told = All-nil (IsWritten log d)
 added_is_written log d all place slot answer (commands.Kill id serial) (Some start) within here told = All-nil
     (IsWritten log d)
@@ -90,7 +90,7 @@ accepted_are_writes log d =
 -- a write's message has its pages
 has_page : (a : Accepted) (page : ℕ) (command : Command) (start : Option ℕ) → IsWriteBy a command start → 1 ≤ page
     → page ≤ a.message.pages → HasPage page command start
-has_page a page (commands.Write id serial replaces category period broadcasts dcs contents) start h some few =
+has_page a page (commands.Write id serial replaces category dcs period broadcasts contents) start h some few =
     (some, omega (arith, h.2, few), ap is_some h.3)
 has_page a page (commands.Kill id serial) start h some few = absurd h
 has_page a page (commands.Status id serial) start h some few = absurd h

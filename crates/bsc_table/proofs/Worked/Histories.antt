@@ -42,8 +42,8 @@ contents (suc n) = record { used = 0; octets = replicate 82 0 } ∷ contents n
 
 -- a write of message 4370 that asks for so many pages in each period
 abbrev pub write : ℕ → Option ℕ → Category → ℕ → ℕ → ℕ → Command
-write serial replaces category pages period broadcasts = commands.Write 4370 serial replaces category period broadcasts
-    (record { 0 = 1 }) (contents pages)
+write serial replaces category pages period broadcasts =
+    commands.Write 4370 serial replaces category (record { 0 = 1 }) period broadcasts (contents pages)
 
 -- a kill and a status of a message of that identifier
 abbrev pub kill : ℕ → Command
@@ -233,7 +233,7 @@ slots_rise-upto from (e ∷ log) to rise =
 
 -- well-formed commands, as a test
 abbrev is_formed : Command → Bool
-is_formed (commands.Write id serial replaces category period broadcasts dcs contents) =
+is_formed (commands.Write id serial replaces category dcs period broadcasts contents) =
     (nat_le 1 (length contents) && nat_le (length contents) 15) &&
     (list_all (λ c. nat_le c.used 82) contents && ((nat_le 1 period && nat_le period 1024) &&
     (has_alphabet dcs.0 && list_all is_full contents)))
@@ -241,7 +241,7 @@ is_formed (commands.Kill id serial) = true
 is_formed (commands.Status id serial) = true
 
 is_formed-says : (command : Command) → is_formed command ≡ true → IsWellFormed command
-is_formed-says (commands.Write id serial replaces category period broadcasts dcs contents) formed =
+is_formed-says (commands.Write id serial replaces category dcs period broadcasts contents) formed =
     let first = and_parts _ _ formed in
     let pages = and_parts _ _ first.0 in
     let second = and_parts _ _ first.1 in
