@@ -14,10 +14,9 @@ use Rattle.scheduler.specs.Message.{ScheduledMessage, stopped_if}
 use Rattle.scheduler.specs.Air.{Air, IsAirOf}
 use Rattle.scheduler.specs.Follows.{PlanState, Follows, next_slot}
 use Rattle.cbsp_wire.specs.declared.cause.TheConstants.{BSC_CAPACITY_EXCEEDED, CELL_MEMORY_EXCEEDED}
+use Rattle.std.specs.declared.alloc.AllocError.{AllocError}
 use Rattle.bsc_table.specs.declared.command.Command.{Command}
 use Rattle.bsc_table.specs.declared.command.Command.TheVariants as commands
-use Rattle.bsc_table.specs.declared.decision.Decision.{Decision}
-use Rattle.bsc_table.specs.declared.decision.Decision.TheVariants as decisions
 use Rattle.bsc_table.specs.declared.entry.Answer.{Answer}
 use Rattle.bsc_table.specs.declared.entry.Answer.TheVariants as answers
 use Rattle.bsc_table.specs.declared.entry.Entry.{Entry}
@@ -27,14 +26,14 @@ use Rattle.bsc_table.specs.declared.accepted.TheConstants.{LATEST_START}
 use Rattle.bsc_table.specs.declared.table.Kept.{Kept}
 use Rattle.bsc_table.specs.Record.{Record, Accepted, write_message, accepted_in, claims_in, rank_of, place_after}
 use Rattle.bsc_table.specs.Record.{is_of_pair, is_live}
+use Rattle.bsc_table.specs.Legal.{IsLegal}
 use Rattle.bsc_table.specs.Begun.{IsBegun}
 use Rattle.bsc_table.specs.Claim.{Claim, own_load, is_claimed_at, claimed_at, stop_claims}
 use Rattle.bsc_table.specs.Handover.{Place}
 use Rattle.bsc_table.specs.Orders.{IsWellFormed}
 use Rattle.bsc_table.specs.Answer.{answer_at, admit_or_refuse, answer_with_room}
-use Rattle.bsc_table.specs.Transitions.{entry_by}
+use Rattle.bsc_table.specs.Transitions.{entry_by, with_entry}
 use Rattle.bsc_table.specs.Accepted.{accepted_of}
-use Rattle.bsc_table.specs.Refusals.{is_accepting}
 
 -- what is kept, with the message of that number stopped at the slot
 abbrev pub accepted_stopped : ℕ → ℕ → AcceptedMessage → AcceptedMessage
@@ -79,27 +78,24 @@ pub record IsReplacement (r : Record) (e : Entry) (old new : Accepted) : Type 0 
   pub after : accepted_in (r.log ++ e ∷ []) ≡ map (stop_numbered old.message.entry r.clock) (accepted_in r.log) ++ new
       ∷ []
 
--- the answer of a decision
-abbrev pub decided_answer : Decision → Answer
-decided_answer (decisions.Noted answer) = answer
-decided_answer (decisions.Stops old completed) = answers.Stopped completed
-decided_answer (decisions.Starts new gap) = answers.Started new.accepted
-decided_answer (decisions.Replaces old new gap completed) = answers.Replaced new.start completed
+-- the right answer to a command, where the log has room
+abbrev pub right_answer : Record → Command → Answer
+right_answer r command = answer_with_room r.slots r.log r.air r.clock command
 
--- what a decision says of the messages is what its entry does to them; one that is only noted accepts nothing, and a
--- message that replaces another starts so soon that the end of its broadcasts has room in 32 bits
-abbrev pub Does : Record → Entry → Decision → Type 0
-Does r e (decisions.Noted answer) = is_accepting answer ≡ false
-Does r e (decisions.Stops old completed) = IsStop r e (accepted_of old.message)
-Does r e (decisions.Starts new gap) = IsStart r e (accepted_of new)
-Does r e (decisions.Replaces old new gap completed) =
-    IsReplacement r e (accepted_of old.message) (accepted_of new) × (new.start < LATEST_START)
+-- a command that may be entered: a well-formed one, where the log has room
+pub record IsAsked (r : Record) (command : Command) : Type 0 where
+  pub legal : IsLegal r
+  pub room : length r.log < 4096
+  pub formed : IsWellFormed command
 
--- so it is with the entry of this command, which comes next
-abbrev pub Decides : Record → Command → Decision → Type 0
-Decides r command d = Does r (entry_by r command (decided_answer d)) d
+-- a command was entered with the right answer; or nothing has changed, if out of memory
+abbrev pub IsAnswered : Record → Command → Record → Result Answer AllocError → Type 0
+IsAnswered before command after (Ok answer) =
+    (answer ≡ right_answer before command) × (after ≡ with_entry (entry_by before command answer) before)
+IsAnswered before command after (Err refused) = after ≡ before
 
--- a message that a write offers now: it would have the next entry's number, be accepted at the clock, and begin there
+-- a message that a write offers now: it would have the next entry's number, be accepted at the clock, and begin there,
+-- so soon that the end of its broadcasts has room in 32 bits
 pub record IsOffered (r : Record) (a : Accepted) : Type 0 where
   pub numbered : a.message.entry ≡ length r.log
   pub accepted : a.accepted ≡ r.clock
@@ -109,6 +105,7 @@ pub record IsOffered (r : Record) (a : Accepted) : Type 0 where
   pub standing : a.message.stop ≡ None
   pub some_pages : 0 < a.message.pages
   pub some_period : 0 < a.message.period
+  pub soon : a.message.start < LATEST_START
 
 -- a write of that message, in the place of the one of this serial number or of none
 abbrev pub IsWriteOf : Accepted → Option ℕ → Command → Type 0
@@ -117,10 +114,6 @@ IsWriteOf a replaced (commands.Write id serial replaces category dcs period broa
     × (write_message a.message.entry a.accepted a.message.start a.behind a.excess id serial (length contents) period
     broadcasts (rank_of category) ≡ a)
 IsWriteOf a replaced other = ⊥
-
--- and with that of each such write
-abbrev pub DecidesWrites : Record → Accepted → Option ℕ → Decision → Type 0
-DecidesWrites r a replaced d = (write : Command) → IsWriteOf a replaced write → Decides r write d
 
 -- the reservations of a budget hold the place that a load is to take behind an entry, up to its start: that one has
 -- started and ends there, none waits behind it, and the load has so much over its own
@@ -147,6 +140,12 @@ IsNotLive slot (Some m) = is_live slot m ≡ false
 pub record IsLiveAs (slot id serial : ℕ) (log : List Entry) (a : Accepted) : Type 0 where
   pub found : find (is_of_pair id serial) (accepted_in log) ≡ Some a
   pub live : is_live slot a.message ≡ true
+
+-- a write of a message in the place of a live one
+pub record IsWriteInPlaceOf (r : Record) (old new : Accepted) (command : Command) : Type 0 where
+  pub replaced : ℕ
+  pub live : IsLiveAs r.clock new.id replaced r.log old
+  pub write : IsWriteOf new (Some replaced) command
 
 -- the causes of a refusal for want of room
 abbrev pub cause_of : NoRoom → ℕ

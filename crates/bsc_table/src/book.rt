@@ -18,7 +18,6 @@ ghost use Rattle.bsc_table.specs.Record.{message_named};
 ghost use Rattle.bsc_table.specs.Record.{claim_of, claims_in};
 ghost use Rattle.bsc_table.specs.Answer.{status_of, status_answer, answer_to_kill, answer_to_write, before_end};
 ghost use Rattle.bsc_table.specs.Answer.{answer_with_room, answer_of, answer_to_replacement};
-ghost use Rattle.bsc_table.specs.declared.decision.Decision.TheVariants as decisions;
 ghost use Rattle.bsc_table.specs.Orders.{IsWellFormed};
 ghost use Rattle.bsc_table.specs.Legal.{IsLegal};
 ghost use Rattle.bsc_table.specs.Promised.{IsServed, IsBounded};
@@ -27,8 +26,9 @@ ghost use Rattle.bsc_table.specs.Transitions.{Ask, IsStep, Play};
 ghost use Rattle.bsc_table.specs.Accepted.{accepted_of};
 ghost use Rattle.bsc_table.specs.Book.{air_pairs, reservation_for};
 ghost use Rattle.bsc_table.specs.BookSteps.{AreAired, IsNotLive, IsLiveAs, IsLiveIn, IsNextEntry, IsStop, IsStart};
-ghost use Rattle.bsc_table.specs.BookSteps.{IsReplacement, IsOffered, IsRoom, IsLater, Decides, DecidesWrites};
-ghost use Rattle.bsc_table.specs.BookSteps.{decided_answer, message_kept, cause_of, left_by, place_found, HasRoomFor};
+ghost use Rattle.bsc_table.specs.BookSteps.{IsReplacement, IsOffered, IsRoom, IsLater, IsAsked, IsAnswered};
+ghost use Rattle.bsc_table.specs.BookSteps.{IsWriteOf, IsWriteInPlaceOf, message_kept, cause_of, left_by, place_found};
+ghost use Rattle.bsc_table.specs.BookSteps.{right_answer, HasRoomFor};
 ghost use Rattle.bsc_table.specs.Refusals.{is_accepting};
 ghost use Rattle.admission.specs.Reservation.{end_of_stopped};
 ghost use Rattle.admission.specs.Waiting.{behind_of};
@@ -36,7 +36,6 @@ ghost use Rattle.admission.specs.Table.{ends_at, passed};
 
 use crate::accepted::{AcceptedMessage, Place};
 use crate::command::{Command, Refused};
-use crate::decision::Decision;
 use crate::entry::{Aired, Answer, Entry, SlotRange, State};
 use crate::record::CellRecord;
 use crate::table::{BEHIND_ALL, Kept, Table};
@@ -188,10 +187,8 @@ impl CellBook {
         if self.log.len() >= MAX_ENTRIES {
             return Answer::Cause(cause::BSC_MEMORY_EXCEEDED);
         }
-        let decision = self.decide(command);
-        let answer = decision.answer();
-        match self.enter(command, decision) {
-            Ok(()) => answer,
+        match self.answer(command) {
+            Ok(answer) => answer,
             Err(Refused) => Answer::Refused,
         }
     }
@@ -231,30 +228,279 @@ impl CellBook {
         CellRecord::of(cell, slots, log, air)
     }
 
-    /// Enters a command with the answer of its decision.
-    fn enter(&mut self, command: &Command, decision: Decision) -> Result<(), Refused>
-        requires formed { IsWellFormed command.now }
-        requires room { length self.old.log < 4096 }
-        requires right { decided_answer decision
-            ≡ answer_with_room self.old.slots self.old.log self.old.air self.old.clock command.now }
-        requires decides { Decides self.old command.now decision }
-        ensures entered { OnOk result
-            (self.new ≡ with_entry (entry_by self.old command.now (decided_answer decision)) self.old) }
-        ensures refused { OnErr result (self.new ≡ self.old) }
+    /// Answers a command, and enters it with its answer.
+    fn answer(&mut self, command: &Command) -> Result<Answer, Refused>
+        requires { IsAsked self.old command.now }
+        ensures { IsAnswered self.old command.now self.new result }
     {
-        let entry = Entry {
-            command: command.copy(*self.log.allocator())?,
-            slot: self.clock,
-            answer: decision.answer(),
-        };
-        match decision {
-            Decision::Noted(_) => self.enter_alone(entry),
-            Decision::Stops { old, .. } => self.enter_stop(entry, &old),
-            Decision::Starts { new, gap } => self.enter_new(entry, new, gap),
-            Decision::Replaces { old, new, gap, .. } => {
-                self.enter_replacement(entry, &old, new, gap)
+        match command {
+            Command::Status { id, serial } => {
+                let answer = self.answer_to_status(*id, *serial);
+                self.note(command, answer)
+            }
+            Command::Kill { id, serial } => self.kill(command, *id, *serial),
+            Command::Write {
+                id,
+                serial,
+                replaces,
+                category,
+                period,
+                broadcasts,
+                contents,
+                ..
+            } => {
+                let new = AcceptedMessage {
+                    id: *id,
+                    serial: *serial,
+                    entry: self.log.len() as u16,
+                    accepted: self.clock,
+                    behind: None,
+                    excess: 0,
+                    start: u32::from(self.clock),
+                    pages: contents.as_slice().len() as u8,
+                    period: *period,
+                    broadcasts: *broadcasts,
+                    category: *category,
+                    stop: None,
+                };
+                self.write(command, &new, *replaces)
             }
         }
+    }
+
+    /// The answer to a status.
+    fn answer_to_status(&self, id: u16, serial: Serial) -> Answer
+        ensures right { result ≡ status_answer self.now.air self.now.clock (message_named id serial self.now.log) }
+        ensures noted { is_accepting result ≡ false }
+    {
+        match self.status(id, serial) {
+            None => Answer::Unknown,
+            Some((completed, state)) => Answer::Told { completed, state },
+        }
+    }
+
+    /// Answers a kill.
+    fn kill(&mut self, command: &Command, id: u16, serial: Serial) -> Result<Answer, Refused>
+        requires asked { IsAsked self.old command.now }
+        requires kill { command.now ≡ commands.Kill id serial }
+        ensures { IsAnswered self.old command.now self.new result }
+    {
+        if self.is_over() {
+            return self.note(
+                command,
+                Answer::Cause(cause::CELL_BROADCAST_NOT_OPERATIONAL),
+            );
+        }
+        match self.live(id, serial) {
+            None => self.note(
+                command,
+                Answer::Cause(cause::MESSAGE_REFERENCE_NOT_IDENTIFIED),
+            ),
+            Some(kept) => self.stop(command, &kept),
+        }
+    }
+
+    /// Answers a write.
+    fn write(
+        &mut self,
+        command: &Command,
+        new: &AcceptedMessage,
+        replaces: Option<Serial>,
+    ) -> Result<Answer, Refused>
+        requires asked { IsAsked self.old command.now }
+        requires offered { IsOffered self.old (accepted_of new.now) }
+        requires write { IsWriteOf (accepted_of new.now) replaces command.now }
+        requires right { right_answer self.old command.now
+            ≡ before_end self.old.slots self.old.clock (answer_to_write self.old.log self.old.air self.old.clock
+            new.now.id new.now.serial replaces new.now.category (load_of new.now.pages new.now.period)) }
+        ensures { IsAnswered self.old command.now self.new result }
+    {
+        if self.is_over() {
+            return self.note(
+                command,
+                Answer::Cause(cause::CELL_BROADCAST_NOT_OPERATIONAL),
+            );
+        }
+        match replaces {
+            None => self.write_new(command, new),
+            Some(replaced) => self.write_in_place(command, new, replaced),
+        }
+    }
+
+    /// Answers a write in the place of no message before the run's end.
+    fn write_new(&mut self, command: &Command, new: &AcceptedMessage) -> Result<Answer, Refused>
+        requires asked { IsAsked self.old command.now }
+        requires offered { IsOffered self.old (accepted_of new.now) }
+        requires write { IsWriteOf (accepted_of new.now) None command.now }
+        requires right { right_answer self.old command.now
+            ≡ answer_to_write self.old.log self.old.air self.old.clock new.now.id new.now.serial None new.now.category
+            (load_of new.now.pages new.now.period) }
+        ensures { IsAnswered self.old command.now self.new result }
+    {
+        let Err(gap) = self.named(BEHIND_ALL, new.id, new.serial) else {
+            return self.note(
+                command,
+                Answer::Cause(cause::MESSAGE_REFERENCE_ALREADY_USED),
+            );
+        };
+        if new.category.is_background() {
+            return self.start(command, new, gap);
+        }
+        match self.room(new.load()) {
+            Ok(()) => self.start(command, new, gap),
+            Err(full) => self.note(command, Answer::Cause(cause_of(full))),
+        }
+    }
+
+    /// Answers a write in the place of the message of this serial number before the run's end.
+    fn write_in_place(
+        &mut self,
+        command: &Command,
+        new: &AcceptedMessage,
+        replaced: Serial,
+    ) -> Result<Answer, Refused>
+        requires asked { IsAsked self.old command.now }
+        requires offered { IsOffered self.old (accepted_of new.now) }
+        requires write { IsWriteOf (accepted_of new.now) (Some replaced) command.now }
+        requires right { right_answer self.old command.now
+            ≡ answer_to_write self.old.log self.old.air self.old.clock new.now.id new.now.serial (Some replaced)
+            new.now.category (load_of new.now.pages new.now.period) }
+        ensures { IsAnswered self.old command.now self.new result }
+    {
+        let Some(kept) = self.live(new.id, replaced) else {
+            return self.note(
+                command,
+                Answer::Cause(cause::MESSAGE_REFERENCE_NOT_IDENTIFIED),
+            );
+        };
+        // The next serial number goes right behind the replaced one's.
+        match self.named(kept.at.saturating_add(1), new.id, new.serial) {
+            Ok(_) => self.note(
+                command,
+                Answer::Cause(cause::MESSAGE_REFERENCE_ALREADY_USED),
+            ),
+            Err(gap) => self.take_over(command, &kept, new, gap),
+        }
+    }
+
+    /// Answers a write in the place of a live message, where its pair is free and goes to the gap.
+    fn take_over(
+        &mut self,
+        command: &Command,
+        old: &Kept,
+        new: &AcceptedMessage,
+        gap: usize,
+    ) -> Result<Answer, Refused>
+        requires asked { IsAsked self.old command.now }
+        requires live { IsLiveIn self.old (accepted_of old.now.message) }
+        requires offered { IsOffered self.old (accepted_of new.now) }
+        requires write { IsWriteInPlaceOf self.old (accepted_of old.now.message) (accepted_of new.now) command.now }
+        requires right { right_answer self.old command.now
+            ≡ answer_to_replacement self.old.log self.old.air self.old.clock new.now.category
+            (load_of new.now.pages new.now.period) (accepted_of old.now.message) }
+        ensures { IsAnswered self.old command.now self.new result }
+    {
+        if new.category.is_background() {
+            return self.replace(command, old, new, gap);
+        }
+        match self.room_without(&old.message, new.load()) {
+            Ok(()) => self.replace(command, old, new, gap),
+            Err(NoRoom::Table) => { self.note(command, Answer::Cause(cause::CELL_MEMORY_EXCEEDED)) }
+            Err(NoRoom::Load) => match self.later_place(old, new.load()) {
+                None => self.note(command, Answer::Cause(cause::BSC_CAPACITY_EXCEEDED)),
+                Some(place) => self.replace(command, old, &new.waiting_at(place), gap),
+            },
+        }
+    }
+
+    /// The entry of a command with its answer, which is to come next.
+    fn entry(&self, command: &Command, answer: Answer) -> Result<Entry, Refused>
+        ensures { IfOk result (λ entry. entry ≡ entry_by self.now command.now answer) }
+    {
+        Ok(Entry {
+            command: command.copy(*self.log.allocator())?,
+            slot: self.clock,
+            answer,
+        })
+    }
+
+    /// Enters a command with an answer that stops and starts nothing.
+    fn note(&mut self, command: &Command, answer: Answer) -> Result<Answer, Refused>
+        requires asked { IsAsked self.old command.now }
+        requires right { right_answer self.old command.now ≡ answer }
+        requires noted { is_accepting answer ≡ false }
+        ensures { IsAnswered self.old command.now self.new result }
+    {
+        let entry = self.entry(command, answer)?;
+        self.enter_alone(entry)?;
+        Ok(answer)
+    }
+
+    /// Enters a command that stops a message.
+    fn stop(&mut self, command: &Command, old: &Kept) -> Result<Answer, Refused>
+        requires asked { IsAsked self.old command.now }
+        requires right { right_answer self.old command.now
+            ≡ answers.Stopped (completed (accepted_of old.now.message).message self.old.air self.old.clock) }
+        requires stop { IsStop self.old
+            (entry_by self.old command.now
+            (answers.Stopped (completed (accepted_of old.now.message).message self.old.air self.old.clock)))
+            (accepted_of old.now.message) }
+        ensures { IsAnswered self.old command.now self.new result }
+    {
+        let answer = Answer::Stopped {
+            completed: self.completed(&old.message),
+        };
+        let entry = self.entry(command, answer)?;
+        self.enter_stop(entry, old)?;
+        Ok(answer)
+    }
+
+    /// Enters a command that starts a message, whose pair goes to the gap.
+    fn start(
+        &mut self,
+        command: &Command,
+        new: &AcceptedMessage,
+        gap: usize,
+    ) -> Result<Answer, Refused>
+        requires asked { IsAsked self.old command.now }
+        requires right { right_answer self.old command.now ≡ answers.Started new.now.accepted }
+        requires start { IsStart self.old (entry_by self.old command.now (answers.Started new.now.accepted))
+            (accepted_of new.now) }
+        ensures { IsAnswered self.old command.now self.new result }
+    {
+        let answer = Answer::Started { slot: new.accepted };
+        let entry = self.entry(command, answer)?;
+        self.enter_new(entry, new, gap)?;
+        Ok(answer)
+    }
+
+    /// Enters a command that stops a message and starts one in its place, whose pair goes to the gap.
+    fn replace(
+        &mut self,
+        command: &Command,
+        old: &Kept,
+        new: &AcceptedMessage,
+        gap: usize,
+    ) -> Result<Answer, Refused>
+        requires asked { IsAsked self.old command.now }
+        requires right { right_answer self.old command.now
+            ≡ answers.Replaced new.now.start
+            (completed (accepted_of old.now.message).message self.old.air self.old.clock) }
+        requires replacement { IsReplacement self.old
+            (entry_by self.old command.now
+            (answers.Replaced new.now.start
+            (completed (accepted_of old.now.message).message self.old.air self.old.clock)))
+            (accepted_of old.now.message) (accepted_of new.now) }
+        requires soon { new.now.start < LATEST_START }
+        ensures { IsAnswered self.old command.now self.new result }
+    {
+        let answer = Answer::Replaced {
+            slot: u32::from(new.start),
+            completed: self.completed(&old.message),
+        };
+        let entry = self.entry(command, answer)?;
+        self.enter_replacement(entry, old, new, gap)?;
+        Ok(answer)
     }
 
     /// Enters an entry that stops and starts nothing.
@@ -286,17 +532,17 @@ impl CellBook {
     }
 
     /// Enters an entry that starts a message, whose pair goes to the gap.
-    fn enter_new(&mut self, entry: Entry, new: AcceptedMessage, gap: usize) -> Result<(), Refused>
+    fn enter_new(&mut self, entry: Entry, new: &AcceptedMessage, gap: usize) -> Result<(), Refused>
         requires next { IsNextEntry self.old entry }
-        requires start { IsStart self.old entry (accepted_of new) }
+        requires start { IsStart self.old entry (accepted_of new.now) }
         ensures entered { OnOk result (self.new ≡ with_entry entry self.old) }
         ensures refused { OnErr result (self.new ≡ self.old) }
     {
         self.log.reserve(1)?;
         self.accepted.reserve()?;
         self.plan.add(new.item())?;
-        reserve_for(&mut self.budget, &new, self.clock);
-        self.accepted.push(gap, new);
+        reserve_for(&mut self.budget, new, self.clock);
+        self.accepted.push(gap, *new);
         self.log.push_reserved(entry);
         Ok(())
     }
@@ -306,12 +552,12 @@ impl CellBook {
         &mut self,
         entry: Entry,
         old: &Kept,
-        new: AcceptedMessage,
+        new: &AcceptedMessage,
         gap: usize,
     ) -> Result<(), Refused>
         requires next { IsNextEntry self.old entry }
-        requires replacement { IsReplacement self.old entry (accepted_of old.now.message) (accepted_of new) }
-        requires soon { new.start < LATEST_START }
+        requires replacement { IsReplacement self.old entry (accepted_of old.now.message) (accepted_of new.now) }
+        requires soon { new.now.start < LATEST_START }
         ensures entered { OnOk result (self.new ≡ with_entry entry self.old) }
         ensures refused { OnErr result (self.new ≡ self.old) }
     {
@@ -322,8 +568,8 @@ impl CellBook {
         self.accepted.stop(old.place, message.entry, self.clock);
         let _ = self.plan.stop(message.entry, self.clock);
         release(&mut self.budget, message, self.clock);
-        reserve_for(&mut self.budget, &new, self.clock);
-        self.accepted.push(gap, new);
+        reserve_for(&mut self.budget, new, self.clock);
+        self.accepted.push(gap, *new);
         self.log.push_reserved(entry);
         Ok(())
     }
@@ -353,175 +599,6 @@ impl CellBook {
         match self.named(BEHIND_ALL, id, serial) {
             Ok(kept) if kept.message.is_live(self.clock) => Some(kept),
             _ => None,
-        }
-    }
-
-    /// What a command comes to where the log isn't full.
-    fn decide(&self, command: &Command) -> Decision
-        requires { IsWellFormed command.now }
-        ensures right { decided_answer result
-            ≡ answer_with_room self.now.slots self.now.log self.now.air self.now.clock command.now }
-        ensures decides { Decides self.now command.now result }
-    {
-        match command {
-            Command::Status { id, serial } => {
-                Decision::Noted(self.answer_to_status(*id, *serial))
-            }
-            Command::Kill { id, serial } => self.decide_kill(*id, *serial),
-            Command::Write {
-                id,
-                serial,
-                replaces,
-                category,
-                period,
-                broadcasts,
-                contents,
-                ..
-            } => {
-                let new = AcceptedMessage {
-                    id: *id,
-                    serial: *serial,
-                    entry: self.log.len() as u16,
-                    accepted: self.clock,
-                    behind: None,
-                    excess: 0,
-                    start: u32::from(self.clock),
-                    pages: contents.as_slice().len() as u8,
-                    period: *period,
-                    broadcasts: *broadcasts,
-                    category: *category,
-                    stop: None,
-                };
-                self.decide_write(new, *replaces)
-            }
-        }
-    }
-
-    /// The answer to a status.
-    fn answer_to_status(&self, id: u16, serial: Serial) -> Answer
-        ensures right { result ≡ status_answer self.now.air self.now.clock (message_named id serial self.now.log) }
-        ensures noted { is_accepting result ≡ false }
-    {
-        match self.status(id, serial) {
-            None => Answer::Unknown,
-            Some((completed, state)) => Answer::Told { completed, state },
-        }
-    }
-
-    /// What a kill comes to.
-    fn decide_kill(&self, id: u16, serial: Serial) -> Decision
-        requires { IsLegal self.now }
-        ensures right { decided_answer result
-            ≡ before_end self.now.slots self.now.clock
-            (answer_to_kill self.now.log self.now.air self.now.clock id serial) }
-        ensures decides { Decides self.now (commands.Kill id serial) result }
-    {
-        if self.is_over() {
-            return Decision::Noted(Answer::Cause(cause::CELL_BROADCAST_NOT_OPERATIONAL));
-        }
-        match self.live(id, serial) {
-            None => Decision::Noted(Answer::Cause(cause::MESSAGE_REFERENCE_NOT_IDENTIFIED)),
-            Some(kept) => Decision::Stops {
-                old: kept,
-                completed: self.completed(&kept.message),
-            },
-        }
-    }
-
-    /// What a write comes to.
-    fn decide_write(&self, new: AcceptedMessage, replaces: Option<Serial>) -> Decision
-        requires legal { IsLegal self.now }
-        requires offered { IsOffered self.now (accepted_of new) }
-        ensures right { decided_answer result
-            ≡ before_end self.now.slots self.now.clock (answer_to_write self.now.log self.now.air self.now.clock new.id
-            new.serial replaces new.category (load_of new.pages new.period)) }
-        ensures decides { DecidesWrites self.now (accepted_of new) replaces result }
-    {
-        if self.is_over() {
-            return Decision::Noted(Answer::Cause(cause::CELL_BROADCAST_NOT_OPERATIONAL));
-        }
-        match replaces {
-            None => self.decide_new(new),
-            Some(replaced) => self.decide_replacement(new, replaced),
-        }
-    }
-
-    /// What a write in the place of no message comes to before the run's end.
-    fn decide_new(&self, new: AcceptedMessage) -> Decision
-        requires { IsOffered self.now (accepted_of new) }
-        ensures right { decided_answer result
-            ≡ answer_to_write self.now.log self.now.air self.now.clock new.id new.serial None new.category
-            (load_of new.pages new.period) }
-        ensures decides { DecidesWrites self.now (accepted_of new) None result }
-    {
-        let Err(gap) = self.named(BEHIND_ALL, new.id, new.serial) else {
-            return Decision::Noted(Answer::Cause(cause::MESSAGE_REFERENCE_ALREADY_USED));
-        };
-        if new.category.is_background() {
-            return Decision::Starts { new, gap };
-        }
-        match self.room(new.load()) {
-            Ok(()) => Decision::Starts { new, gap },
-            Err(full) => Decision::Noted(Answer::Cause(cause_of(full))),
-        }
-    }
-
-    /// What a write in the place of the message of this serial number comes to before the run's end.
-    fn decide_replacement(&self, new: AcceptedMessage, replaced: Serial) -> Decision
-        requires legal { IsLegal self.now }
-        requires offered { IsOffered self.now (accepted_of new) }
-        ensures right { decided_answer result
-            ≡ answer_to_write self.now.log self.now.air self.now.clock new.id new.serial (Some replaced) new.category
-            (load_of new.pages new.period) }
-        ensures decides { DecidesWrites self.now (accepted_of new) (Some replaced) result }
-    {
-        let Some(kept) = self.live(new.id, replaced) else {
-            return Decision::Noted(Answer::Cause(cause::MESSAGE_REFERENCE_NOT_IDENTIFIED));
-        };
-        // The next serial number goes right behind the replaced one's.
-        match self.named(kept.at.saturating_add(1), new.id, new.serial) {
-            Ok(_) => Decision::Noted(Answer::Cause(cause::MESSAGE_REFERENCE_ALREADY_USED)),
-            Err(gap) => self.decide_takeover(&kept, new, gap),
-        }
-    }
-
-    /// What a write in the place of a live message comes to, where its pair is free and goes to the gap.
-    fn decide_takeover(&self, old: &Kept, new: AcceptedMessage, gap: usize) -> Decision
-        requires legal { IsLegal self.now }
-        requires live { IsLiveIn self.now (accepted_of old.now.message) }
-        requires offered { IsOffered self.now (accepted_of new) }
-        ensures right { decided_answer result
-            ≡ answer_to_replacement self.now.log self.now.air self.now.clock new.category
-            (load_of new.pages new.period) (accepted_of old.now.message) }
-        ensures decides { (replaced : ℕ)
-            → IsLiveAs self.now.clock new.id replaced self.now.log (accepted_of old.now.message)
-            → DecidesWrites self.now (accepted_of new) (Some replaced) result }
-    {
-        if new.category.is_background() {
-            return self.replacing(old, new, gap);
-        }
-        match self.room_without(&old.message, new.load()) {
-            Ok(()) => self.replacing(old, new, gap),
-            Err(NoRoom::Table) => Decision::Noted(Answer::Cause(cause::CELL_MEMORY_EXCEEDED)),
-            Err(NoRoom::Load) => match self.later_place(old, new.load()) {
-                None => Decision::Noted(Answer::Cause(cause::BSC_CAPACITY_EXCEEDED)),
-                Some(place) => self.replacing(old, new.waiting_at(place), gap),
-            },
-        }
-    }
-
-    /// A message in the place of a live one.
-    fn replacing(&self, old: &Kept, new: AcceptedMessage, gap: usize) -> Decision
-        requires { IsLiveIn self.now (accepted_of old.now.message) }
-        ensures { result
-            ≡ decisions.Replaces old.now new gap
-            (completed (accepted_of old.now.message).message self.now.air self.now.clock) }
-    {
-        Decision::Replaces {
-            old: *old,
-            new,
-            gap,
-            completed: self.completed(&old.message),
         }
     }
 

@@ -7,7 +7,6 @@
 mod accepted;
 pub mod book;
 pub mod command;
-mod decision;
 pub mod entry;
 mod laws;
 mod orders;

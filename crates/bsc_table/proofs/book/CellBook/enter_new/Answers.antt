@@ -23,7 +23,7 @@ use Rattle.bsc_table.proofs.book.CellBook.enter_new.Goals as goal
 pub add-requires-clause-rising : goal.add-requires-clause-rising
 add-requires-clause-rising c =
     let r : Record = record_of c.self.inside in
-    let Starts : Record → Type 0 = λ x. IsStart x c.args.entry (accepted_of c.args.new) in
+    let Starts : Record → Type 0 = λ x. IsStart x c.args.entry (accepted_of c.args.new.now) in
     let start = subst Starts (sym c.self.view_is) c.requires.start in
     let may = start.begun in
     let below = planned_below c.self.inside.plan r.log r.air c.self.invariant.follows in
@@ -33,14 +33,14 @@ add-requires-clause-rising c =
 pub reserve_for-requires-clause-soon : goal.reserve_for-requires-clause-soon
 reserve_for-requires-clause-soon c =
     let r : Record = record_of c.self.inside in
-    let Starts : Record → Type 0 = λ x. IsStart x c.args.entry (accepted_of c.args.new) in
+    let Starts : Record → Type 0 = λ x. IsStart x c.args.entry (accepted_of c.args.new.now) in
     let start = subst Starts (sym c.self.view_is) c.requires.start in
     omega (arith, start.begun.starts.start, c.self.invariant.legal.within, c.self.invariant.short)
 
 pub reserve_for-requires-clause-unreserved : goal.reserve_for-requires-clause-unreserved
 reserve_for-requires-clause-unreserved c =
     let r : Record = record_of c.self.inside in
-    let Starts : Record → Type 0 = λ x. IsStart x c.args.entry (accepted_of c.args.new) in
+    let Starts : Record → Type 0 = λ x. IsStart x c.args.entry (accepted_of c.args.new.now) in
     let start = subst Starts (sym c.self.view_is) c.requires.start in
     let Below : List Held → Type 0 = λ reservations. All (λ (h : Held). h.entry < length r.log) reservations in
     let below = subst Below (sym c.self.invariant.held) (held_below r.clock r.log) in
@@ -49,12 +49,12 @@ reserve_for-requires-clause-unreserved c =
 pub reserve_for-requires-clause-room : goal.reserve_for-requires-clause-room
 reserve_for-requires-clause-room c =
     let r : Record = record_of c.self.inside in
-    let new : Accepted = accepted_of c.args.new in
+    let new : Accepted = accepted_of c.args.new.now in
     let Starts : Record → Type 0 = λ x. IsStart x c.args.entry new in
     let start = subst Starts (sym c.self.view_is) c.requires.start in
     let Room : List Held → Type 0 = λ reservations. HasRoomFor r.clock reservations (claim_of new) new.behind in
     λ is. subst Room (sym c.self.invariant.held) (room_for_new (length r.log) r.clock (accepted_in r.log) new
-    (IsSound-legal r c.self.invariant.legal).order start.begun (in_front c.args.new.category is))
+    (IsSound-legal r c.self.invariant.legal).order start.begun (in_front c.args.new.now.category is))
 
 pub push-requires-clause-few : goal.push-requires-clause-few
 push-requires-clause-few c =
@@ -67,7 +67,7 @@ push-requires-clause-few c =
 pub push-requires-clause-rising : goal.push-requires-clause-rising
 push-requires-clause-rising c =
     let r : Record = record_of c.self.inside in
-    let Starts : Record → Type 0 = λ x. IsStart x c.args.entry (accepted_of c.args.new) in
+    let Starts : Record → Type 0 = λ x. IsStart x c.args.entry (accepted_of c.args.new.now) in
     let start = subst Starts (sym c.self.view_is) c.requires.start in
     let Below : List Accepted → Type 0 = λ l. All (λ (a : Accepted). a.message.entry < length r.log) l in
     let below = subst Below (sym (c.reserve-2.ensures.same ∙ c.self.invariant.kept)) (numbers_below r.log) in
@@ -76,7 +76,7 @@ push-requires-clause-rising c =
 pub push-requires-clause-apart : goal.push-requires-clause-apart
 push-requires-clause-apart c =
     let r : Record = record_of c.self.inside in
-    let new : Accepted = accepted_of c.args.new in
+    let new : Accepted = accepted_of c.args.new.now in
     let Next : Record → Type 0 = λ x. IsNextEntry x c.args.entry in
     let Starts : Record → Type 0 = λ x. IsStart x c.args.entry new in
     let next = subst Next (sym c.self.view_is) c.requires.next in
@@ -90,7 +90,7 @@ invariant_of-self-2 c =
     let book = c.self.invariant in
     let r : Record = record_of c.self.inside in
     let e : Entry = c.args.entry in
-    let new : Accepted = accepted_of c.args.new in
+    let new : Accepted = accepted_of c.args.new.now in
     let before : List ScheduledMessage = messages_in r.log in
     let inside = sym c.self.view_is in
     let Next : Record → Type 0 = λ x. IsNextEntry x e in
@@ -112,8 +112,8 @@ invariant_of-self-2 c =
     -- the budget
     let claims = claims_with r.log e (accepted_in r.log) new adds in
     let reservations = begun_reservations (length r.log) r.clock None (accepted_in r.log) (claims_in r.log) new may
-    c.self.inside.budget c.reserve_for.new.budget book.held (is_background_category c.args.new.category)
-    (layer_tells c.args.new.category) c.reserve_for.ensures in
+    c.self.inside.budget c.reserve_for.new.budget book.held (is_background_category c.args.new.now.category)
+    (layer_tells c.args.new.now.category) c.reserve_for.ensures in
     let FollowsAll : List ScheduledMessage → Type 0 = λ all. Follows c.add.new.self all r.air in
     let HeldFor : List Claim → Type 0 = λ all. c.reserve_for.new.budget ≡ reservations_at r.clock all in
     book_with c.self.inside e c.push_reserved.new.self c.push.new.self c.add.new.self

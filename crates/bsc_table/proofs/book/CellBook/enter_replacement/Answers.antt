@@ -30,7 +30,7 @@ pub add-requires-clause-rising : goal.add-requires-clause-rising
 add-requires-clause-rising c =
     let r : Record = record_of c.self.inside in
     let old : Accepted = accepted_of c.args.old.now.message in
-    let Replaces : Record → Type 0 = λ x. IsReplacement x c.args.entry old (accepted_of c.args.new) in
+    let Replaces : Record → Type 0 = λ x. IsReplacement x c.args.entry old (accepted_of c.args.new.now) in
     let change = subst Replaces (sym c.self.view_is) c.requires.replacement in
     let may = change.begun in
     let below = planned_below c.self.inside.plan r.log r.air c.self.invariant.follows in
@@ -41,7 +41,7 @@ pub stop-requires-2-clause-standing : goal.stop-requires-2-clause-standing
 stop-requires-2-clause-standing c =
     let r : Record = record_of c.self.inside in
     let old : Accepted = accepted_of c.args.old.now.message in
-    let Replaces : Record → Type 0 = λ x. IsReplacement x c.args.entry old (accepted_of c.args.new) in
+    let Replaces : Record → Type 0 = λ x. IsReplacement x c.args.entry old (accepted_of c.args.new.now) in
     let change = subst Replaces (sym c.self.view_is) c.requires.replacement in
     let found = standing_in c.self.inside.plan r.clock r.log r.air old c.self.invariant.follows change.stops.there
     change.stops.live in
@@ -52,7 +52,7 @@ pub release-requires-clause-period : goal.release-requires-clause-period
 release-requires-clause-period c =
     let r : Record = record_of c.self.inside in
     let old : Accepted = accepted_of c.args.old.now.message in
-    let Replaces : Record → Type 0 = λ x. IsReplacement x c.args.entry old (accepted_of c.args.new) in
+    let Replaces : Record → Type 0 = λ x. IsReplacement x c.args.entry old (accepted_of c.args.new.now) in
     let change = subst Replaces (sym c.self.view_is) c.requires.replacement in
     (All-contains HasLoad (accepted_in r.log) old ((IsSound-legal r c.self.invariant.legal).loaded)
     change.stops.there).1
@@ -61,7 +61,7 @@ pub release-requires-clause-reserved : goal.release-requires-clause-reserved
 release-requires-clause-reserved c =
     let r : Record = record_of c.self.inside in
     let old : Accepted = accepted_of c.args.old.now.message in
-    let Replaces : Record → Type 0 = λ x. IsReplacement x c.args.entry old (accepted_of c.args.new) in
+    let Replaces : Record → Type 0 = λ x. IsReplacement x c.args.entry old (accepted_of c.args.new.now) in
     let change = subst Replaces (sym c.self.view_is) c.requires.replacement in
     let Has : List Held → Type 0 = λ reservations. Any (λ (h : Held). h.entry ≡ old.message.entry) reservations in
     λ is. subst Has (sym c.self.invariant.held) (held_in r old c.self.invariant.legal change.stops
@@ -72,7 +72,7 @@ reserve_for-requires-clause-unreserved c =
     let r : Record = record_of c.self.inside in
     let old : Accepted = accepted_of c.args.old.now.message in
     let entry : ℕ = old.message.entry in
-    let Replaces : Record → Type 0 = λ x. IsReplacement x c.args.entry old (accepted_of c.args.new) in
+    let Replaces : Record → Type 0 = λ x. IsReplacement x c.args.entry old (accepted_of c.args.new.now) in
     let change = subst Replaces (sym c.self.view_is) c.requires.replacement in
     let reservations = released_reservations r old c.self.inside.budget c.release.new.budget c.self.invariant.legal
     change.stops
@@ -87,7 +87,7 @@ pub reserve_for-requires-clause-room : goal.reserve_for-requires-clause-room
 reserve_for-requires-clause-room c =
     let r : Record = record_of c.self.inside in
     let old : Accepted = accepted_of c.args.old.now.message in
-    let new : Accepted = accepted_of c.args.new in
+    let new : Accepted = accepted_of c.args.new.now in
     let Replaces : Record → Type 0 = λ x. IsReplacement x c.args.entry old new in
     let change = subst Replaces (sym c.self.view_is) c.requires.replacement in
     let reservations = released_reservations r old c.self.inside.budget c.release.new.budget c.self.invariant.legal
@@ -99,13 +99,13 @@ reserve_for-requires-clause-room c =
     let sound = IsSound-legal r c.self.invariant.legal in
     λ is. subst Room (sym reservations) (room_for_replacement (length r.log) r.clock (accepted_in r.log) old new
     sound.order
-    sound.rising change.stops.there change.stops.live change.begun (in_front c.args.new.category is))
+    sound.rising change.stops.there change.stops.live change.begun (in_front c.args.new.now.category is))
 
 pub release-requires-clause-free : goal.release-requires-clause-free
 release-requires-clause-free c =
     let r : Record = record_of c.self.inside in
     let old : Accepted = accepted_of c.args.old.now.message in
-    let Replaces : Record → Type 0 = λ x. IsReplacement x c.args.entry old (accepted_of c.args.new) in
+    let Replaces : Record → Type 0 = λ x. IsReplacement x c.args.entry old (accepted_of c.args.new.now) in
     let Free : List Held → Type 0 = λ reservations. All (λ (h : Held). behind_of h ≢ Some old.message.entry)
     reservations in
     let change = subst Replaces (sym c.self.view_is) c.requires.replacement in
@@ -127,7 +127,7 @@ push-requires-clause-rising c =
     let r : Record = record_of c.self.inside in
     let entry : ℕ = c.args.old.now.message.entry in
     let Replaces : Record → Type 0 = λ x. IsReplacement x c.args.entry (accepted_of c.args.old.now.message)
-    (accepted_of c.args.new) in
+    (accepted_of c.args.new.now) in
     let change = subst Replaces (sym c.self.view_is) c.requires.replacement in
     let stopped = c.stop.ensures.all ∙ ap (map (stop_numbered entry r.clock)) (c.reserve-2.ensures.same
     ∙ c.self.invariant.kept) in
@@ -140,7 +140,7 @@ pub push-requires-clause-apart : goal.push-requires-clause-apart
 push-requires-clause-apart c =
     let r : Record = record_of c.self.inside in
     let entry : ℕ = c.args.old.now.message.entry in
-    let new : Accepted = accepted_of c.args.new in
+    let new : Accepted = accepted_of c.args.new.now in
     let Next : Record → Type 0 = λ x. IsNextEntry x c.args.entry in
     let Replaces : Record → Type 0 = λ x. IsReplacement x c.args.entry (accepted_of c.args.old.now.message) new in
     let next = subst Next (sym c.self.view_is) c.requires.next in
@@ -157,7 +157,7 @@ invariant_of-self-2 c =
     let r : Record = record_of c.self.inside in
     let e : Entry = c.args.entry in
     let old : Accepted = accepted_of c.args.old.now.message in
-    let new : Accepted = accepted_of c.args.new in
+    let new : Accepted = accepted_of c.args.new.now in
     let entry : ℕ = old.message.entry in
     let rest : List Accepted = map (stop_numbered entry r.clock) (accepted_in r.log) in
     let before : List ScheduledMessage = messages_in r.log in
@@ -194,8 +194,8 @@ invariant_of-self-2 c =
     (λ (l : List Claim). l ++ filter reserves (claim_of new ∷ []))
     (claims_stopped entry r.clock (accepted_in r.log)) in
     let reservations = begun_reservations (length r.log) r.clock (Some old) rest left new may c.release.new.budget
-    c.reserve_for.new.budget released (is_background_category c.args.new.category) (layer_tells c.args.new.category)
-    c.reserve_for.ensures in
+    c.reserve_for.new.budget released (is_background_category c.args.new.now.category)
+    (layer_tells c.args.new.now.category) c.reserve_for.ensures in
     let HeldFor : List Claim → Type 0 = λ all. c.reserve_for.new.budget ≡ reservations_at r.clock all in
     book_with c.self.inside e c.push_reserved.new.self c.push.new.self c.stop-2.new.self
     c.reserve_for.new.budget book next grown kept (subst FollowsThese (sym messages) follows)

@@ -1,17 +1,17 @@
--- What a decision says of the messages is what its entry does to them.
+-- What the entry of a kill or a write does to the messages.
 use Rattle.std.proofs.Common.{◌≡◌, ℕ, ◌+◌, ◌≤◌, ◌<◌, false, cond, Option, Some, None, List, length, map, filter, refl}
-use Rattle.std.proofs.Common.{ap, sym, subst, ◌∙◌, inl, inr, arith}
+use Rattle.std.proofs.Common.{ap, sym, subst, ◌∙◌, inl, inr}
 use Rattle.std.specs.List.{find}
 use Rattle.std.proofs.lemmas.Bool.{eq-eqb}
 use Rattle.admission.specs.declared.measure.TheConstants.{SCALE}
 use Rattle.admission.specs.Load.{load_of}
 use Rattle.scheduler.specs.Air.{layer, layer_of}
+use Rattle.bsc_table.specs.declared.command.Command.{Command}
 use Rattle.bsc_table.specs.declared.command.Command.TheVariants as commands
-use Rattle.bsc_table.specs.declared.decision.Decision.TheVariants as decisions
+use Rattle.bsc_table.specs.declared.entry.Answer.TheVariants as answers
 use Rattle.bsc_table.specs.declared.accepted.AcceptedMessage.{AcceptedMessage}
 use Rattle.bsc_table.specs.declared.table.Kept.{Kept}
 use Rattle.bsc_table.specs.declared.accepted.Place.{Place as FoundPlace}
-use Rattle.bsc_table.specs.declared.accepted.TheConstants.{LATEST_START}
 use Rattle.bsc_table.specs.Claim.{Claim, is_claimed_at, claimed_at}
 use Rattle.bsc_table.specs.Handover.{ahead_of, numbered, handover}
 use Rattle.bsc_table.specs.Record.{Record, Accepted, accepted_in, is_of_pair, rank_of, claim_of, claims_of, claims_in}
@@ -19,8 +19,9 @@ use Rattle.bsc_table.specs.Record.{is_background_category, place_after, predeces
 use Rattle.bsc_table.specs.Legal.{IsLegal}
 use Rattle.bsc_table.specs.Begun.{StartsNow, Starts, IsBegun}
 use Rattle.bsc_table.specs.Accepted.{accepted_of}
-use Rattle.bsc_table.specs.BookSteps.{stop_numbered, IsLiveIn, IsLiveAs, IsOffered, HasRoom, Decides, DecidesWrites}
-use Rattle.bsc_table.specs.BookSteps.{place_found, left_by}
+use Rattle.bsc_table.specs.BookSteps.{stop_numbered, IsLiveIn, IsLiveAs, IsOffered, IsStop, IsStart, IsReplacement}
+use Rattle.bsc_table.specs.BookSteps.{IsWriteOf, HasRoom, place_found, left_by}
+use Rattle.bsc_table.specs.Transitions.{entry_by}
 use Rattle.bsc_table.proofs.History.Pairs.{live_is_standing}
 use Rattle.bsc_table.proofs.History.NextEntry.{new_message, stops_one, starts_one, replaces_one, placed_at, taken_after}
 use Rattle.bsc_table.proofs.History.NextEntry.{claims_stopped}
@@ -52,7 +53,7 @@ begins r replaced before a offered room either = record {
 pub kills : (r : Record) (id serial completed : ℕ) (old : Kept)
     → IsLegal r
     → IsLiveAs r.clock id serial r.log (accepted_of old.message)
-    → Decides r (commands.Kill id serial) (decisions.Stops old completed)
+    → IsStop r (entry_by r (commands.Kill id serial) (answers.Stopped completed)) (accepted_of old.message)
 kills r id serial completed old legal live =
     let a : Accepted = accepted_of old.message in
     let once = (IsSound-legal r legal).once in
@@ -63,32 +64,34 @@ kills r id serial completed old legal live =
     }
 
 -- a write in the place of none starts its message, where that has room
-pub starts : (r : Record) (new : AcceptedMessage) (gap : ℕ)
+pub starts : (r : Record) (new : AcceptedMessage) (command : Command)
     → IsOffered r (accepted_of new)
     → (is_background_category new.category ≡ false → HasRoom (claims_in r.log) r.clock (load_of new.pages new.period))
-    → DecidesWrites r (accepted_of new) None (decisions.Starts new gap)
-starts r new gap offered room (commands.Write id serial None category dcs period broadcasts contents) same =
+    → IsWriteOf (accepted_of new) None command
+    → IsStart r (entry_by r command (answers.Started new.accepted)) (accepted_of new)
+starts r new (commands.Write id serial None category dcs period broadcasts contents) offered room same =
     let after = starts_one r.log r.clock id serial category period broadcasts dcs contents in
     record {
       begun = begins r None (accepted_in r.log) (accepted_of new) offered (λ front. room (is_front new.category front))
           (λ now. now);
       after = cc;
     }
-starts r new gap offered room (commands.Write id serial (Some old) category dcs period broadcasts contents) same = cc
-starts r new gap offered room (commands.Kill id serial) same = absurd same
-starts r new gap offered room (commands.Status id serial) same = absurd same
+starts r new (commands.Write id serial (Some old) category dcs period broadcasts contents) offered room same = cc
+starts r new (commands.Kill id serial) offered room same = absurd same
+starts r new (commands.Status id serial) offered room same = absurd same
 
 -- and a write in the place of a live message, where it has room once that one is stopped
-pub replaces : (r : Record) (old : Kept) (new : AcceptedMessage) (gap replaced completed : ℕ)
+pub replaces : (r : Record) (old : Kept) (new : AcceptedMessage) (completed replaced : ℕ) (command : Command)
     → IsLegal r
     → IsLiveAs r.clock new.id replaced r.log (accepted_of old.message)
     → IsOffered r (accepted_of new)
-    → r.clock < LATEST_START
     → (is_background_category new.category ≡ false → HasRoom (left_by r (accepted_of old.message)) r.clock
     (load_of new.pages new.period))
-    → DecidesWrites r (accepted_of new) (Some replaced) (decisions.Replaces old new gap completed)
-replaces r old new gap replaced completed legal live offered soon room
-    (commands.Write id serial (Some named) category dcs period broadcasts contents) same =
+    → IsWriteOf (accepted_of new) (Some replaced) command
+    → IsReplacement r (entry_by r command (answers.Replaced new.start completed)) (accepted_of old.message)
+    (accepted_of new)
+replaces r old new completed replaced (commands.Write id serial (Some named) category dcs period broadcasts contents)
+    legal live offered room same =
     let a : Accepted = accepted_of old.message in
     let once = (IsSound-legal r legal).once in
     let standing = live_is_standing r.clock a.message live.live in
@@ -104,25 +107,24 @@ replaces r old new gap replaced completed legal live offered soon room
     let left : List Accepted = map (stop_numbered old.message.entry r.clock) (accepted_in r.log) in
     let Room : List Claim → Type 0 = λ claims. HasRoom claims r.clock (load_of new.pages new.period) in
     let room_left = λ (front : layer_of (rank_of new.category) ≡ 0). subst Room
-    (sym (claims_stopped old.message.entry r.clock (accepted_in r.log))) (room (is_front new.category front)) in (
-      record {
-        stops = live_in r new.id replaced a live;
-        begun = begins r (Some a) left (accepted_of new) offered room_left (λ now. inl now);
-        after = cc;
-      },
-      omega (arith, offered.begins, soon),
-    )
-replaces r old new gap replaced completed legal live offered soon room
-    (commands.Write id serial None category dcs period broadcasts contents) same = cc
-replaces r old new gap replaced completed legal live offered soon room (commands.Kill id serial) same = absurd same
-replaces r old new gap replaced completed legal live offered soon room (commands.Status id serial) same = absurd same
+    (sym (claims_stopped old.message.entry r.clock (accepted_in r.log))) (room (is_front new.category front)) in
+    record {
+      stops = live_in r new.id replaced a live;
+      begun = begins r (Some a) left (accepted_of new) offered room_left (λ now. inl now);
+      after = cc;
+    }
+replaces r old new completed replaced (commands.Write id serial None category dcs period broadcasts contents)
+    legal live offered room same = cc
+replaces r old new completed replaced (commands.Kill id serial) legal live offered room same = absurd same
+replaces r old new completed replaced (commands.Status id serial) legal live offered room same = absurd same
 
 -- the message of a write that waits
 abbrev pub waiting_at : AcceptedMessage → FoundPlace → AcceptedMessage
 waiting_at new place = record new { behind = Some place.behind; excess = place.excess; start = place.start }
 
 -- or where it takes over at a place, once that one is stopped
-pub takes_over : (r : Record) (old : Kept) (new : AcceptedMessage) (place : FoundPlace) (gap replaced completed : ℕ)
+pub takes_over : (r : Record) (old : Kept) (new : AcceptedMessage) (place : FoundPlace) (completed replaced : ℕ)
+    (command : Command)
     → IsLegal r
     → IsLiveAs r.clock new.id replaced r.log (accepted_of old.message)
     → IsOffered r (accepted_of new)
@@ -131,10 +133,12 @@ pub takes_over : (r : Record) (old : Kept) (new : AcceptedMessage) (place : Foun
     → place_after (left_by r (accepted_of old.message)) r.clock (accepted_of old.message)
     (load_of new.pages new.period) ≡ Some (place_found place)
     → claimed_at (left_by r (accepted_of old.message)) r.clock + place.excess ≤ SCALE
-    → place.start < LATEST_START
-    → DecidesWrites r (accepted_of new) (Some replaced) (decisions.Replaces old (waiting_at new place) gap completed)
-takes_over r old new place gap replaced completed legal live offered room front after_old fits soon
-    (commands.Write id serial (Some named) category dcs period broadcasts contents) same =
+    → IsWriteOf (accepted_of new) (Some replaced) command
+    → IsReplacement r (entry_by r command (answers.Replaced place.start completed)) (accepted_of old.message)
+    (accepted_of (waiting_at new place))
+takes_over r old new place completed replaced
+    (commands.Write id serial (Some named) category dcs period broadcasts contents) legal live offered room front
+    after_old fits same =
     let a : Accepted = accepted_of old.message in
     let taken = taken_after (left_by r a) r.clock (load_of new.pages new.period) a (place_found place) after_old in
     let over = taken.1 in
@@ -169,29 +173,27 @@ takes_over r old new place gap replaced completed legal live offered room front 
     let its : new_message all (length r.log) r.clock place.start (Some place.behind) id serial category period
     broadcasts contents ≡ waits =
     ap (λ n. write_message (length r.log) r.clock place.start (Some place.behind) n id serial (length contents) period
-    broadcasts (rank_of category)) excess ∙ it in (
-      record {
-        stops = live_in r new.id replaced a live;
-        begun = record {
-          numbered = offered.numbered;
-          accepted = offered.accepted;
-          standing = offered.standing;
-          some_pages = offered.some_pages;
-          some_period = offered.some_period;
-          room = λ _. subst Room same_left room;
-          starts = inr (record {
-            place = place_found place;
-            over = subst Over same_left over;
-            placed = record { behind = refl; start = refl; excess = refl };
-            of_reserved = taken.0;
-            reserved = in_front new.category front;
-            fits = subst Fits same_left fits;
-          });
-        };
-        after = cc;
-      },
-      soon,
-    )
+    broadcasts (rank_of category)) excess ∙ it in
+    record {
+      stops = live_in r new.id replaced a live;
+      begun = record {
+        numbered = offered.numbered;
+        accepted = offered.accepted;
+        standing = offered.standing;
+        some_pages = offered.some_pages;
+        some_period = offered.some_period;
+        room = λ _. subst Room same_left room;
+        starts = inr (record {
+          place = place_found place;
+          over = subst Over same_left over;
+          placed = record { behind = refl; start = refl; excess = refl };
+          of_reserved = taken.0;
+          reserved = in_front new.category front;
+          fits = subst Fits same_left fits;
+        });
+      };
+      after = cc;
+    }
   where
     -- what is offered, at another start and place
     at_place : Accepted → Accepted
@@ -215,9 +217,10 @@ takes_over r old new place gap replaced completed legal live offered room front 
         ∙ ap (λ n. write_message new.entry n place.start (Some place.behind) place.excess id serial (length contents)
         period broadcasts (rank_of category)) (sym same_slot)
         ∙ ap at_place same_new
-takes_over r old new place gap replaced completed legal live offered room front after_old fits soon
-    (commands.Write id serial None category dcs period broadcasts contents) same = cc
-takes_over r old new place gap replaced completed legal live offered room front after_old fits soon
-    (commands.Kill id serial) same = absurd same
-takes_over r old new place gap replaced completed legal live offered room front after_old fits soon
-    (commands.Status id serial) same = absurd same
+takes_over r old new place completed replaced
+    (commands.Write id serial None category dcs period broadcasts contents) legal live offered room front after_old
+    fits same = cc
+takes_over r old new place completed replaced (commands.Kill id serial) legal live offered room front after_old
+    fits same = absurd same
+takes_over r old new place completed replaced (commands.Status id serial) legal live offered room front after_old
+    fits same = absurd same
