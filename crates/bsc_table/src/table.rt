@@ -22,11 +22,14 @@ use std::alloc::Global;
 use std::marker::Model;
 
 /// The pair of a message, with the place of the message in the table.
+//
+// It has 8 octets, of which one word is made: pairs behind one that is added are then moved by one memmove, and not one
+// by one.
 #[derive(Clone, Copy)]
 pub struct Pair {
     id: u16,
     serial: u16,
-    place: u16,
+    place: u32,
 }
 
 /// A place behind all pairs. A search for which no nearer place is known looks here first, since a new pair is mostly
@@ -105,7 +108,7 @@ impl Table {
         let pair = Pair {
             id: new.id,
             serial: new.serial.number(),
-            place: self.messages.len() as u16,
+            place: self.messages.len() as u32,
         };
         if let Err(at) = search(self.by_pair.as_slice(), near, new.id, new.serial) {
             let _ = self.by_pair.insert(at, pair);
@@ -123,7 +126,7 @@ impl Table {
     {
         match search(self.by_pair.as_slice(), near, id, serial) {
             Ok(at) => {
-                let place = usize::from(self.by_pair[at].place);
+                let place = self.by_pair[at].place as usize;
                 Ok(Kept {
                     message: self.messages[place],
                     place,

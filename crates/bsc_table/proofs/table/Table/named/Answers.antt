@@ -13,8 +13,8 @@ returns-in-Ok c =
     let p = c.index.result.now in
     let m = c.index-in-Ok.result.now in
     let found = rw c.as_slice.ensures.value at c.in-Ok.ensures in
-    let read = c.index-in-Ok.ensures ∙ ap (λ n. get_or t.messages.items n m) (c.from-place.ensures
-    ∙ ap (λ (q : Pair). q.place) c.index.ensures) in
+    let read = c.index-in-Ok.ensures ∙ ap (λ n. get_or t.messages.items n m)
+    (ap (λ (q : Pair). q.place) c.index.ensures) in
     ap (λ (x : AcceptedMessage). Some (accepted_of x)) read
     ∙ sym (found_by_pair t.messages.items t.by_pair.items c.args.id c.args.serial c.in-Ok.at p m
     c.self.invariant.by_pair found)
