@@ -1,7 +1,8 @@
 //! What a cell's book keeps of the messages that it accepted.
 
-ghost use Rattle.std.specs.Prelude.{◌≡◌, ◌<◌, ◌==◌, if◌then◌else◌, Some, None, IfSome};
+ghost use Rattle.std.specs.Prelude.{◌≡◌, ◌<◌, ◌≤◌, ◌==◌, if◌then◌else◌, Some, None, IfSome};
 ghost use Rattle.std.specs.Option.{option_map};
+ghost use Rattle.admission.specs.declared.measure.TheConstants.{SCALE};
 ghost use Rattle.admission.specs.Load.{load_of};
 ghost use Rattle.admission.specs.Reservation.{natural_end, end_of_stopped};
 ghost use Rattle.scheduler.specs.Follows.{message_from};
@@ -22,6 +23,8 @@ use scheduler::Item;
 const LATEST_START: u32 = 0x1_FFFE;
 
 /// A message that was accepted.
+//
+// It has 32 octets: its fields leave few gaps, and a load that is reserved has room in 32 bits.
 #[derive(Clone, Copy, Debug, PartialEq, Eq)]
 pub struct AcceptedMessage {
     /// The message identifier.
@@ -35,7 +38,7 @@ pub struct AcceptedMessage {
     /// The number of the message behind which it waits up to its start. None where it started at once.
     pub behind: Option<u16>,
     /// The load that it reserves up to its start, in parts of `SCALE`.
-    pub excess: u64,
+    pub excess: u32,
     /// The slot from which it is broadcast.
     pub start: u32,
     /// Its pages, from 1 to 15.
@@ -171,13 +174,14 @@ impl AcceptedMessage {
         })
     }
 
-    /// The message, where it waits at that place.
+    /// The message, where it waits at that place, at which its excess is reserved.
     pub fn waiting_at(self, place: Place) -> AcceptedMessage
+        requires { place.excess ≤ SCALE }
         ensures { result ≡ record self { behind = Some place.behind; excess = place.excess; start = place.start } }
     {
         AcceptedMessage {
             behind: Some(place.behind),
-            excess: place.excess,
+            excess: place.excess as u32,
             start: place.start,
             ..self
         }
