@@ -3,8 +3,8 @@
 //! where it is looked for first. What a search finds says where that is for the next one.
 
 ghost use Rattle.std.specs.Prelude.{◌≡◌, ◌↔◌, ℕ, ◌<◌, ◌==◌, ◌&&◌, ◌++◌, ◌∷◌, [], false, true, Some, None, All, OnOk};
-ghost use Rattle.std.specs.Prelude.{◌≢◌, ◌≤◌, length, map, slice_index_or};
-ghost use Rattle.std.specs.List.{find, HoldsAt};
+ghost use Rattle.std.specs.Prelude.{◌≢◌, ◌≤◌, ◌-◌, length, map, take, slice_index_or, vec_len, vec_capacity};
+ghost use Rattle.std.specs.List.{find, insert, HoldsAt};
 ghost use Rattle.bsc_table.specs.declared.table.Pair.{Pair};
 ghost use Rattle.std.specs.declared.cmp.Ordering.TheVariants.{Less};
 ghost use Rattle.std.specs.Option.{option_map};
@@ -23,8 +23,7 @@ use std::marker::Model;
 
 /// The pair of a message, with the place of the message in the table.
 //
-// It has 8 octets, of which one word is made: pairs behind one that is added are then moved by one memmove, and not one
-// by one.
+// It has 8 octets, which are copied as one word: of copies of 6 octets LLVM makes no memmove (`put_first`).
 #[derive(Clone, Copy)]
 pub struct Pair {
     id: u16,
@@ -111,7 +110,7 @@ impl Table {
             place: self.messages.len() as u32,
         };
         if let Err(at) = search(self.by_pair.as_slice(), near, new.id, new.serial) {
-            let _ = self.by_pair.insert(at, pair);
+            insert_at(&mut self.by_pair, at, pair);
             self.messages.push_reserved(new);
         }
     }
@@ -160,6 +159,30 @@ impl Table {
             self.messages[at] = self.messages[at].stopped_if(entry, slot);
         }
     }
+}
+
+/// Puts a pair first, and moves the others up over the last.
+//
+// LLVM makes a memmove of it where it isn't inlined, as the pairs then stand at no offset.
+#[inline(never)]
+fn put_first(pairs: &mut [Pair], pair: Pair)
+    requires { 0 < length pairs.old }
+    ensures { pairs.new ≡ pair ∷ take (length pairs.old - 1) pairs.old }
+{
+    let last = pairs.len() - 1;
+    pairs.copy_within(0..last, 1);
+    pairs[0] = pair;
+}
+
+/// Puts a pair at a place, for which there is room. `Vec::insert` moves those behind it in a loop, which takes twice as
+/// many instructions as a memmove.
+fn insert_at(pairs: &mut Vec<Pair>, at: usize, pair: Pair)
+    requires within { at ≤ vec_len pairs.old }
+    requires room { vec_len pairs.old < vec_capacity pairs.old }
+    ensures { pairs.new.items ≡ insert pairs.old.items at pair }
+{
+    pairs.push_reserved(pair);
+    put_first(&mut pairs.as_mut_slice()[at..], pair);
 }
 
 /// Whether a pair comes before that of an identifier and a serial number.

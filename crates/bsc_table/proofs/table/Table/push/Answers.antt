@@ -19,15 +19,13 @@ invariant_of-self c =
     let room = subst HasRoom back c.requires.room in
     let below = subst Below back c.requires.rising in
     let gap = rw c.as_slice.ensures.value at c.in-Err.ensures in
-    let ok = c.insert.ensures.succeeds (omega (arith, room)) in
-    let pairs = rw ok at c.insert.ensures.items in
     let rising : AreRisingMessages (messages ++ c.args.new ∷ []) = all_pairs_push (λ (a b : AcceptedMessage).
     a.entry < b.entry) messages c.args.new c.self.invariant.rising (λ k d h.
     let entry = ap (λ (a : Accepted). a.message.entry) (get_or-map accepted_of messages k d (accepted_of d) h) in
     omega (arith, below k (accepted_of d) (omega (arith, h, length-map messages accepted_of)), entry)) in
     record {
       rising = subst AreRisingMessages (sym c.push_reserved.ensures.items) rising;
-      by_pair = rw (c.push_reserved.ensures.items, pairs) (with_pair messages t.by_pair.items c.args.new _ c.in-Err.at
+      by_pair = rw (c.push_reserved.ensures.items, c.insert_at.ensures) (with_pair messages t.by_pair.items c.args.new _ c.in-Err.at
           c.self.invariant.by_pair gap (ap (λ x. (c.args.new.id, x)) c.number.ensures)
           (omega (arith, c.len.ensures, t.messages.ok.0)));
     }
