@@ -82,7 +82,7 @@ pub record IsReplacement (r : Record) (e : Entry) (old new : Accepted) : Type 0 
 abbrev pub right_answer : Record → Command → Answer
 right_answer r command = answer_with_room r.slots r.log r.air r.clock command
 
--- a command that may be entered: a well-formed one, where the log has room
+-- a command that may be entered: a well-formed one, where the history is legal and its log has room
 pub record IsAsked (r : Record) (command : Command) : Type 0 where
   pub legal : IsLegal r
   pub room : length r.log < 4096

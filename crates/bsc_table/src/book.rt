@@ -1,6 +1,6 @@
 //! The book of a cell: a legal history at all times.
 
-ghost use Rattle.std.specs.Prelude.{◌≡◌, ◌≢◌, ◌⊎◌, ℕ, Some, None, IfSome, true, false, ◌+◌, ◌<◌, ◌≤◌, ◌==◌, [], ◌∷◌};
+ghost use Rattle.std.specs.Prelude.{◌≡◌, ◌≢◌, ◌⊎◌, Some, None, IfSome, true, false, ◌+◌, ◌<◌, ◌≤◌, ◌==◌, [], ◌∷◌};
 ghost use Rattle.std.specs.Prelude.{◌++◌, length, map, filter, if◌then◌else◌, IfOk, IfErr, OnOk, OnErr, min, vec_len};
 ghost use Rattle.std.specs.Prelude.{vec_capacity};
 ghost use Rattle.std.specs.List.{All, Any, Contains, find};
@@ -16,8 +16,8 @@ ghost use Rattle.admission.specs.Load.{load_of};
 ghost use Rattle.bsc_table.specs.Record.{Record, accepted_in, is_of_pair, is_background_category, place_after};
 ghost use Rattle.bsc_table.specs.Record.{message_named};
 ghost use Rattle.bsc_table.specs.Record.{claim_of, claims_in};
-ghost use Rattle.bsc_table.specs.Answer.{status_of, status_answer, answer_to_kill, answer_to_write, before_end};
-ghost use Rattle.bsc_table.specs.Answer.{answer_with_room, answer_of, answer_to_replacement};
+ghost use Rattle.bsc_table.specs.Answer.{status_of, status_answer, answer_to_write, before_end};
+ghost use Rattle.bsc_table.specs.Answer.{answer_of, answer_to_replacement};
 ghost use Rattle.bsc_table.specs.Orders.{IsWellFormed};
 ghost use Rattle.bsc_table.specs.Legal.{IsLegal};
 ghost use Rattle.bsc_table.specs.Promised.{IsServed, IsBounded};
