@@ -13,4 +13,5 @@ pub mod SameEntry
 pub mod Kept
 pub mod Noted
 pub mod NotesByCell
+pub mod Foreign
 mod Steps

@@ -125,30 +125,6 @@ noted_push books earlier given noted r notes are has = record {
         (subst (HasNoted r earlier given) (sym (ap (λ k. slice_index_or (noted ++ notes ∷ []) k n) (sym are.places)
         ∙ get_or-append_seam noted notes [] n)) has)
 
--- a note of none of the cells
-pub noted_foreign : (cells : List Cell) (books : List Record) (earlier : List (List Note)) (given : List Note)
-    (note : Note) (noted : List CellNotes)
-    → AllZip IsOfCell cells books
-    → list_any (is_cell (cell_of note)) cells ≡ false
-    → AreNoted books earlier given noted
-    → AreNoted books earlier (given ++ note ∷ []) noted
-noted_foreign cells books earlier given note noted right none are = record {
-  places = are.places;
-  each = λ place r n within. noted_other (slice_index_or books place r) earlier given note
-      (slice_index_or noted place n) (foreign place r within) (are.each place r n within);
-}
-  where
-    foreign : (place : ℕ) (r : Record) → place < length books
-        → is_note_of (slice_index_or books place r).cell note ≡ false
-    foreign place r within = elim (cases_Bool (is_cell (slice_index_or books place r).cell (cell_of note))) [
-      | inl is ↦ absurd (false≢true (sym none ∙ list_any_at (is_cell (cell_of note)) cells place r.cell
-          (subst (λ n. place < n) (AllZip-long IsOfCell cells books right) within)
-          (other_way (slice_index_or cells place r.cell) (cell_of note)
-          (subst (λ (c : Cell). is_cell c (cell_of note) ≡ true) (cell_at cells books place r.cell r right within)
-          is))))
-      | inr other ↦ other
-    ]
-
 -- a note of the cell at a place
 pub noted_note : (cells : List Cell) (books : List Record) (earlier : List (List Note)) (given : List Note)
     (note : Note) (noted : List CellNotes) (place : ℕ) (r : Record) (d new : CellNotes)
@@ -298,17 +274,14 @@ noted_ended books earlier given old new at are all is = record {
     reached : (place : ℕ) → place < length books → place < at
     reached place within = omega (arith, long, all)
 
--- the notes that stand at a book's place, in a slice of all, are those of its cell
-pub noted_at : (books : List Record) (passes : List (List Note)) (noted slice : List CellNotes) (place : ℕ) (r : Record)
+-- the notes that stand at a book's place are those of its cell
+pub noted_at : (books : List Record) (passes : List (List Note)) (noted : List CellNotes) (place : ℕ) (r : Record)
     (notes : CellNotes)
     → AreNoted books passes [] noted
-    → slice ≡ noted
     → place < length books
     → r ≡ slice_index_or books place r
-    → notes ≡ slice_index_or slice place notes
+    → notes ≡ slice_index_or noted place notes
     → HasNoted r passes [] notes
-noted_at books passes noted slice place r notes are slice_is within r_is notes_is =
+noted_at books passes noted place r notes are within r_is notes_is =
     subst (λ (s : Record). HasNoted s passes [] notes) (sym r_is)
-    (subst (HasNoted (slice_index_or books place r) passes [])
-    (sym (notes_is ∙ ap (λ (ns : List CellNotes). slice_index_or ns place notes) slice_is))
-    (are.each place r notes within))
+    (subst (HasNoted (slice_index_or books place r) passes []) (sym notes_is) (are.each place r notes within))

@@ -13,7 +13,7 @@ use Rattle.order_desk.specs.declared.settle.SettleFault.{SettleFault}
 use Rattle.order_desk.specs.declared.settle.SettleFault.TheVariants as faults
 use Rattle.order_desk.specs.Agreement.{all_notes, is_below, is_ended, is_event_at, is_full_of, times_played}
 use Rattle.order_desk.specs.Agreement.{AreInPlaceAt, Agrees}
-use Rattle.order_desk.specs.Settled.{IsStrangeAt, OverlapsAt, cell_of, is_of_cells, number_of}
+use Rattle.order_desk.specs.Settled.{IsFirstForeign, IsStrangeAt, OverlapsAt, cell_of, is_of_cells, number_of}
 
 -- the first number at which something isn't right, if there is one
 abbrev pub IsLeastFailing : (ℕ → Type 0) → Option ℕ → Type 0
@@ -84,15 +84,20 @@ pub record AreNoted (books : List Record) (earlier : List (List Note)) (given : 
 abbrev pub IsOfCell : Cell → Record → Type 0
 IsOfCell cell r = r.cell ≡ cell
 
--- the first note of a pass that is of no cell of the desk, as its cell and number
-abbrev pub IsForeignIn : List Cell → List Note → Option (Cell × ℕ) → Type 0
-IsForeignIn cells given None = All (λ n. is_of_cells cells n ≡ true) given
-IsForeignIn cells given (Some told) = (before : List Note) × (note : Note) × (after : List Note)
-    × (given ≡ before ++ note ∷ after)
-    × All (λ n. is_of_cells cells n ≡ true) before
-    × (is_of_cells cells note ≡ false)
-    × (cell_of note ≡ told.0)
-    × (number_of note ≡ told.1)
+-- a fault tells the first note of a pass that is of no cell of the desk
+pub record IsForeignIn (cells : List Cell) (given : List Note) (fault : SettleFault) : Type 0 where
+  pub before : List Note
+  pub note : Note
+  pub after : List Note
+  pub noted : given ≡ before ++ note ∷ after
+  pub own : All (λ n. is_of_cells cells n ≡ true) before
+  pub foreign : is_of_cells cells note ≡ false
+  pub told : fault ≡ faults.Strange (cell_of note) (number_of note)
+
+-- and the first one of all passes
+abbrev pub IsForeignBy : List Cell → List (List Note) → SettleFault → Type 0
+IsForeignBy cells passes fault = (note : Note) × IsFirstForeign cells passes note
+    × (fault ≡ faults.Strange (cell_of note) (number_of note))
 
 -- why a cell's notes don't agree with its record
 abbrev pub IsStrangeBy : List (List Note) → Record → SettleFault → Type 0

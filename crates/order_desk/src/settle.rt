@@ -3,17 +3,16 @@
 ghost use Rattle.std.specs.Prelude.{◌≡◌, ◌≢◌, ⊤, List, [], true, None, length, All};
 ghost use Rattle.std.specs.Prelude.{IfOk, IfErr, IfSome, IsOk, IsTrue, ◌↔◌};
 ghost use Rattle.std.specs.List.{AllZip};
-ghost use Rattle.cbsp_wire.specs.Range.{are_distinct, cells_are_valid};
+ghost use Rattle.cbsp_wire.specs.Range.{cells_are_valid};
 ghost use Rattle.order_desk.specs.declared.note.Note.{Note};
 ghost use Rattle.order_desk.specs.declared.settle.SettleFault.TheVariants as faults;
 ghost use Rattle.order_desk.specs.Agreement.{Agrees};
 ghost use Rattle.order_desk.specs.Settled.{IsBookOf, IsFault, IsFirstWrong, IsPlayedOut, IsSettled, ClosedDesk};
-ghost use Rattle.order_desk.specs.SettleSteps.{HasNoted, IsFirstJudged, IsOfCell, IsStrangeBy};
+ghost use Rattle.order_desk.specs.SettleSteps.{AreNoted, HasNoted, IsFirstJudged, IsStrangeBy};
 
 use crate::closed::Closed;
 use crate::note::Pass;
 use crate::settle::cell_notes::CellNotes;
-use crate::settle::foreign::first_foreign;
 use crate::settle::notes_by_cell::notes_of_cells;
 use crate::settle::numbers::first_strange;
 use crate::settle::slots::first_overlap;
@@ -24,7 +23,6 @@ use thiserror::Error;
 
 pub(crate) mod cell_notes;
 pub(crate) mod counts;
-pub(crate) mod foreign;
 pub(crate) mod notes_by_cell;
 pub(crate) mod numbers;
 pub(crate) mod slots;
@@ -140,24 +138,17 @@ fn records_of(alloc: Global, books: Vec<CellBook>) -> Result<Vec<CellRecord>, Se
     Ok(records)
 }
 
-/// Compares what was noted with each book, in order. It brings the notes to their cells before, so that it walks over
-/// them once.
-fn judge_all(
-    alloc: Global,
-    cells: &[Cell],
-    books: &[CellBook],
-    passes: &[Pass],
-) -> Result<(), SettleFault>
-    requires distinct { are_distinct cells.now ≡ true }
-    requires right { AllZip IsOfCell cells.now books.now }
-    ensures ok { IsOk result → All (Agrees passes.now) books.now }
+/// Compares what was noted of each cell with its book, in order.
+fn judge_all(alloc: Global, books: &[CellBook], noted: &[CellNotes]) -> Result<(), SettleFault>
+    requires { (passes : List (List Note)) × AreNoted books.now passes [] noted.now }
+    ensures ok { IsOk result → (passes : List (List Note)) → AreNoted books.now passes [] noted.now
+        → All (Agrees passes) books.now }
     ensures err { IfErr result (λ fault. fault ≢ faults.Refused
-        → IsFirstJudged passes.now books.now fault) }
+        → (passes : List (List Note)) → AreNoted books.now passes [] noted.now
+        → IsFirstJudged passes books.now fault) }
 {
-    let noted = notes_of_cells(alloc, cells, books, passes)?;
-    let notes = noted.as_slice();
     for place in 0..books.len() {
-        judge(alloc, &books[place], &notes[place])?;
+        judge(alloc, &books[place], &noted[place])?;
     }
     Ok(())
 }
@@ -184,14 +175,12 @@ impl Closed {
             slots,
             books,
         } = self;
-        if let Some((cell, number)) = first_foreign(&cells, passes) {
-            return Err(SettleFault::Strange { cell, number });
-        }
+        let noted = notes_of_cells(alloc, &cells, &books, passes)?;
         if let Some(cell) = first_wrong(&cells, slots, &books) {
             let number = MAX_ENTRIES;
             return Err(SettleFault::Strange { cell, number });
         }
-        judge_all(alloc, &cells, &books, passes)?;
+        judge_all(alloc, &books, &noted)?;
         records_of(alloc, books)
     }
 }

@@ -1,26 +1,38 @@
 //! The notes of all passes, each brought to its cell in one walk over them.
 
-ghost use Rattle.std.specs.Prelude.{◌≡◌, ◌∷◌, ◌++◌, [], length, IfOk, IsOk, List, true};
+ghost use Rattle.std.specs.Prelude.{◌≡◌, ◌≢◌, ◌∷◌, ◌++◌, [], length, All, IfErr, IfOk, IsOk, List, true, false};
 ghost use Rattle.std.specs.List.{AllZip};
 ghost use Rattle.cbsp_wire.specs.Range.{are_distinct};
 ghost use Rattle.bsc_table.specs.Record.{Record};
 ghost use Rattle.order_desk.specs.declared.note.Note.{Note};
-ghost use Rattle.order_desk.specs.Settled.{cell_of};
-ghost use Rattle.order_desk.specs.SettleSteps.{AreNoted, IsOfCell};
+ghost use Rattle.order_desk.specs.declared.settle.SettleFault.TheVariants as faults;
+ghost use Rattle.order_desk.specs.Settled.{AreOwn, cell_of, is_of_cells, number_of};
+ghost use Rattle.order_desk.specs.SettleSteps.{AreNoted, IsForeignBy, IsForeignIn, IsOfCell};
 
 use crate::note::{Note, Pass};
 use crate::settle::cell_notes::CellNotes;
+use crate::settle::{MAX_ENTRIES, SettleFault};
 use bsc_table::CellBook;
 use cbsp_wire::Cell;
 use cbsp_wire::cells::find_near;
 use std::alloc::{AllocError, Global};
 
 /// The cell of a note.
-pub(crate) fn cell_of(note: &Note) -> Cell
+fn cell_of(note: &Note) -> Cell
     ensures { result ≡ cell_of note.now }
 {
     match note {
         Note::Event { cell, .. } | Note::Played { cell, .. } | Note::Full { cell } => *cell,
+    }
+}
+
+/// The number of a note; 4,096 if it has none.
+fn number_of(note: &Note) -> u16
+    ensures { result ≡ number_of note.now }
+{
+    match note {
+        Note::Event { number, .. } => *number,
+        Note::Played { .. } | Note::Full { .. } => MAX_ENTRIES,
     }
 }
 
@@ -47,47 +59,56 @@ fn end_pass(noted: &mut [CellNotes])
     }
 }
 
-/// Adds a note to those of its cell, if that is one of these, and returns the place near which to look for the cell of
-/// the next note.
+/// Adds a note to those of its cell, and returns the place of that, near which to look for the cell of the next note. It
+/// reports a note of no cell of the desk.
 fn put(
     noted: &mut [CellNotes],
     cells: &[Cell],
     books: &[CellBook],
     near: usize,
     note: &Note,
-) -> Result<usize, AllocError>
+) -> Result<usize, SettleFault>
     requires places { length noted.old ≡ length cells.now }
     requires books { length books.now ≡ length cells.now }
     requires distinct { are_distinct cells.now ≡ true }
-    requires right { AllZip IsOfCell cells.now books.now }
     ensures places { length noted.new ≡ length noted.old }
-    ensures ok { IsOk result → (earlier : List (List Note)) (given : List Note)
+    ensures own { IsOk result → is_of_cells cells.now note.now ≡ true }
+    ensures noted { IsOk result → (earlier : List (List Note)) (given : List Note)
+        → AllZip IsOfCell cells.now books.now
         → AreNoted books.now earlier given noted.old
         → AreNoted books.now earlier (given ++ note.now ∷ []) noted.new }
+    ensures foreign { IfErr result (λ fault. fault ≢ faults.Refused
+        → (is_of_cells cells.now note.now ≡ false)
+        × (fault ≡ faults.Strange (cell_of note.now) (number_of note.now))) }
 {
-    match find_near(cells, cell_of(note), near) {
-        Some(place) => {
-            noted[place].add(books[place].log(), note)?;
-            Ok(place)
-        }
-        None => Ok(near),
-    }
+    let cell = cell_of(note);
+    let Some(place) = find_near(cells, cell, near) else {
+        return Err(SettleFault::Strange {
+            cell,
+            number: number_of(note),
+        });
+    };
+    noted[place].add(books[place].log(), note)?;
+    Ok(place)
 }
 
-/// Adds the notes of a pass, each to those of its cell.
+/// Adds the notes of a pass, each to those of its cell, up to the first one of no cell of the desk.
 fn put_all(
     noted: &mut [CellNotes],
     cells: &[Cell],
     books: &[CellBook],
     notes: &[Note],
-) -> Result<(), AllocError>
+) -> Result<(), SettleFault>
     requires places { length noted.old ≡ length cells.now }
+    requires books { length books.now ≡ length cells.now }
     requires distinct { are_distinct cells.now ≡ true }
-    requires right { AllZip IsOfCell cells.now books.now }
     ensures places { length noted.new ≡ length noted.old }
-    ensures ok { IsOk result → (earlier : List (List Note))
+    ensures own { IsOk result → All (λ n. is_of_cells cells.now n ≡ true) notes.now }
+    ensures noted { IsOk result → (earlier : List (List Note))
+        → AllZip IsOfCell cells.now books.now
         → AreNoted books.now earlier [] noted.old
         → AreNoted books.now earlier notes.now noted.new }
+    ensures foreign { IfErr result (λ fault. fault ≢ faults.Refused → IsForeignIn cells.now notes.now fault) }
 {
     let mut near = 0;
     for note in notes {
@@ -96,18 +117,22 @@ fn put_all(
     Ok(())
 }
 
-/// Adds the notes of passes, each to those of its cell.
+/// Adds the notes of passes, each to those of its cell, up to the first one of no cell of the desk.
 fn put_passes(
     noted: &mut [CellNotes],
     cells: &[Cell],
     books: &[CellBook],
     passes: &[Pass],
-) -> Result<(), AllocError>
+) -> Result<(), SettleFault>
     requires places { length noted.old ≡ length cells.now }
+    requires books { length books.now ≡ length cells.now }
     requires distinct { are_distinct cells.now ≡ true }
-    requires right { AllZip IsOfCell cells.now books.now }
     ensures places { length noted.new ≡ length noted.old }
-    ensures ok { IsOk result → AreNoted books.now [] [] noted.old → AreNoted books.now passes.now [] noted.new }
+    ensures own { IsOk result → AreOwn cells.now passes.now }
+    ensures noted { IsOk result → AllZip IsOfCell cells.now books.now
+        → AreNoted books.now [] [] noted.old
+        → AreNoted books.now passes.now [] noted.new }
+    ensures foreign { IfErr result (λ fault. fault ≢ faults.Refused → IsForeignBy cells.now passes.now fault) }
 {
     for pass in passes {
         put_all(noted, cells, books, pass.notes())?;
@@ -116,16 +141,20 @@ fn put_passes(
     Ok(())
 }
 
-/// What the passes noted of the cell of each book, in the order of the books. It leaves out notes of other cells.
+/// What the passes noted of the cell of each book, in the order of the books. It reports the first note of no cell of
+/// the desk.
 pub(crate) fn notes_of_cells(
     alloc: Global,
     cells: &[Cell],
     books: &[CellBook],
     passes: &[Pass],
-) -> Result<Vec<CellNotes>, AllocError>
+) -> Result<Vec<CellNotes>, SettleFault>
+    requires books { length books.now ≡ length cells.now }
     requires distinct { are_distinct cells.now ≡ true }
-    requires right { AllZip IsOfCell cells.now books.now }
-    ensures { IfOk result (λ noted. AreNoted books.now passes.now [] noted.items) }
+    ensures own { IsOk result → AreOwn cells.now passes.now }
+    ensures noted { IfOk result (λ noted. AllZip IsOfCell cells.now books.now
+        → AreNoted books.now passes.now [] noted.items) }
+    ensures foreign { IfErr result (λ fault. fault ≢ faults.Refused → IsForeignBy cells.now passes.now fault) }
 {
     let mut noted = none_noted(alloc, books)?;
     put_passes(noted.as_mut_slice(), cells, books, passes)?;
