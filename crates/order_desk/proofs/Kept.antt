@@ -1,6 +1,6 @@
 -- What is kept of a cell's notes by their kinds, note by note.
 use Rattle.std.proofs.Common.{◌≡◌, ◌⊎◌, ◌∙◌, ℕ, ◌+◌, ◌<◌, ◌≤◌, min, refl, sym, subst, ap, cond, leb, ltb}
-use Rattle.std.proofs.Common.{Bool, true, false, ◌==◌, ◌&&◌, ◌||◌, List, [], ◌∷◌, ◌++◌, length, filter, slice_index_or}
+use Rattle.std.proofs.Common.{Bool, true, false, ◌==◌, ◌&&◌, ◌||◌, List, [], ◌∷◌, ◌++◌, length, filter, slice_index_or, arith}
 use Rattle.std.specs.List.{list_all, list_any}
 use Rattle.std.proofs.lemmas.List.Folds.{list_all-append, list_any-append}
 use Rattle.cbsp_wire.specs.declared.message.Cell.{Cell}
@@ -11,7 +11,7 @@ use Rattle.order_desk.specs.declared.note.Note.{Note}
 use Rattle.order_desk.specs.declared.note.Note.TheVariants as notes
 use Rattle.order_desk.specs.declared.settle.cell_notes.CellNotes.{CellNotes}
 use Rattle.order_desk.specs.Agreement.{all_notes, is_below, is_ended, is_event_at, is_play_of, is_full_of}
-use Rattle.order_desk.specs.SettleSteps.{AreTimes, HasKept, is_note_of, has_slot, ends_by}
+use Rattle.order_desk.specs.SettleSteps.{AreLike, AreTimes, HasKept, is_note_of, has_slot, ends_by, ranges_of}
 use Rattle.order_desk.proofs.Tallied.{count_with, count_without, only_place, times_with, times_without}
 
 -- what a note of another cell is
@@ -73,14 +73,28 @@ any_with p xs x is = list_any-append p xs (x ∷ [])
 pub kept_none : (cell : Cell) (notes : CellNotes)
     → ((k : ℕ) → k < length notes.times_noted.items → slice_index_or notes.times_noted.items k 0 ≡ 0)
     → notes.ranges.items ≡ []
+    → notes.last ≡ record { from = 0; to = 0 }
     → notes.is_full ≡ false
     → HasKept cell [] notes
-kept_none cell notes times ranges full = record {
+kept_none cell notes times ranges last full = record {
   noted = times;
-  played = λ slot. ap (λ (rs : List SlotRange). length (filter (has_slot slot) rs)) ranges;
-  ended = λ slot. ap (list_all (ends_by slot)) ranges;
+  played = λ slot. ap (λ (rs : List SlotRange). length (filter (has_slot slot) rs)) none
+      ∙ ap (λ b. length (cond b (nothing ∷ []) [])) (no_slot slot);
+  ended = λ slot. ap (list_all (ends_by slot)) none ∙ at_once slot;
   full = full;
 }
+  where
+    nothing : SlotRange
+    nothing = record { from = 0; to = 0 }
+
+    none : ranges_of notes ≡ nothing ∷ []
+    none = ap (λ (rs : List SlotRange). rs ++ notes.last ∷ []) ranges ∙ ap (λ (r : SlotRange). r ∷ []) last
+
+    no_slot : (slot : ℕ) → has_slot slot nothing ≡ false
+    no_slot slot = grind arith
+
+    at_once : (slot : ℕ) → (leb 0 slot && true) ≡ true
+    at_once slot = grind arith
 
 -- a note of another cell changes nothing
 pub kept_other : (cell : Cell) (given : List Note) (note : Note) (notes : CellNotes)
@@ -104,7 +118,7 @@ pub kept_entry : (cell c : Cell) (given : List Note) (number : ℕ) (entry : Ent
     → slice_index_or new.times_noted.items k 0 ≡ min (slice_index_or old.times_noted.items k 0 + 1) 255)
     → ((k : ℕ) → k < length old.times_noted.items → (k < number) ⊎ (number + 1 ≤ k)
     → slice_index_or new.times_noted.items k 0 ≡ slice_index_or old.times_noted.items k 0)
-    → new.ranges.items ≡ old.ranges.items
+    → ranges_of new ≡ ranges_of old
     → new.is_full ≡ old.is_full
     → HasKept cell given old
     → HasKept cell (given ++ notes.Event c number entry ∷ []) new
@@ -125,20 +139,20 @@ kept_entry cell c given number entry old new same places inside outside ranges f
 pub kept_range : (cell c : Cell) (given : List Note) (range : SlotRange) (old new : CellNotes)
     → is_cell cell c ≡ true
     → new.times_noted ≡ old.times_noted
-    → new.ranges.items ≡ old.ranges.items ++ range ∷ []
+    → AreLike (ranges_of new) (ranges_of old ++ range ∷ [])
     → new.is_full ≡ old.is_full
     → HasKept cell given old
     → HasKept cell (given ++ notes.Played c range.from range.to ∷ []) new
 kept_range cell c given range old new same times ranges full has = record {
   noted = subst (λ (ts : _). AreTimes (is_event_at cell) (given ++ note ∷ []) ts.items) (sym times)
       (times_without (is_event_at cell) given note old.times_noted.items (λ k. refl) has.noted);
-  played = λ slot. ap (λ (rs : List SlotRange). length (filter (has_slot slot) rs)) ranges
-      ∙ (count_with (has_slot slot) old.ranges.items range
+  played = λ slot. ranges.slots slot
+      ∙ (count_with (has_slot slot) (ranges_of old) range
       ∙ (ap (λ n. n + cond (has_slot slot range) 1 0) (has.played slot)
       ∙ (ap (λ b. length (filter (is_play_of cell slot) given) + cond (b && has_slot slot range) 1 0) (sym same)
       ∙ sym (count_with (is_play_of cell slot) given note))));
-  ended = λ slot. ap (list_all (ends_by slot)) ranges
-      ∙ (list_all-append (ends_by slot) old.ranges.items (range ∷ [])
+  ended = λ slot. ranges.ends slot
+      ∙ (list_all-append (ends_by slot) (ranges_of old) (range ∷ [])
       ∙ (ap (λ b. b && (ends_by slot range && true)) (has.ended slot)
       ∙ (ap (λ b. list_all (is_ended cell slot) given && (cond b (ends_by slot range) true && true)) (sym same)
       ∙ sym (list_all-append (is_ended cell slot) given (note ∷ [])))));
@@ -152,16 +166,16 @@ kept_range cell c given range old new same times ranges full has = record {
 pub kept_full : (cell c : Cell) (given : List Note) (old new : CellNotes)
     → is_cell cell c ≡ true
     → new.times_noted ≡ old.times_noted
-    → new.ranges ≡ old.ranges
+    → ranges_of new ≡ ranges_of old
     → new.is_full ≡ true
     → HasKept cell given old
     → HasKept cell (given ++ notes.Full c ∷ []) new
 kept_full cell c given old new same times ranges full has = record {
   noted = subst (λ (ts : _). AreTimes (is_event_at cell) (given ++ note ∷ []) ts.items) (sym times)
       (times_without (is_event_at cell) given note old.times_noted.items (λ k. refl) has.noted);
-  played = λ slot. ap (λ (rs : _). length (filter (has_slot slot) rs.items)) ranges
+  played = λ slot. ap (λ (rs : List SlotRange). length (filter (has_slot slot) rs)) ranges
       ∙ (has.played slot ∙ sym (count_without (is_play_of cell slot) given note refl));
-  ended = λ slot. ap (λ (rs : _). list_all (ends_by slot) rs.items) ranges
+  ended = λ slot. ap (list_all (ends_by slot)) ranges
       ∙ (has.ended slot ∙ sym (all_without (is_ended cell slot) given note refl));
   full = full ∙ sym (any_with (is_full_of cell) given note same);
 }

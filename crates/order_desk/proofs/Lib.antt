@@ -11,6 +11,7 @@ pub mod Tallied
 pub mod Judged
 pub mod SameEntry
 pub mod Kept
+pub mod Ranges
 pub mod Noted
 pub mod NotesByCell
 pub mod Foreign

@@ -16,8 +16,8 @@ use Rattle.order_desk.specs.declared.note.Note.TheVariants as notes
 use Rattle.order_desk.specs.declared.settle.cell_notes.CellNotes.{CellNotes}
 use Rattle.order_desk.specs.Agreement.{all_notes, AreInPlaceAt, IsRightNumber, IsRightSlot}
 use Rattle.order_desk.specs.Agreement.{is_ended, is_event_at, is_full_of, times_noted, times_played}
-use Rattle.order_desk.specs.SettleSteps.{AreTimes, HasKept, HasNoted, IsLeastFailing, IsNext}
-use Rattle.order_desk.specs.SettleSteps.{ends_by, has_slot, is_note_of, lesser}
+use Rattle.order_desk.specs.SettleSteps.{AreLike, AreTimes, HasKept, HasNoted, IsLeastFailing, IsNext}
+use Rattle.order_desk.specs.SettleSteps.{ends_by, has_slot, is_note_of, lesser, ranges_of}
 use Rattle.order_desk.proofs.FirstNot.{first_same}
 use Rattle.order_desk.proofs.Judged.{right_number, right_slot}
 use Rattle.order_desk.proofs.Kept.{all_of_passes, any_of_passes}
@@ -41,13 +41,14 @@ pub noted_none : (r : Record) (entries : ℕ) (notes : CellNotes)
     → notes.times_noted.items ≡ replicate entries 0
     → notes.misplaced ≡ None
     → notes.ranges.items ≡ []
+    → notes.last ≡ record { from = 0; to = 0 }
     → notes.is_full ≡ false
     → notes.next_number ≡ 0
     → notes.played_to ≡ 0
     → HasNoted r [] [] notes
-noted_none r entries notes long times misplaced ranges full next played = record {
+noted_none r entries notes long times misplaced ranges last full next played = record {
   places = places ∙ sym long;
-  kept = kept_none r.cell notes zeros ranges full;
+  kept = kept_none r.cell notes zeros ranges last full;
   walked = walked_none r.cell r.log notes next played misplaced;
 }
   where
@@ -82,7 +83,7 @@ pub noted_entry : (r : Record) (earlier : List (List Note)) (given : List Note) 
     → (IsNext old r.log number entry × (new.misplaced ≡ old.misplaced))
     ⊎ ((IsNext old r.log number entry → ⊥) × (new.misplaced ≡ lesser old.misplaced (Some number)))
     → new.next_number ≡ max old.next_number (number + 1)
-    → new.ranges.items ≡ old.ranges.items
+    → ranges_of new ≡ ranges_of old
     → new.is_full ≡ old.is_full
     → new.played_to ≡ old.played_to
     → HasNoted r earlier given old
@@ -100,7 +101,7 @@ noted_entry r earlier given c number entry old new same places inside outside mi
 pub noted_range : (r : Record) (earlier : List (List Note)) (given : List Note) (c : Cell) (range : SlotRange)
     (old new : CellNotes)
     → is_cell r.cell c ≡ true
-    → new.ranges.items ≡ old.ranges.items ++ range ∷ []
+    → AreLike (ranges_of new) (ranges_of old ++ range ∷ [])
     → new.played_to ≡ max old.played_to range.to
     → new.times_noted ≡ old.times_noted
     → new.misplaced ≡ old.misplaced
@@ -120,7 +121,7 @@ pub noted_full : (r : Record) (earlier : List (List Note)) (given : List Note) (
     → is_cell r.cell c ≡ true
     → new.times_noted ≡ old.times_noted
     → new.misplaced ≡ old.misplaced
-    → new.ranges ≡ old.ranges
+    → ranges_of new ≡ ranges_of old
     → new.is_full ≡ true
     → new.next_number ≡ old.next_number
     → new.played_to ≡ old.played_to
@@ -137,7 +138,7 @@ noted_full r earlier given c old new same times misplaced ranges full next playe
 pub noted_end : (r : Record) (earlier : List (List Note)) (given : List Note) (old new : CellNotes)
     → new.times_noted ≡ old.times_noted
     → new.misplaced ≡ old.misplaced
-    → new.ranges ≡ old.ranges
+    → ranges_of new ≡ ranges_of old
     → new.is_full ≡ old.is_full
     → new.next_number ≡ 0
     → new.played_to ≡ 0
@@ -148,9 +149,9 @@ noted_end r earlier given old new times misplaced ranges full next played has = 
   kept = subst (λ (all : List Note). HasKept r.cell all new) (sym all_are) (record {
     noted = subst (λ (ts : _). AreTimes (is_event_at r.cell) (all_notes earlier ++ given) ts.items) (sym times)
         has.kept.noted;
-    played = subst (λ (rs : _). (slot : ℕ) → length (filter (has_slot slot) rs.items)
+    played = subst (λ (rs : List SlotRange). (slot : ℕ) → length (filter (has_slot slot) rs)
         ≡ times_played r.cell slot (all_notes earlier ++ given)) (sym ranges) has.kept.played;
-    ended = subst (λ (rs : _). (slot : ℕ) → list_all (ends_by slot) rs.items
+    ended = subst (λ (rs : List SlotRange). (slot : ℕ) → list_all (ends_by slot) rs
         ≡ list_all (is_ended r.cell slot) (all_notes earlier ++ given)) (sym ranges) has.kept.ended;
     full = full ∙ has.kept.full;
   });
@@ -200,9 +201,9 @@ least_strange r passes notes b c has once full = right_number r.cell r.log passe
 pub least_overlap : (r : Record) (passes : List (List Note)) (notes : CellNotes) (times : List ℕ) (a b : Option ℕ)
     → HasNoted r passes [] notes
     → length times ≡ r.clock
-    → AreTimes has_slot notes.ranges.items times
+    → AreTimes has_slot (ranges_of notes) times
     → IsLeastFailing (λ slot. slot < length times → slice_index_or times slot 0 ≡ 1) a
-    → IsLeastFailing (λ slot. r.clock ≤ slot → list_all (ends_by slot) notes.ranges.items ≡ true) b
+    → IsLeastFailing (λ slot. r.clock ≤ slot → list_all (ends_by slot) (ranges_of notes) ≡ true) b
     → IsLeastFailing (IsRightSlot r.cell r.clock passes) (lesser a b)
 least_overlap r passes notes times a b has places are once late = right_slot r.cell r.clock passes a b
     (first_same (λ slot. slot < length times → slice_index_or times slot 0 ≡ 1)
@@ -211,7 +212,7 @@ least_overlap r passes notes times a b has places are once late = right_slot r.c
     (counted slot (subst (λ n. slot < n) (sym places) lt)) (is (subst (λ n. slot < n) (sym places) lt)))
     (λ slot is lt. once_to (slice_index_or times slot 0) (times_played r.cell slot (all_notes passes))
     (counted slot lt) (is (subst (λ n. slot < n) places lt))) once)
-    (first_same (λ slot. r.clock ≤ slot → list_all (ends_by slot) notes.ranges.items ≡ true)
+    (first_same (λ slot. r.clock ≤ slot → list_all (ends_by slot) (ranges_of notes) ≡ true)
     (λ slot. r.clock ≤ slot → list_all (list_all (is_ended r.cell slot)) passes ≡ true) b
     (λ slot is le. sym (ended slot) ∙ is le) (λ slot is le. ended slot ∙ is le) late)
   where
@@ -222,5 +223,5 @@ least_overlap r passes notes times a b has places are once late = right_slot r.c
         → slice_index_or times slot 0 ≡ min (times_played r.cell slot (all_notes passes)) 255
     counted slot lt = are slot lt ∙ ap (λ n. min n 255) (kept.played slot)
 
-    ended : (slot : ℕ) → list_all (ends_by slot) notes.ranges.items ≡ list_all (list_all (is_ended r.cell slot)) passes
+    ended : (slot : ℕ) → list_all (ends_by slot) (ranges_of notes) ≡ list_all (list_all (is_ended r.cell slot)) passes
     ended slot = kept.ended slot ∙ all_of_passes (is_ended r.cell slot) passes

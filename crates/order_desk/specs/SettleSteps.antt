@@ -37,6 +37,15 @@ has_slot slot range = nat_le range.from slot && nat_lt slot range.to
 abbrev pub ends_by : ℕ → SlotRange → Bool
 ends_by slot range = nat_le range.to slot
 
+-- ranges have each slot as often as others have it, and end by the same slots
+pub record AreLike (one other : List SlotRange) : Type 0 where
+  pub slots : (slot : ℕ) → length (filter (has_slot slot) one) ≡ length (filter (has_slot slot) other)
+  pub ends : (slot : ℕ) → list_all (ends_by slot) one ≡ list_all (ends_by slot) other
+
+-- the ranges that are kept of a cell's notes
+abbrev pub ranges_of : CellNotes → List SlotRange
+ranges_of notes = notes.ranges.items ++ notes.last ∷ []
+
 -- how many of some items stand for each place, told up to 255
 abbrev pub AreTimes : {X : Type 0} → (ℕ → X → Bool) → List X → List ℕ → Type 0
 AreTimes stands given times = (place : ℕ) → place < length times
@@ -46,8 +55,8 @@ AreTimes stands given times = (place : ℕ) → place < length times
 -- as it was noted, and end where the noted ones do, and whether the log was noted as full
 pub record HasKept (cell : Cell) (given : List Note) (notes : CellNotes) : Type 0 where
   pub noted : AreTimes (is_event_at cell) given notes.times_noted.items
-  pub played : (slot : ℕ) → length (filter (has_slot slot) notes.ranges.items) ≡ times_played cell slot given
-  pub ended : (slot : ℕ) → list_all (ends_by slot) notes.ranges.items ≡ list_all (is_ended cell slot) given
+  pub played : (slot : ℕ) → length (filter (has_slot slot) (ranges_of notes)) ≡ times_played cell slot given
+  pub ended : (slot : ℕ) → list_all (ends_by slot) (ranges_of notes) ≡ list_all (is_ended cell slot) given
   pub full : notes.is_full ≡ list_any (is_full_of cell) given
 
 -- what is kept of their order, after some passes and what the pass under way has noted so far: of that pass the least

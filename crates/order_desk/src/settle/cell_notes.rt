@@ -6,14 +6,14 @@ ghost use Rattle.std.specs.List.{slice_get};
 ghost use Rattle.bsc_table.specs.declared.entry.Entry.{Entry};
 ghost use Rattle.bsc_table.specs.Record.{Record};
 ghost use Rattle.order_desk.specs.declared.note.Note.{Note};
-ghost use Rattle.order_desk.specs.SettleSteps.{HasNoted, IsNext, is_note_of, lesser};
+ghost use Rattle.order_desk.specs.SettleSteps.{AreLike, HasNoted, IsNext, is_note_of, lesser, ranges_of};
 
 use crate::note::Note;
 use crate::settle::counts::{count, none_counted};
 use bsc_table::{Entry, SlotRange};
 use std::alloc::{AllocError, Global};
 
-/// What the passes noted of one cell, one pass after the other. It has each played range, and of the entries only what
+/// What the passes noted of one cell, one pass after the other. It has the played ranges, and of the entries only what
 /// is asked of them, so that it takes few octets.
 #[derive(Drop)]
 pub(crate) struct CellNotes {
@@ -21,8 +21,10 @@ pub(crate) struct CellNotes {
     pub(crate) times_noted: Vec<u8>,
     /// The least number of which a noted entry isn't in its place.
     pub(crate) misplaced: Option<u16>,
-    /// The ranges of played slots.
+    /// The ranges of played slots, but for the last one.
     pub(crate) ranges: Vec<SlotRange>,
+    /// The last range of played slots. Ranges that follow each other are kept as one.
+    pub(crate) last: SlotRange,
     /// Whether a pass noted that the cell's log was full.
     pub(crate) is_full: bool,
     /// The least number above all that the pass under way has noted.
@@ -59,6 +61,13 @@ fn stands_at(log: &[Entry], number: u16, entry: &Entry) -> bool
     }
 }
 
+/// Whether a range begins where another one ends, and neither runs backwards.
+fn follows(last: SlotRange, range: SlotRange) -> bool
+    ensures { IsTrue result ↔ ((last.from ≤ last.to) × (last.to ≡ range.from) × (range.from ≤ range.to)) }
+{
+    last.from <= last.to && last.to == range.from && range.from <= range.to
+}
+
 impl CellNotes {
     /// No notes of a cell whose log has so many entries.
     pub(crate) fn new(alloc: Global, entries: usize) -> Result<CellNotes, AllocError>
@@ -68,6 +77,7 @@ impl CellNotes {
             times_noted: none_counted(alloc, entries)?,
             misplaced: None,
             ranges: Vec::new(alloc),
+            last: SlotRange { from: 0, to: 0 },
             is_full: false,
             next_number: 0,
             played_to: 0,
@@ -83,18 +93,6 @@ impl CellNotes {
             && stands_at(log, number, entry)
     }
 
-    /// The least misplaced number after an entry that the pass under way notes next.
-    fn misplaced_with(&self, log: &[Entry], number: u16, entry: &Entry) -> Option<u16>
-        ensures { (IsNext self.now log.now number entry.now × (result ≡ self.now.misplaced))
-            ⊎ ((IsNext self.now log.now number entry.now → ⊥) × (result ≡ lesser self.now.misplaced (Some number))) }
-    {
-        if self.is_next(log, number, entry) {
-            self.misplaced
-        } else {
-            lesser(self.misplaced, Some(number))
-        }
-    }
-
     /// Adds an entry that was noted at a number.
     fn add_entry(&mut self, log: &[Entry], number: u16, entry: &Entry)
         ensures places { length self.new.times_noted.items ≡ length self.old.times_noted.items }
@@ -107,26 +105,35 @@ impl CellNotes {
             ⊎ ((IsNext self.old log.now number entry.now → ⊥)
             × (self.new.misplaced ≡ lesser self.old.misplaced (Some number))) }
         ensures next { self.new.next_number ≡ max self.old.next_number (number + 1) }
-        ensures ranges { self.new.ranges.items ≡ self.old.ranges.items }
+        ensures ranges { ranges_of self.new ≡ ranges_of self.old }
         ensures full { self.new.is_full ≡ self.old.is_full }
         ensures played { self.new.played_to ≡ self.old.played_to }
     {
-        self.misplaced = self.misplaced_with(log, number, entry);
+        let is_next = self.is_next(log, number, entry);
         let place = usize::from(number);
         count(self.times_noted.as_mut_slice(), place, place + 1);
         self.next_number = self.next_number.max(u32::from(number) + 1);
+        if !is_next {
+            self.misplaced = lesser(self.misplaced, Some(number));
+        }
     }
 
-    /// Adds a range of played slots.
+    /// Adds a range of played slots. One that follows the last one makes that longer, so that a cell whose slots are
+    /// noted in their order takes no memory for them.
     fn add_range(&mut self, range: SlotRange) -> Result<(), AllocError>
-        ensures ranges { IsOk result → self.new.ranges.items ≡ self.old.ranges.items ++ range ∷ [] }
+        ensures ranges { IsOk result → AreLike (ranges_of self.new) (ranges_of self.old ++ range ∷ []) }
         ensures played { IsOk result → self.new.played_to ≡ max self.old.played_to range.to }
         ensures noted { self.new.times_noted ≡ self.old.times_noted }
         ensures misplaced { self.new.misplaced ≡ self.old.misplaced }
         ensures full { self.new.is_full ≡ self.old.is_full }
         ensures next { self.new.next_number ≡ self.old.next_number }
     {
-        self.ranges.push(range)?;
+        if follows(self.last, range) {
+            self.last.to = range.to;
+        } else {
+            self.ranges.push(self.last)?;
+            self.last = range;
+        }
         self.played_to = self.played_to.max(range.to);
         Ok(())
     }
