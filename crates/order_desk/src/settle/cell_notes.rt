@@ -93,6 +93,18 @@ impl CellNotes {
             && stands_at(log, number, entry)
     }
 
+    /// Keeps the number of an entry that the pass under way notes next, if the entry isn't in its place.
+    fn keep_misplaced(&mut self, log: &[Entry], number: u16, entry: &Entry)
+        ensures misplaced { (IsNext self.old log.now number entry.now × (self.new.misplaced ≡ self.old.misplaced))
+            ⊎ ((IsNext self.old log.now number entry.now → ⊥)
+            × (self.new.misplaced ≡ lesser self.old.misplaced (Some number))) }
+        ensures others { self.new ≡ record self.old { misplaced = self.new.misplaced } }
+    {
+        if !self.is_next(log, number, entry) {
+            self.misplaced = lesser(self.misplaced, Some(number));
+        }
+    }
+
     /// Adds an entry that was noted at a number.
     fn add_entry(&mut self, log: &[Entry], number: u16, entry: &Entry)
         ensures places { length self.new.times_noted.items ≡ length self.old.times_noted.items }
@@ -109,13 +121,10 @@ impl CellNotes {
         ensures full { self.new.is_full ≡ self.old.is_full }
         ensures played { self.new.played_to ≡ self.old.played_to }
     {
-        let is_next = self.is_next(log, number, entry);
+        self.keep_misplaced(log, number, entry);
         let place = usize::from(number);
         count(self.times_noted.as_mut_slice(), place, place + 1);
         self.next_number = self.next_number.max(u32::from(number) + 1);
-        if !is_next {
-            self.misplaced = lesser(self.misplaced, Some(number));
-        }
     }
 
     /// Adds a range of played slots. One that follows the last one makes that longer, so that a cell whose slots are

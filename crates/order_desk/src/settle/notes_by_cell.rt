@@ -93,6 +93,9 @@ fn put(
 }
 
 /// Adds the notes of a pass, each to those of its cell, up to the first one of no cell of the desk.
+//
+// It stays a function of its own, since its loop over all notes needs each register.
+#[inline(never)]
 fn put_all(
     noted: &mut [CellNotes],
     cells: &[Cell],
