@@ -14,5 +14,5 @@ pub mod Kept
 pub mod Ranges
 pub mod Noted
 pub mod NotesByCell
-pub mod Foreign
+pub mod Reported
 mod Steps

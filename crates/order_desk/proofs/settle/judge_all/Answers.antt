@@ -1,4 +1,4 @@
-use Rattle.std.proofs.Common.{◌≡◌, ◌≢◌, ◌+◌, ◌<◌, List, [], All, take, drop, length, Err, Result, IfErr}
+use Rattle.std.proofs.Common.{◌≡◌, ◌≢◌, ◌+◌, ◌<◌, List, [], All, take, drop, length, Err}
 use Rattle.std.proofs.Common.{sym, subst, refl, arith, rules}
 use Rattle.std.proofs.lemmas.List.{take_all}
 use Rattle.std.proofs.lemmas.List.Elements.{All-nil}
@@ -8,7 +8,7 @@ use Rattle.order_desk.specs.declared.settle.SettleFault.{SettleFault}
 use Rattle.order_desk.specs.declared.settle.SettleFault.TheVariants as faults
 use Rattle.order_desk.specs.Agreement.{Agrees}
 use Rattle.order_desk.specs.SettleSteps.{AreNoted, IsFirstJudged}
-use Rattle.order_desk.proofs.Foreign.{split_at, take_next}
+use Rattle.order_desk.proofs.Reported.{in_err, split_at, take_next}
 use Rattle.order_desk.proofs.NotesByCell.{noted_at}
 use Rattle.order_desk.proofs.Walked.{all_with}
 use Rattle.order_desk.proofs.settle.judge_all.Goals as goal
@@ -43,9 +43,9 @@ returns-in_err-judge-clause-err c =
     let book : Record = c.index-books-place.result in
     let fault : SettleFault = c.in_err-judge.field-0.0 in
     let is : c.from_residual.result ≡ Err fault = search (rules, c.from_residual.ensures) in
-    subst (λ (result : Result Unit SettleFault). IfErr result (λ fault. fault ≢ faults.Refused
-    → (passes : List (List Note)) → AreNoted c.args.books.now passes [] c.args.noted.now
-    → IsFirstJudged passes c.args.books.now fault)) (sym is) (λ other passes are. record {
+    in_err (λ fault. fault ≢ faults.Refused → (passes : List (List Note))
+    → AreNoted c.args.books.now passes [] c.args.noted.now → IsFirstJudged passes c.args.books.now fault) fault
+    c.from_residual.result is (λ other passes are. record {
       before = take place c.args.books.now;
       judged = book;
       later = drop (place + 1) c.args.books.now;

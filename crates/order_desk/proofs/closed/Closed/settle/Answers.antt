@@ -8,7 +8,7 @@ use Rattle.order_desk.specs.declared.settle.SettleFault.TheVariants as faults
 use Rattle.order_desk.specs.Agreement.{Agrees}
 use Rattle.order_desk.specs.SettleSteps.{IsFirstJudged}
 use Rattle.order_desk.specs.Settled.{AreOwn, ClosedDesk, IsBookOf, IsFault, IsPlayedOut}
-use Rattle.order_desk.proofs.Foreign.{in_err, noted_of_right, reports_judged}
+use Rattle.order_desk.proofs.Reported.{in_err, noted_of_right, reports_judged}
 use Rattle.order_desk.proofs.closed.Closed.settle.Goals as goal
 
 pub judge_all-requires : goal.judge_all-requires

@@ -1,4 +1,4 @@
-use Rattle.std.proofs.Common.{◌≡◌, ◌≢◌, ◌∙◌, ◌+◌, List, [], ◌∷◌, ◌++◌, All, take, drop, Err, Result, IfErr, true, sym}
+use Rattle.std.proofs.Common.{◌≡◌, ◌≢◌, ◌∙◌, ◌+◌, List, [], ◌∷◌, ◌++◌, All, take, drop, Err, true, sym}
 use Rattle.std.proofs.Common.{subst, refl, rules}
 use Rattle.std.proofs.lemmas.List.{take_all}
 use Rattle.std.proofs.lemmas.List.Elements.{All-nil}
@@ -7,7 +7,7 @@ use Rattle.order_desk.specs.declared.settle.SettleFault.{SettleFault}
 use Rattle.order_desk.specs.declared.settle.SettleFault.TheVariants as faults
 use Rattle.order_desk.specs.Settled.{is_of_cells}
 use Rattle.order_desk.specs.SettleSteps.{AreNoted, IsForeignIn}
-use Rattle.order_desk.proofs.Foreign.{split_at, take_next}
+use Rattle.order_desk.proofs.Reported.{in_err, split_at, take_next}
 use Rattle.order_desk.proofs.Walked.{all_with}
 use Rattle.order_desk.proofs.settle.notes_by_cell.put_all.Goals as goal
 
@@ -33,8 +33,8 @@ returns-in_err-near-clause-foreign c =
     let note : Note = c.note-item.result in
     let fault : SettleFault = c.in_err-near.field-0.0 in
     let is : c.from_residual.result ≡ Err fault = search (rules, c.from_residual.ensures) in
-    subst (λ (result : Result Unit SettleFault). IfErr result (λ fault. fault ≢ faults.Refused
-    → IsForeignIn c.args.cells.now c.args.notes.now fault)) (sym is) (λ other. record {
+    in_err (λ fault. fault ≢ faults.Refused → IsForeignIn c.args.cells.now c.args.notes.now fault) fault
+    c.from_residual.result is (λ other. record {
       before = take place c.args.notes.now;
       note = note;
       after = drop (place + 1) c.args.notes.now;

@@ -1,4 +1,4 @@
-use Rattle.std.proofs.Common.{◌≡◌, ◌≢◌, ◌∙◌, ◌+◌, List, [], ◌∷◌, ◌++◌, All, take, Err, Result, IfErr, true, sym, subst}
+use Rattle.std.proofs.Common.{◌≡◌, ◌≢◌, ◌∙◌, ◌+◌, List, [], ◌∷◌, ◌++◌, All, take, Err, true, sym, subst}
 use Rattle.std.proofs.Common.{refl, rules}
 use Rattle.std.proofs.lemmas.List.{take_all}
 use Rattle.std.proofs.lemmas.List.Elements.{All-nil}
@@ -7,7 +7,7 @@ use Rattle.order_desk.specs.declared.settle.SettleFault.{SettleFault}
 use Rattle.order_desk.specs.declared.settle.SettleFault.TheVariants as faults
 use Rattle.order_desk.specs.Settled.{AreOwn, is_of_cells}
 use Rattle.order_desk.specs.SettleSteps.{AreNoted, IsForeignBy, IsForeignIn}
-use Rattle.order_desk.proofs.Foreign.{foreign_of_passes, take_next}
+use Rattle.order_desk.proofs.Reported.{foreign_of_passes, in_err, take_next}
 use Rattle.order_desk.proofs.Walked.{all_with}
 use Rattle.order_desk.proofs.settle.notes_by_cell.put_passes.Goals as goal
 
@@ -36,8 +36,8 @@ returns-in_err-put_all-clause-foreign c =
     let pass : List Note = c.pass-item.result in
     let fault : SettleFault = c.in_err-put_all.field-0.0 in
     let is : c.from_residual.result ≡ Err fault = search (rules, c.from_residual.ensures) in
-    subst (λ (result : Result Unit SettleFault). IfErr result (λ fault. fault ≢ faults.Refused
-    → IsForeignBy c.args.cells.now c.args.passes.now fault)) (sym is) (λ other.
+    in_err (λ fault. fault ≢ faults.Refused → IsForeignBy c.args.cells.now c.args.passes.now fault) fault
+    c.from_residual.result is (λ other.
     foreign_of_passes c.args.cells.now c.args.passes.now c.loop-pass.pass-index pass fault c.pass-item.is
     c.loop-pass-test.true c.loop-pass.invariant.1 (subst (λ (notes : List Note).
     IsForeignIn c.args.cells.now notes fault) c.notes.ensures (c.in_err-put_all.ensures.foreign other)))

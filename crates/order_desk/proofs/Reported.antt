@@ -1,4 +1,4 @@
--- Notes of no cell of the desk, the places of a list up to which a loop has come, and what a settlement reports.
+-- What a settlement reports, by what its steps report, and the items of a list up to which a loop has come.
 use Rattle.std.proofs.Common.{◌≡◌, ◌≢◌, ◌∙◌, ℕ, ◌+◌, ◌<◌, List, [], ◌∷◌, ◌++◌, take, drop, length, slice_index_or}
 use Rattle.std.proofs.Common.{sym, subst, ap, refl, inl, inr, rules, Err, Result, IfErr}
 use Rattle.std.specs.List.{AllZip}
