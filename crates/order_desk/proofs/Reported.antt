@@ -118,8 +118,8 @@ pub noted_of_right : (slots : ℕ) {cells own : List Cell} {books held judged : 
     → AllZip (IsBookOf slots) own held
     → (AllZip IsOfCell cells books → AreNoted books passes [] noted)
     → AreNoted judged passes [] notes
-noted_of_right slots {cells} {own} {books} {held} {judged} {passes} {noted} {notes} own_are held_are judged_are notes_are
-    right are =
+noted_of_right slots {cells} {own} {books} {held} {judged} {passes} {noted} {notes} own_are held_are judged_are
+    notes_are right are =
     subst (λ (rs : List Record). AreNoted rs passes [] notes) (sym judged_are)
     (subst (AreNoted books passes []) (sym notes_are) (are (of_cells slots cells books
     (subst (λ (cs : List Cell). AllZip (IsBookOf slots) cs books) own_are

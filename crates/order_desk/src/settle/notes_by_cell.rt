@@ -59,7 +59,7 @@ fn end_pass(noted: &mut [CellNotes])
     }
 }
 
-/// Adds a note to those of its cell, and returns the place of that, near which to look for the cell of the next note. It
+/// Adds a note to those of its cell, and returns the place of that: near it the cell of the next note is looked for. It
 /// reports a note of no cell of the desk.
 fn put(
     noted: &mut [CellNotes],

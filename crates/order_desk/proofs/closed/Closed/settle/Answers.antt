@@ -14,9 +14,9 @@ use Rattle.order_desk.proofs.closed.Closed.settle.Goals as goal
 pub judge_all-requires : goal.judge_all-requires
 judge_all-requires c = (
   c.args.passes.now,
-  noted_of_right c.self.inside.slots (c.deref-3.ensures.value ∙ sym c.deref.ensures.value) (c.deref-4.ensures.value ∙ sym c.deref-2.ensures.value)
-      (c.deref-5.ensures.value ∙ sym c.deref-2.ensures.value) c.deref-6.ensures.value
-      (c.first_wrong.ensures.none c.in_default.is) c.in_ok-noted.ensures.noted,
+  noted_of_right c.self.inside.slots (c.deref-3.ensures.value ∙ sym c.deref.ensures.value)
+      (c.deref-4.ensures.value ∙ sym c.deref-2.ensures.value) (c.deref-5.ensures.value ∙ sym c.deref-2.ensures.value)
+      c.deref-6.ensures.value (c.first_wrong.ensures.none c.in_default.is) c.in_ok-noted.ensures.noted,
 )
 
 pub returns-in_err-judge_all-clause-err : goal.returns-in_err-judge_all-clause-err
@@ -79,6 +79,6 @@ returns-clause-ok c = IfOk-weaker c.records_of.result _ _ (λ records played. re
     agree = subst (All (Agrees c.args.passes.now))
         (c.deref-5.ensures.value ∙ ap (λ (d : ClosedDesk). d.books) c.self.view_is)
         (c.in_ok-judge_all.ensures.ok refl c.args.passes.now
-        (noted_of_right c.self.inside.slots (c.deref-3.ensures.value ∙ sym c.deref.ensures.value) (c.deref-4.ensures.value ∙ sym c.deref-2.ensures.value)
-        (c.deref-5.ensures.value ∙ sym c.deref-2.ensures.value) c.deref-6.ensures.value
-        (c.first_wrong.ensures.none c.in_default.is) c.in_ok-noted.ensures.noted))
+        (noted_of_right c.self.inside.slots (c.deref-3.ensures.value ∙ sym c.deref.ensures.value)
+        (c.deref-4.ensures.value ∙ sym c.deref-2.ensures.value) (c.deref-5.ensures.value ∙ sym c.deref-2.ensures.value)
+        c.deref-6.ensures.value (c.first_wrong.ensures.none c.in_default.is) c.in_ok-noted.ensures.noted))
