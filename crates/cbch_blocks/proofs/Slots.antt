@@ -1,7 +1,8 @@
 -- What the slots of a legal history can air.
-use Rattle.std.proofs.Common.{◌≡◌, ℕ, ◌<◌, Option, Some, None, List, length, get_or, sym, ap}
+use Rattle.std.proofs.Common.{◌≡◌, ℕ, ◌+◌, ◌<◌, ◌++◌, Option, Some, None, List, drop, length, get_or, sym, ap}
 use Rattle.std.proofs.Common.{subst, ◌∙◌, arith}
-use Rattle.std.proofs.lemmas.List.{get_or-map, length-map}
+use Rattle.std.proofs.lemmas.Grind.{flat_map-append}
+use Rattle.std.proofs.lemmas.List.{at_drop_more, get_or-map, length-map}
 use Rattle.std.proofs.lemmas.Option.{slice_get-get_or}
 use Rattle.bsc_table.specs.declared.command.Command.{Command}
 use Rattle.bsc_table.specs.declared.command.Command.TheVariants as commands
@@ -13,7 +14,8 @@ use Rattle.bsc_table.specs.Record.{Record, start_of}
 use Rattle.bsc_table.specs.Orders.{IsWellFormed}
 use Rattle.bsc_table.specs.Legal.{IsLegal}
 use Rattle.bsc_table.specs.Written.{HasPage, UsesAreOfWrites}
-use Rattle.cbch_blocks.specs.TapeSteps.{CanSendPage, CanSendPageOf, CanAir}
+use Rattle.cbch_blocks.specs.RecordBlocks.{blocks_of_slot, blocks_of_uses, octets_of_blocks, page_aired}
+use Rattle.cbch_blocks.specs.TapeSteps.{CanSendPage, CanSendPageOf, CanAir, octets_of_slot}
 
 no_entry : Entry
 no_entry = record { command = commands.Status 0 0; slot = 0; answer = answers.Unknown }
@@ -45,3 +47,16 @@ can_air writes r log air i legal same_log same_air within =
     ∙ get_or-map aired_pair air i None None within in
     subst (λ entries. CanAir entries (aired_pair (get_or air i None))) (sym same_log)
     (can_air_as writes r i (aired_pair (get_or air i None)) legal (omega (arith, played, long, within)) at)
+
+-- the octets of slots
+abbrev pub octets_of_uses : List Entry → List (Option Aired) → List ℕ
+octets_of_uses log air = octets_of_blocks (blocks_of_uses log (air_pairs air))
+
+-- those from a slot on are its own, and then those of the slots after it
+pub slot_and_rest : (log : List Entry) (air : List (Option Aired)) (i : ℕ) → i < length air
+    → octets_of_uses log (drop i air)
+    ≡ octets_of_slot log (aired_pair (get_or air i None)) ++ octets_of_uses log (drop (i + 1) air)
+slot_and_rest log air i within =
+    at_drop_more (octets_of_uses log) air i None within
+    ∙ flat_map-append (λ (block : List ℕ). block) (blocks_of_slot (page_aired log (aired_pair (get_or air i None))))
+    (blocks_of_uses log (air_pairs (drop (i + 1) air)))

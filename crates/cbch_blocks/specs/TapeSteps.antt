@@ -1,5 +1,6 @@
 -- What a slot can air (own). The contracts of private functions alone speak of it.
-use Rattle.std.specs.Prelude.{ℕ, ◌≤◌, ⊤, Option, Some, None, List, length}
+use Rattle.std.specs.Prelude.{ℕ, ◌+◌, ◌≤◌, ⊤, Option, Some, None, List, length, vec_len, vec_capacity}
+use Rattle.std.specs.Global.{Vec}
 use Rattle.std.specs.List.{slice_get}
 use Rattle.bsc_table.specs.declared.command.Command.{Command}
 use Rattle.bsc_table.specs.declared.command.Command.TheVariants as commands
@@ -25,3 +26,7 @@ CanAir log (Some used) = CanSendPageOf used.1 (slice_get log used.0)
 -- the octets of the blocks of a slot
 abbrev pub octets_of_slot : List Entry → Option (ℕ × ℕ) → List ℕ
 octets_of_slot log used = octets_of_blocks (blocks_of_slot (page_aired log used))
+
+-- there is room for octets behind those that stand there
+abbrev pub HasRoom : Vec ℕ → List ℕ → Type 0
+HasRoom octets more = vec_len octets + length more ≤ vec_capacity octets

@@ -1,11 +1,12 @@
 //! The blocks of a slot that airs a page.
 
-ghost use Rattle.std.specs.Prelude.{◌≡◌, ◌-◌, ◌++◌, ℕ, List, MatchOption, OnOk};
+ghost use Rattle.std.specs.Prelude.{◌≡◌, ◌≤◌, ◌+◌, ◌-◌, ◌++◌, ℕ, List, length, vec_capacity, vec_len, MatchOption};
+ghost use Rattle.std.specs.Prelude.{OnErr, OnOk};
 ghost use Rattle.std.specs.List.{slice_get};
 ghost use Rattle.bsc_table.specs.Book.{aired_pair};
 ghost use Rattle.cbch_blocks.specs.Blocks.{idle_blocks};
 ghost use Rattle.cbch_blocks.specs.RecordBlocks.{blocks_of_slot, octets_of_blocks, page_aired, pages_of_command};
-ghost use Rattle.cbch_blocks.specs.TapeSteps.{CanAir, CanSendPage, octets_of_slot};
+ghost use Rattle.cbch_blocks.specs.TapeSteps.{CanAir, CanSendPage, HasRoom, octets_of_slot};
 
 use crate::blocks::{cut, idle};
 use crate::front::strip_front;
@@ -63,11 +64,15 @@ pub(crate) fn strip_slot<'a>(
     }
 }
 
-/// Appends the blocks of a slot that airs a page.
+/// Appends the blocks of a slot that airs a page. Takes no memory where there is room for them.
 pub(crate) fn put_page(octets: &mut Vec<u8>, log: &[Entry], aired: Aired) -> Result<(), Refused>
     requires { CanAir log.now (aired_pair (Some aired)) }
-    ensures { OnOk result (octets.new.items
-        ≡ octets.old.items ++ octets_of_blocks (blocks_of_slot (page_aired log.now (aired_pair (Some aired))))) }
+    ensures put { OnOk result (octets.new.items
+        ≡ octets.old.items ++ octets_of_slot log.now (aired_pair (Some aired))) }
+    ensures len { OnOk result (vec_len octets.new
+        ≡ vec_len octets.old + length (octets_of_slot log.now (aired_pair (Some aired)))) }
+    ensures capacity { vec_capacity octets.old ≤ vec_capacity octets.new }
+    ensures full { OnErr result (HasRoom octets.old (octets_of_slot log.now (aired_pair (Some aired))) → ⊥) }
 {
     let blocks = aired_blocks(log, aired);
     octets.extend_from_slice(blocks.as_flattened())?;

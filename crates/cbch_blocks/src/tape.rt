@@ -1,13 +1,14 @@
 //! Tapes: the octets of a record's blocks, behind a header that says its cell and how many slots it has.
 
-ghost use Rattle.std.specs.Prelude.{◌≡◌, ◌↔◌, ◌+◌, ◌*◌, ◌<◌, ◌≤◌, true, is_err, length, take, IfErr, IfOk, IsTrue};
-ghost use Rattle.std.specs.Prelude.{OnOk};
+ghost use Rattle.std.specs.Prelude.{◌≡◌, ◌↔◌, ◌++◌, ◌+◌, ◌*◌, ◌<◌, ◌≤◌, true, is_err, length, take, IfErr, IfOk, IsOk};
+ghost use Rattle.std.specs.Prelude.{IsTrue, OnOk};
 ghost use Rattle.std.specs.Io.KnownBytes.{Appends};
 ghost use Rattle.device_ends.specs.Sink.{sink_failed, writer_of};
 ghost use Rattle.device_ends.specs.Stream.{Writes};
 ghost use Rattle.cbch_blocks.specs.Blocks.{blocks_of_page};
 ghost use Rattle.cbch_blocks.specs.RecordBlocks.{tape_header, tape_of_record};
 ghost use Rattle.cbch_blocks.specs.Slots.{silent_record, with_slot};
+ghost use Rattle.cbch_blocks.specs.TapeSteps.{HasRoom};
 
 use crate::blocks::{cut, idle};
 use crate::front::strip_front;
@@ -86,6 +87,16 @@ impl Tape {
         self.octets[first..first + SLOT].copy_from_slice(blocks.as_flattened());
     }
 
+    /// Becomes the tape of a record, which has no more octets than it has. Takes no memory: so tapes that are written
+    /// one after the other need that of one.
+    pub fn become_that_of(&mut self, run: &CellRecord)
+        requires { length (tape_of_record run.now) ≤ length self.old }
+        ensures { self.new ≡ tape_of_record run.now }
+    {
+        self.octets.clear();
+        let _ = put_tape(&mut self.octets, run);
+    }
+
     /// Whether the tape is that of a record. Takes no memory.
     pub fn is_of(&self, run: &CellRecord) -> bool
         ensures { IsTrue result ↔ (self.now ≡ tape_of_record run.now) }
@@ -155,6 +166,26 @@ fn header_of(cell: Cell, slots: u16) -> [u8; HEADER]
     ]
 }
 
+/// Appends the tape of a record. Takes no memory where there is room for its octets.
+fn put_tape(octets: &mut Vec<u8>, run: &CellRecord) -> Result<(), Refused>
+    ensures put { OnOk result (octets.new.items ≡ octets.old.items ++ tape_of_record run.now) }
+    ensures room { HasRoom octets.old (tape_of_record run.now) → IsOk result }
+{
+    // Each used slot airs a page of an accepted write of the log.
+    bsc_table::legal_histories();
+    octets.extend_from_slice(&header_of(run.cell(), run.slots()))?;
+    // The octets of an idle slot are made once, as most slots are idle.
+    let blocks = idle();
+    let idle = blocks.as_flattened();
+    for used in run.air() {
+        match used {
+            None => octets.extend_from_slice(idle)?,
+            Some(aired) => put_page(octets, run.log(), *aired)?,
+        }
+    }
+    Ok(())
+}
+
 /// The tape of the record of a run. Takes the memory for all its octets at once, and no other.
 ///
 /// # Errors
@@ -163,19 +194,7 @@ fn header_of(cell: Cell, slots: u16) -> [u8; HEADER]
 pub fn tape_of(alloc: Global, run: &CellRecord) -> Result<Tape, Refused>
     ensures { IfOk result (λ tape. tape ≡ tape_of_record run.now) }
 {
-    // Each used slot airs a page of an accepted write of the log.
-    bsc_table::legal_histories();
-    let slots = run.slots();
-    let mut octets = Vec::with_capacity(alloc, HEADER + SLOT * usize::from(slots))?;
-    octets.extend_from_slice(&header_of(run.cell(), slots))?;
-    // The octets of an idle slot are made once, as most slots are idle.
-    let blocks = idle();
-    let idle = blocks.as_flattened();
-    for used in run.air() {
-        match used {
-            None => octets.extend_from_slice(idle)?,
-            Some(aired) => put_page(&mut octets, run.log(), *aired)?,
-        }
-    }
+    let mut octets = Vec::with_capacity(alloc, HEADER + SLOT * usize::from(run.slots()))?;
+    put_tape(&mut octets, run)?;
     Ok(Tape { octets })
 }

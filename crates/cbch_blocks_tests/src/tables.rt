@@ -1,5 +1,5 @@
 //! What is worked by hand, as tables. A row says what is done, an arrow, and what comes of it: octets are told by their
-//! number and then one after the other. `cut PAGE` and `idle` say blocks, and `run ..` and `open ..` a tape.
+//! number and then one after the other. `cut PAGE` and `idle` say blocks; `run ..`, `after ..` and `open ..` a tape.
 //! `is TAPE; RUN` says whether a tape is that of a run's record, and `changed RUN` at how many places of the worked
 //! page, aired in slot 0 alone, another octet gives a tape that isn't.
 //!
@@ -34,6 +34,12 @@ run 1-1 4 write_a write_b -> 376 0001 0001 00000004 \
     20 000211120112 B1*16 21 B1*22 22 B1*22 33 B1*22 \
     20 000111120111 A1*16 21 A1*22 22 A1*22 33 A1*22 \
     20 000211120122 B2*16 21 B2*22 22 B2*22 33 B2*22
+
+# The same in the memory of another tape, of which nothing is left.
+after 2 1-1 2 write -> 192 0001 0001 00000002 blocks idle
+after 5 1-1 2 write -> 192 0001 0001 00000002 blocks idle
+after 3 1-2 3 -> 284 0001 0002 00000003 idle*3
+after 1 1-1 0 -> 8 0001 0001 00000000
 
 # A run of no slots is a header.
 run 1-1 0 -> 8 0001 0001 00000000
@@ -142,7 +148,7 @@ fn expect_rows(rt: &impl Abort, alloc: Global, table: &str, count: u16) -> Resul
 
 #[test]
 fn blocks_and_tapes_are_those_worked_by_hand(rt: HostRuntime) -> Result<(), Fail> {
-    expect_rows(&rt, rt.alloc(), TAPES, 8)
+    expect_rows(&rt, rt.alloc(), TAPES, 12)
 }
 
 #[test]

@@ -1,10 +1,13 @@
-//! Tapes, as the tables write them: `run` and a run is the tape of its record, and `open 1-1 3 1:88 2:0` the tape of a
+//! Tapes, as the tables write them: `run` and a run is the tape of its record, `after 4` and a run the tape of a cell
+//! that airs nothing in four slots and then becomes that of the run's record, and `open 1-1 3 1:88 2:0` the tape of a
 //! cell that airs nothing in three slots, and then in slots 1 and 2 the worked page with one octet changed, at place 88
 //! none.
 
 use crate::octets::{are_octets, page_with};
 use crate::runs::{cell_in, record_of};
+use bsc_table::CellRecord;
 use cbch_blocks::{Tape, tape_of};
+use cbsp_wire::Cell;
 use std::alloc::Global;
 use std::test::Fail;
 use test_support::Words;
@@ -40,11 +43,32 @@ fn opened(alloc: Global, words: &mut Words) -> Result<Tape, Fail> {
     Ok(tape)
 }
 
+/// The tape of another cell, which has become that of a record.
+fn tape_after(alloc: Global, slots: u16, run: &CellRecord) -> Result<Tape, Fail> {
+    let made = tape_of(alloc, run)?;
+    let mut tape = Tape::open(alloc, Cell { lac: 9, ci: 9 }, slots)?;
+    if tape.bytes().len() < made.bytes().len() {
+        return Err(Fail::new("no room"));
+    }
+    tape.become_that_of(run);
+    Ok(tape)
+}
+
+/// The tape of another cell, which has become that of a run's record.
+fn tape_after_another(alloc: Global, words: &mut Words) -> Result<Tape, Fail> {
+    let slots = words.number16()?;
+    let run = record_of(alloc, words)?;
+    let tape = tape_after(alloc, slots, &run);
+    drop(run);
+    tape
+}
+
 /// The tape that words say.
 pub fn tape_in(alloc: Global, words: &mut Words) -> Result<Tape, Fail> {
     match words.word() {
         "open" => opened(alloc, words),
         "run" => tape_of_run(alloc, words),
+        "after" => tape_after_another(alloc, words),
         _ => Err(Fail::new("no such tape")),
     }
 }

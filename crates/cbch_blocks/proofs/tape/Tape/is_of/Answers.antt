@@ -1,17 +1,12 @@
 use Rattle.std.proofs.Common.{rules, ◌≡◌, ◌+◌, ◌++◌, ◌∙◌, ℕ, List, Option, None, ap, sym, subst, drop, get_or}
-use Rattle.std.proofs.lemmas.Grind.{flat_map-append}
-use Rattle.std.proofs.lemmas.List.{at_drop_more}
-use Rattle.bsc_table.specs.Book.{air_pairs, aired_pair}
+use Rattle.bsc_table.specs.Book.{aired_pair}
 use Rattle.bsc_table.specs.declared.entry.Aired.{Aired}
 use Rattle.bsc_table.specs.declared.entry.Entry.{Entry}
-use Rattle.cbch_blocks.specs.RecordBlocks.{blocks_of, blocks_of_slot, blocks_of_uses, octets_of_blocks, page_aired}
+use Rattle.cbch_blocks.specs.RecordBlocks.{blocks_of, blocks_of_slot, octets_of_blocks, page_aired}
 use Rattle.cbch_blocks.specs.RecordBlocks.{tape_header}
 use Rattle.cbch_blocks.proofs.Fronts.{with_front, iff_next}
-use Rattle.cbch_blocks.proofs.Slots.{can_air}
+use Rattle.cbch_blocks.proofs.Slots.{can_air, octets_of_uses, slot_and_rest}
 use Rattle.cbch_blocks.proofs.tape.Tape.is_of.Goals as goal
-
-abbrev octets_of_uses : List Entry → List (Option Aired) → List ℕ
-octets_of_uses log air = octets_of_blocks (blocks_of_uses log (air_pairs air))
 
 pub returns-in_default : goal.returns-in_default
 returns-in_default c =
@@ -39,8 +34,7 @@ loop-used-preserved c =
     let rest = drop (c.loop-used.used-index + 1) air in
     let wants : octets_of_uses log (drop c.loop-used.used-index air)
     ≡ octets_of_blocks blocks ++ octets_of_uses log rest =
-    at_drop_more (octets_of_uses log) air c.loop-used.used-index None c.loop-used-test.true
-    ∙ flat_map-append (λ (block : List ℕ). block) blocks (blocks_of_uses log (air_pairs rest)) in
+    slot_and_rest log air c.loop-used.used-index c.loop-used-test.true in
     let begins : c.loop-used.left.now ≡ octets_of_blocks blocks ++ c.in-Some-strip_slot.rest.now =
     subst (λ (entries : List Entry). c.loop-used.left.now
     ≡ octets_of_blocks (blocks_of_slot (page_aired entries (aired_pair used))) ++ c.in-Some-strip_slot.rest.now)
