@@ -21,13 +21,13 @@ use Rattle.parallel_compile.specs.declared.fault.CompileFault.TheVariants as com
 use Rattle.chart.specs.ChartText.{chart_text}
 use Rattle.warnc_run.specs.Charted.{IsCharted}
 use Rattle.report.specs.ReportText.{part_text}
-use Rattle.report.specs.Rows.{AreOfOneCells}
+use Rattle.report.specs.Rows.{AreOfOneCells, cell_rows}
 use Rattle.report.specs.declared.fault.ReportFault.{ReportFault}
 use Rattle.report.specs.declared.fault.ReportFault.TheVariants as report
 use Rattle.report.specs.declared.row.Row.{Row}
 use Rattle.warnc_run.specs.Compiled.{HasReadFrom, IsWriteFault, MakesFront}
 use Rattle.warnc_run.specs.RunSteps.{AreReadings, AreReportRows, HasNoBookToRun, HaveRunLive, IsOfBook, IsOfBookReport}
-use Rattle.warnc_run.specs.RunSteps.{IsOfTapes}
+use Rattle.warnc_run.specs.RunSteps.{IsOfTapes, own_rows}
 use Rattle.warnc_run.specs.declared.fault.RunFault.{RunFault}
 use Rattle.warnc_run.specs.declared.fault.RunFault.TheVariants as run
 use Rattle.warnc_run.specs.declared.report_run.ReportRunFault.{ReportRunFault}
@@ -79,6 +79,24 @@ read_in_parts before after front rest left all read split so_far =
     ∙ ap (λ (readings : List TapeReading). before ++ readings)
     (sym (map-append reading_of_record front rest) ∙ ap (map reading_of_record) (sym split))
     ∙ so_far
+
+-- the rows of records in two parts are those of the one, and then those of the other
+pub rows_in_parts : (before after : List Row) (front rest left all : List Record)
+    → after ≡ before ++ own_rows front
+    → left ≡ front ++ rest
+    → before ++ own_rows left ≡ own_rows all
+    → after ++ own_rows rest ≡ own_rows all
+rows_in_parts before after front rest left all made split so_far =
+    ap (λ (rows : List Row). rows ++ own_rows rest) made
+    ∙ append_assoc before (own_rows front) (own_rows rest)
+    ∙ ap (λ (rows : List Row). before ++ rows) (sym (joined front) ∙ ap own_rows (sym split))
+    ∙ so_far
+  where
+    joined : (records : List Record) → own_rows (records ++ rest) ≡ own_rows records ++ own_rows rest
+    joined [] = refl
+    joined (r ∷ others) =
+        let own = cell_rows r (reading_of_record r).shown in
+        ap (λ (rows : List Row). own ++ rows) (joined others) ∙ sym (append_assoc own (own_rows others) (own_rows rest))
 
 -- the records of a run give tapes
 pub run_has_tapes : LiveRunsShowTheBook → (from : Origin) (input : List ℕ) (book : Contents) (slots : ℕ)

@@ -1,20 +1,24 @@
 -- How tapes are written, and of which run they are.
 use Rattle.std.proofs.Common.{◌≡◌, ℕ, ◌<◌, ◌≤◌, List, [], ◌∷◌, ◌++◌, length, map, take, get_or, All}
 use Rattle.std.proofs.Common.{Option, Result, Err, IfErr, refl, sym, subst, ap, append-nil, append_assoc, ◌∙◌, suc}
-use Rattle.std.proofs.Common.{true, rules}
+use Rattle.std.proofs.Common.{true, rules, None, replicate}
 use Rattle.std.proofs.Common.{◌⊎◌, inl, inr, ◌+◌, ◌*◌, zero}
 use native.Mathlib.Omega.{arith}
-use Rattle.std.proofs.KnownBytes.{Appends-trans}
+use Rattle.std.proofs.KnownBytes.{Appends-nil, Appends-trans}
 use Rattle.std.specs.Io.KnownBytes.{Appends, Keeps}
 use Rattle.std.specs.List.{flat_map}
-use Rattle.std.proofs.lemmas.List.{get_or_default, get_or_past, length-append, length-map, take-append-le, take_all}
+use Rattle.std.proofs.lemmas.Grind.{flat_map-append}
+use Rattle.std.proofs.lemmas.List.{get_or_default, get_or-map, get_or_past, length-append, length-map, take-append-le}
+use Rattle.std.proofs.lemmas.List.{take_all}
 use Rattle.std.proofs.lemmas.List.Elements.{All-head, All-map, All-tail, All-weaker}
 use Rattle.std.proofs.Math.Nat.{mul-le-mul_left}
 use Rattle.std.proofs.lemmas.Bool.{cases_lt}
-use Rattle.std.proofs.Math.Seq.{take-append-add}
+use Rattle.std.proofs.Math.Seq.{take-append-add, take-suc}
 use Rattle.std.specs.List.{AllByRecursion}
 use Rattle.handset.specs.Tape.{IsTape, TapeReading, slots_in}
-use Rattle.cbch_blocks.specs.RecordBlocks.{octets_of_blocks}
+use Rattle.cbch_blocks.specs.Blocks.{idle_blocks}
+use Rattle.cbch_blocks.specs.RecordBlocks.{blocks_of_uses, octets_of_blocks, tape_header}
+use Rattle.cbch_blocks.specs.Slots.{silent_record}
 use Rattle.book_runs.specs.Meant.{IsMeantIn}
 use Rattle.alert_book.specs.declared.network.Origin.{Origin}
 use Rattle.alert_book.specs.Book.{Contents}
@@ -30,9 +34,10 @@ use Rattle.book_runs.specs.Run.{Exchange}
 use Rattle.warnc_run.specs.declared.fault.RunFault.{RunFault}
 use Rattle.warnc_run.specs.declared.fault.RunFault.TheVariants as run
 use Rattle.parallel_compile.specs.declared.fault.CompileFault.TheVariants as compile
-use Rattle.warnc_run.specs.Compiled.{tape_size, HasReadFrom, IsCompiledFrom, IsRunFault, IsSettleFault, Makes}
+use Rattle.warnc_run.specs.Compiled.{tape_size, HasReadFrom, IsCompiledFrom, IsRunFault, IsSettleFault, IsWriteFault}
+use Rattle.warnc_run.specs.Compiled.{Makes}
 use Rattle.warnc_run.specs.Live.{IsLiveFrom}
-use Rattle.warnc_run.specs.RunSteps.{AreTapesOf, HasNoBookToRun, IsOfTapes, TakesFront}
+use Rattle.warnc_run.specs.RunSteps.{AreTapesOf, HasNoBookToRun, HaveRunLive, IsOfTapes, StopsAtTape, TakesFront}
 
 -- tapes, one after the other
 abbrev pub joined : List (List ℕ) → List ℕ
@@ -138,6 +143,26 @@ front_taken size tapes written old new some sizes taken =
         nothing : (n : ℕ) → n ≡ 0 → size * n ≡ 0
         nothing n is = ap (λ (k : ℕ). size * k) is ∙ (omega arith)
 
+-- the tape at a place is that of the record there
+pub tape_at : (records : List Record) (i : ℕ) (r : Record) (tape : List ℕ)
+    → i < length records
+    → r ≡ get_or records i r
+    → tape ≡ tape_of_record r
+    → tape ≡ get_or (map tape_of_record records) i []
+tape_at records i r tape within is made =
+    made ∙ ap tape_of_record is ∙ sym (get_or-map tape_of_record records i r [] within)
+
+-- before the first of them nothing went out
+pub takes_nothing : (a : Option (List ℕ)) (tapes : List (List ℕ)) → All (λ tape. 0 < length tape) tapes
+    → TakesFront tapes 0 a a
+takes_nothing a tapes some = record {
+  place = 0;
+  within = λ there. there;
+  less = λ within. some 0 [] within;
+  none = λ past. refl;
+  appended = Appends-nil a;
+}
+
 -- after whole tapes a front of one more went out
 pub takes_front : (a b c : Option (List ℕ)) (tapes : List (List ℕ)) (i written : ℕ) (tape : List ℕ)
     → i < length tapes
@@ -155,6 +180,28 @@ takes_front a b c tapes i written tape within is less before under_way =
       appended = Appends-trans a b c (joined (take i tapes)) (take written (get_or tapes i [])) before
           (subst (λ (t : List ℕ). Appends b c (take written t)) same under_way);
     }
+
+-- after whole tapes one more went out
+pub takes_one_more : (a b c : Option (List ℕ)) (records : List Record) (i : ℕ) (r : Record) (tape : List ℕ)
+    → i < length records
+    → r ≡ get_or records i r
+    → tape ≡ tape_of_record r
+    → Appends a b (joined (take i (map tape_of_record records)))
+    → Appends b c tape
+    → Appends a c (joined (take (i + 1) (map tape_of_record records)))
+takes_one_more a b c records i r tape within is made before more =
+    let tapes = map tape_of_record records in
+    let inside : i < length tapes = subst (λ (n : ℕ). i < n) (sym (length-map records tape_of_record)) within in
+    let same : tape ≡ get_or tapes i [] = tape_at records i r tape within is made in
+    let own : joined (get_or tapes i [] ∷ []) ≡ tape = append-nil (get_or tapes i []) ∙ sym same in
+    let all : joined (take (suc i) tapes) ≡ joined (take i tapes) ++ tape =
+    ap joined (take-suc tapes i [] inside) ∙ flat_map-append (λ (t : List ℕ). t) (take i tapes) (get_or tapes i [] ∷ [])
+    ∙ ap (λ (t : List ℕ). joined (take i tapes) ++ t) own in
+    subst (Appends a c) (sym (ap (λ (n : ℕ). joined (take n tapes)) next ∙ all))
+    (Appends-trans a b c (joined (take i tapes)) tape before more)
+  where
+    next : i + 1 ≡ suc i
+    next = omega arith
 
 -- the octets of blocks of 23 each
 blocks_size : (blocks : List (List ℕ)) → AllByRecursion (λ block. length block ≡ 23) blocks
@@ -343,3 +390,81 @@ fault_of_reading from slots parts Means first last old new (run.Settle f) is kep
 fault_of_reading from slots parts Means first last old new (run.Compile f) is kept = absurd is
 fault_of_reading from slots parts Means first last old new (run.Write failed) is kept = absurd is
 fault_of_reading from slots parts Means first last old new run.Refused is kept = absurd is
+
+-- the octets of idle slots
+idle_long : (slots : ℕ) → length (octets_of_blocks (blocks_of_uses [] (replicate slots None))) ≡ 92 * slots
+idle_long zero = refl
+idle_long (suc slots) =
+    let rest = blocks_of_uses [] (replicate slots None) in
+    let both : length (octets_of_blocks (idle_blocks ++ rest)) ≡ length (octets_of_blocks idle_blocks)
+    + length (octets_of_blocks rest) = ap length (flat_map-append (λ (block : List ℕ). block) idle_blocks rest)
+    ∙ length-append (octets_of_blocks idle_blocks) (octets_of_blocks rest) in
+    let own : length (octets_of_blocks idle_blocks) ≡ 92 = refl in
+    omega (arith, both, own, idle_long slots)
+
+-- the tape of a silent cell has as many octets as those of a run's records
+pub has_room_for_each : LiveRunsShowTheBook → (from : Origin) (input : List ℕ) (book : Contents) (slots parts : ℕ)
+    (records shown : List Record) (cell : Cell) (tape : List ℕ)
+    → slots ≤ 65535
+    → IsBookFrom from input book
+    → HaveRunLive book slots parts records
+    → shown ≡ records
+    → tape ≡ tape_of_record (silent_record cell slots)
+    → All (λ r. length (tape_of_record r) ≡ length tape) shown
+has_room_for_each law from input book slots parts records shown cell tape few is_book live is silent =
+    let sizes = tapes_have_size book slots records
+    (law from input book slots live.sessions records is_book few live.run)
+    (All-weaker (IsRunBy slots live.sessions) (λ (r : Record). r.slots ≡ slots) (λ r run. run.run) records
+    live.run.each) in
+    let long : length tape ≡ tape_size slots = ap length silent ∙ size in
+    subst (All (λ (r : Record). length (tape_of_record r) ≡ length tape)) (sym is)
+    (λ k d within. of_one sizes k d within ∙ sym long)
+  where
+    size : length (tape_of_record (silent_record cell slots)) ≡ tape_size slots
+    size =
+        let header = tape_header cell slots in
+        let both = length-append header (octets_of_blocks (blocks_of_uses [] (replicate slots None))) in
+        omega (arith, both, idle_long slots)
+
+    of_one : All (λ t. length t ≡ tape_size slots) (map tape_of_record records) → (k : ℕ) (d : Record)
+        → k < length records → length (tape_of_record (get_or records k d)) ≡ tape_size slots
+    of_one sizes k d within =
+        ap length (sym (get_or-map tape_of_record records k d (tape_of_record d) within))
+        ∙ sizes k (tape_of_record d) (subst (λ (n : ℕ). k < n) (sym (length-map records tape_of_record)) within)
+
+-- a fault of a run whose tapes were to be written, of the book whose octets were read
+pub fault_of_writing : LiveRunsShowTheBook → LiveRunsAcceptWhatWasOrdered
+    → (from : Origin) (slots parts : ℕ) (first last old new : Option (List ℕ)) (book : Contents) (fault : RunFault)
+    → slots ≤ 65535
+    → (read : HasReadFrom from first last)
+    → read.book ≡ book
+    → StopsAtTape book slots parts old new fault
+    → ((IsWriteFault fault → ⊥) → Keeps old new)
+    → IsRunFault from slots parts (IsLiveFrom from slots parts) first last old new fault
+fault_of_writing law orders from slots parts first last old new book (run.Write failed) few read is stops kept =
+    let is_book = subst (IsBookFrom from read.input) is read.is_book in
+    let taken = taken_of_run law from read.input book slots parts stops.tapes failed.written old new few is_book
+    stops.are stops.taken in record {
+      input = read.input;
+      output = joined stops.tapes;
+      read = read.read;
+      ended = read.ended;
+      meant = made_live law orders from read.input book slots parts stops.tapes few is_book stops.are;
+      whole = taken.whole;
+      under_way = taken.under_way;
+      some_left = taken.some_left;
+      front = taken.front;
+    }
+fault_of_writing law orders from slots parts first last old new book (run.Book f) few read is stops kept = absurd stops
+fault_of_writing law orders from slots parts first last old new book (run.NoGroup groups) few read is stops kept =
+    absurd stops
+fault_of_writing law orders from slots parts first last old new book (run.Desk f) few read is stops kept =
+    (stops, read, kept (λ write. write))
+fault_of_writing law orders from slots parts first last old new book (run.Settle f) few read is stops kept =
+    fault_of_run from slots parts (IsLiveFrom from slots parts) first last old new book (run.Settle f) read is stops
+    (kept (λ write. write))
+fault_of_writing law orders from slots parts first last old new book (run.Compile f) few read is stops kept =
+    fault_of_run from slots parts (IsLiveFrom from slots parts) first last old new book (run.Compile f) read is stops
+    (kept (λ write. write))
+fault_of_writing law orders from slots parts first last old new book run.Refused few read is stops kept =
+    kept (λ write. write)

@@ -91,14 +91,35 @@ pub record AreTapesOf (book : Contents) (slots parts : ℕ) (tapes : List (List 
   pub live : HaveRunLive book slots parts records
   pub made : tapes ≡ map tape_of_record records
 
+-- a writer took the tapes of such a run, one after the other
+pub record HasWritten (book : Contents) (slots parts : ℕ) (old new : Option (List ℕ)) : Type 0 where
+  pub tapes : List (List ℕ)
+  pub are : AreTapesOf book slots parts tapes
+  pub taken : Appends old new (flat_map (λ (tape : List ℕ). tape) tapes)
+
+-- or it failed with a front of them
+pub record HasWrittenFront (book : Contents) (slots parts written : ℕ) (old new : Option (List ℕ)) : Type 0 where
+  pub tapes : List (List ℕ)
+  pub are : AreTapesOf book slots parts tapes
+  pub taken : TakesFront tapes written old new
+
+-- why the tapes of such a run aren't all written: the writer failed, or there are none
+abbrev pub StopsAtTape : (book : Contents) (slots parts : ℕ) (old new : Option (List ℕ)) → RunFault → Type 0
+StopsAtTape book slots parts old new (fault.Write failed) = HasWrittenFront book slots parts failed.written old new
+StopsAtTape book slots parts old new other = IsOfTapes book slots parts other
+
 -- these are the records of such a run of one session, and what handsets read of their blocks
 pub record AreReadings (book : Contents) (slots : ℕ) (records : List Record) (readings : List TapeReading) : Type 0
   where
     pub live : HaveRunLive book slots 1 records
     pub read : readings ≡ map reading_of_record records
 
+-- the rows of records by what handsets read of their blocks
+abbrev pub own_rows : List Record → List Row
+own_rows records = report_rows records (map reading_of_record records)
+
 -- these are the rows of the report of a run of one session
 pub record AreReportRows (book : Contents) (slots : ℕ) (rows : List Row) : Type 0 where
   pub records : List Record
   pub live : HaveRunLive book slots 1 records
-  pub made : rows ≡ report_rows records (map reading_of_record records)
+  pub made : rows ≡ own_rows records

@@ -4,8 +4,9 @@
 //! [`live_stream`] reads all of the book, has the cells of a desk carry out what its sessions order, each in a thread
 //! of its own, has workers play the cells to their ends and hand on their pages, of which it puts the tapes together
 //! while the desk is open, settles the desk, compares the tapes with the records, and writes them. One worker hands on
-//! nothing: the tapes are made of the records. [`compile_stream`] is that with one session, and [`report_stream`] makes
-//! the tapes of one session's records, reads them and writes what became of each order, which [`chart_stream`] draws.
+//! nothing: each tape is made of its record when it is written. [`compile_stream`] is that with one session, and
+//! [`report_stream`] makes the tapes of one session's records, reads them and writes what became of each order, which
+//! [`chart_stream`] draws.
 //! [`compile_from`], [`live_from`] and [`report_from`] do the same for a group of a network book, and
 //! [`network_stream`] does it for all groups. What was written is said by definitions of the book's octets alone
 //! (`IsCompiled`, `IsLive`, `IsReported`, `IsCharted`), which know of no worker: which orders each cell answered, at
@@ -22,6 +23,7 @@ pub mod groups;
 mod laws;
 pub mod live;
 pub mod network;
+mod output;
 mod parts;
 mod records;
 pub mod report_run;

@@ -10,8 +10,7 @@ ghost use Rattle.warnc_run.specs.declared.fault.RunFault.TheVariants as faults;
 use crate::book::book_from;
 use crate::counts::{Sessions, Workers};
 use crate::fault::RunFault;
-use crate::finish::write_tapes;
-use crate::tapes::tapes_of_book;
+use crate::output::write_run;
 use alert_book::Origin;
 use device_ends::{Sink, Source};
 use order_desk::Gate;
@@ -121,9 +120,6 @@ pub fn live_from<T: AllocGlobal + Threads + Wait + Sync, R: Read, W: Write, G: G
     };
     let book = book_from(rt, source, origin)?;
     let sessions = Sessions { number: sessions };
-    let tapes = tapes_of_book(rt, book, slots, sessions, workers, gate)?;
-    match write_tapes(&tapes, sink) {
-        Ok(()) => Ok(()),
-        Err(fault) => Err(RunFault::Write(fault)),
-    }
+    write_run(rt, book, sink, slots, sessions, workers, gate)?;
+    Ok(())
 }

@@ -10,16 +10,15 @@ ghost use Rattle.warnc_run.specs.NetworkSteps.{is_of_writer, octets_of_part, Are
 ghost use Rattle.warnc_run.specs.NetworkSteps.{IsWritten, StopsAt, StopsParts, WritesFrontOf, WritesParts};
 ghost use Rattle.warnc_run.specs.declared.fault.RunFault.TheVariants as faults;
 
-use crate::counts::{Sessions, Workers};
+use crate::counts::Workers;
 use crate::fault::RunFault;
 use crate::finish::write_tapes;
 use crate::network::{NetworkFault, Product};
 use crate::report_run::{ReportRunFault, is_headed, rows_of_book};
-use crate::tapes::tapes_of_book;
+use crate::tapes::tapes_by_one;
 use alert_book::{Book, BookFault, BookFaultKind, GroupFault, Origin, group_in};
 use cbch_blocks::Tape;
 use device_ends::{Failed, Sink, write_all};
-use order_desk::Open;
 use report::text_of;
 use std::alloc::{AllocError, AllocGlobal, Global};
 use std::io::Write;
@@ -118,9 +117,7 @@ impl Network<'_> {
         // A handset is shown what the book means, and a run of one session is a run of the book.
         book_runs::session_laws();
         let book = self.book(rt, group)?;
-        let one = Sessions { number: 1 };
-        let alone = Workers { number: 1 };
-        let tapes = tapes_of_book(rt, book, self.slots, one, alone, &Open)?;
+        let tapes = tapes_by_one(rt, book, self.slots)?;
         Ok(Part::Tapes(tapes))
     }
 

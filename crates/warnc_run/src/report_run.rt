@@ -8,7 +8,8 @@ ghost use Rattle.parallel_compile.specs.declared.fault.CompileFault.TheVariants 
 ghost use Rattle.warnc_run.specs.Compiled.{AreWorkers, IsMade, IsUnmade, Makes};
 ghost use Rattle.warnc_run.specs.Reported.{is_headed, reading_of_record, IsReportAtEnds, IsReportFault};
 ghost use Rattle.warnc_run.specs.Reported.{IsReportFaultFrom, IsReported, IsReportedFrom};
-ghost use Rattle.warnc_run.specs.RunSteps.{AreReadings, AreReportRows, IsOfBookReport, IsOfReport, IsSomeBook};
+ghost use Rattle.warnc_run.specs.RunSteps.{own_rows, AreReadings, AreReportRows, IsOfBookReport, IsOfReport};
+ghost use Rattle.warnc_run.specs.RunSteps.{IsSomeBook};
 ghost use Rattle.warnc_run.specs.declared.fault.RunFault.TheVariants as faults;
 ghost use Rattle.warnc_run.specs.declared.report_run.ReportRunFault.TheVariants as reports;
 
@@ -22,7 +23,7 @@ use device_ends::{Sink, Source};
 use handset::{Reading, read_tape};
 use order_desk::Open;
 use parallel_compile::{CompileFault, compile_all};
-use report::{ReportFault, Row, rows, write_part};
+use report::{ReportFault, Row, write_part};
 use std::alloc::{AllocError, AllocFailed};
 use std::io::{Read, Write};
 use std::sync::Wait;
@@ -184,7 +185,7 @@ pub(crate) fn readings_of_book<T: AllocGlobal + Threads + Wait + Sync>(
     Ok((records, readings))
 }
 
-/// The rows of the report of a book's run.
+/// The rows of the report of a book's run. The book goes before these are made.
 pub(crate) fn rows_of_book<T: AllocGlobal + Threads + Wait + Sync>(
     rt: &T,
     book: Book,
@@ -195,9 +196,56 @@ pub(crate) fn rows_of_book<T: AllocGlobal + Threads + Wait + Sync>(
     ensures ok { IfOk result (λ rows. AreReportRows book slots rows.items) }
     ensures err { IfErr result (IsOfBookReport book slots) }
 {
-    let (records, readings) = readings_of_book(rt, book, slots, workers)?;
-    match rows(rt.alloc(), &records, &readings) {
-        Ok(rows) => Ok(rows),
+    // No book has over 64 cells, and each record gives a tape.
+    alert_book::book_laws();
+    book_runs::session_laws();
+    let records = records_of_book(rt, &book, slots, workers)?;
+    drop(book);
+    let rows = rows_by(rt, &records, workers)?;
+    Ok(rows)
+}
+
+/// The rows of records, by what handsets read of their tapes. As many tapes at a time are read as there are workers,
+/// and what was read of them is dropped before the next ones are, so that the texts of no others are held.
+fn rows_by<T: AllocGlobal + Threads + Wait + Sync>(
+    rt: &T,
+    records: &[CellRecord],
+    workers: Workers,
+) -> Result<Vec<Row>, ReportRunFault>
+    requires few { length records.now ≤ 64 }
+    requires tapes { All (λ r. IsTape (tape_of_record r) (reading_of_record r)) records.now }
+    ensures ok { IfOk result (λ rows. rows.items ≡ own_rows records.now) }
+    ensures err { IfErr result IsOfReport }
+{
+    let mut rows = Vec::new(rt.alloc());
+    let mut left = records;
+    while !left.is_empty() {
+        let (group, rest) = left.split_at(left.len().min(workers.number as usize));
+        push_rows(rt, group, workers, &mut rows)?;
+        left = rest;
+    }
+    Ok(rows)
+}
+
+/// Appends the rows of some records, by what handsets read of their tapes.
+fn push_rows<T: AllocGlobal + Threads + Wait + Sync>(
+    rt: &T,
+    records: &[CellRecord],
+    workers: Workers,
+    rows: &mut Vec<Row>,
+) -> Result<(), ReportRunFault>
+    requires few { length records.now ≤ 64 }
+    requires tapes { All (λ r. IsTape (tape_of_record r) (reading_of_record r)) records.now }
+    ensures ok { OnOk result (rows.new.items ≡ rows.old.items ++ own_rows records.now) }
+    ensures err { IfErr result IsOfReport }
+{
+    let mut readings = Vec::with_capacity(rt.alloc(), records.len())?;
+    read_group(rt, records, workers, &mut readings)?;
+    match report::rows(rt.alloc(), records, &readings) {
+        Ok(mut own) => {
+            rows.append(&mut own)?;
+            Ok(())
+        }
         Err(fault) => Err(ReportRunFault::Report(fault)),
     }
 }

@@ -19,7 +19,7 @@ use std::sync::Wait;
 use std::thread::Threads;
 
 /// The records of a book's cells after the sessions of its parts, played out by workers.
-fn records_after<T: AllocGlobal + Threads + Wait + Sync, G: Gate>(
+pub(crate) fn records_after<T: AllocGlobal + Threads + Wait + Sync, G: Gate>(
     rt: &T,
     book: &Book,
     slots: u16,
@@ -67,50 +67,44 @@ fn tapes_of(alloc: Global, records: Vec<CellRecord>) -> Result<Vec<Tape>, AllocE
     Ok(tapes)
 }
 
-/// The tapes of a book's cells after the sessions of its parts, by one worker. It has nobody to hand pages to while the
-/// desk is open, so the tapes are made of the settled records, each once, and there is nothing to compare.
-fn tapes_by_one<T: AllocGlobal + Threads + Wait + Sync, G: Gate>(
+/// The tapes of a book's cells after its one session, by one worker. It has nobody to hand pages to while the desk is
+/// open, so the tapes are made of the settled records, each once, and there is nothing to compare.
+pub(crate) fn tapes_by_one<T: AllocGlobal + Threads + Wait + Sync>(
     rt: &T,
     book: Book,
     slots: u16,
-    sessions: Sessions,
-    worker: Workers,
-    gate: &G,
 ) -> Result<Vec<Tape>, RunFault>
     requires book { IsSomeBook book }
-    ensures ok { IfOk result (λ tapes. AreTapesOf book slots sessions.number tapes.items) }
-    ensures err { IfErr result (IsOfTapes book slots sessions.number) }
+    ensures ok { IfOk result (λ tapes. AreTapesOf book slots 1 tapes.items) }
+    ensures err { IfErr result (IsOfTapes book slots 1) }
 {
-    let records = records_after(rt, &book, slots, sessions, worker, gate)?;
+    let records = records_of_book(rt, &book, slots, Workers { number: 1 })?;
     // what the book holds is free for the tapes
     drop(book);
     Ok(tapes_of(rt.alloc(), records)?)
 }
 
-/// The tapes of a book's cells after the sessions of its parts: several workers play the cells and hand on their pages
-/// while the desk is open, and the tapes that these make are compared with the records of the settled desk.
-pub(crate) fn tapes_of_book<T: AllocGlobal + Threads + Wait + Sync, G: Gate>(
+/// The tapes of a book's cells after the sessions of its parts, by several workers: they play the cells and hand on
+/// their pages while the desk is open, and the tapes that these make are compared with the records of the settled desk.
+pub(crate) fn tapes_by_several<T: AllocGlobal + Threads + Wait + Sync, G: Gate>(
     rt: &T,
-    book: Book,
+    book: &Book,
     slots: u16,
     sessions: Sessions,
     workers: Workers,
     gate: &G,
 ) -> Result<Vec<Tape>, RunFault>
-    requires book { IsSomeBook book }
-    ensures ok { IfOk result (λ tapes. AreTapesOf book slots sessions.number tapes.items) }
-    ensures err { IfErr result (IsOfTapes book slots sessions.number) }
+    requires book { IsSomeBook book.now }
+    ensures ok { IfOk result (λ tapes. AreTapesOf book.now slots sessions.number tapes.items) }
+    ensures err { IfErr result (IsOfTapes book.now slots sessions.number) }
 {
-    if workers.number == 1 {
-        return tapes_by_one(rt, book, slots, sessions, workers, gate);
-    }
     // No book has a cell twice.
     alert_book::book_laws();
     let desk = Desk::open(rt.alloc(), book.cells(), slots)?;
-    let mut passes = run_sessions(rt, &book, &desk, sessions, gate)?;
+    let mut passes = run_sessions(rt, book, &desk, sessions, gate)?;
     let (tapes, mut played) = stream_all(rt, rt.alloc(), &desk, workers.number, gate)?;
     passes.append(&mut played)?;
-    let records = settled_records(rt.alloc(), &book, desk, sessions, &passes)?;
+    let records = settled_records(rt.alloc(), book, desk, sessions, &passes)?;
     check_streamed(&tapes, &records)?;
     Ok(tapes)
 }

@@ -1,11 +1,19 @@
-use Rattle.std.proofs.Common.{Err, ap}
-use Rattle.handset.specs.Tape.{readings_of}
-use Rattle.warnc_run.proofs.Readings.{only_memory}
+use Rattle.std.proofs.Common.{◌≤◌}
+use native.Mathlib.Omega.{arith}
+use Rattle.warnc_run.proofs.Readings.{run_has_tapes}
+use Rattle.warnc_run.proofs.Written.{records_are_few}
 use Rattle.warnc_run.proofs.report_run.rows_of_book.Goals as goal
 
-pub returns-clause-err : goal.returns-clause-err
-returns-clause-err g c =
-    only_memory c.in-Err.fault c.in_ok-records.records.items c.deref.result.now
-    (readings_of c.in_ok-records.readings.items) (readings_of c.deref-2.result.now) c.deref.ensures.value
-    c.in_ok-records.ensures.ok.read (ap readings_of c.deref-2.ensures.value)
-    (λ is. c.in-Err.ensures.cells.0 (ap Err is)) c.in-Err.ensures.faults
+pub rows_by-requires-clause-few : goal.rows_by-requires-clause-few
+rows_by-requires-clause-few g c κs within =
+    let input = c.requires.book in
+    records_are_few c.args.book.cells c.in_ok-records.records.items c.deref.result.now
+    (c.book_laws.ensures.cells input.0 input.1 c.args.book input.2) c.in_ok-records.ensures.ok.run.cells
+    c.deref.ensures.value
+
+pub rows_by-requires-clause-tapes : goal.rows_by-requires-clause-tapes
+rows_by-requires-clause-tapes g c κs within =
+    let input = c.requires.book in
+    let few : c.args.slots ≤ 65535 = omega (arith, c.ranges.slots.fits) in
+    run_has_tapes c.session_laws.ensures.shown input.0 input.1 c.args.book c.args.slots c.in_ok-records.records.items
+    c.deref.result.now few input.2 c.in_ok-records.ensures.ok c.deref.ensures.value

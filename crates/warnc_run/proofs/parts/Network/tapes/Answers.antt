@@ -3,8 +3,8 @@ use Rattle.warnc_run.proofs.GroupParts.{a_book}
 use Rattle.warnc_run.proofs.Written.{made_by_one, made_live, tapes_have_octets}
 use Rattle.warnc_run.proofs.parts.Network.tapes.Goals as goal
 
-pub tapes_of_book-requires-clause-book : goal.tapes_of_book-requires-clause-book
-tapes_of_book-requires-clause-book g c κs within =
+pub tapes_by_one-requires-clause-book : goal.tapes_by_one-requires-clause-book
+tapes_by_one-requires-clause-book g c κs within =
     a_book c.args.group c.args.self.now.octets.now c.in_ok-book.book c.in_ok-book.ensures.ok
 
 pub returns : goal.returns

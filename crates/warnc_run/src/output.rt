@@ -1,0 +1,109 @@
+//! The run of a book whose tapes are written.
+
+ghost use Rattle.std.specs.Prelude.{◌≡◌, false, true, IfErr, OnOk};
+ghost use Rattle.device_ends.specs.Sink.{sink_failed, writer_of};
+ghost use Rattle.warnc_run.specs.Compiled.{IsWriteFault};
+ghost use Rattle.warnc_run.specs.RunSteps.{HasWritten, IsSomeBook, StopsAtTape};
+
+use crate::counts::{Sessions, Workers};
+use crate::fault::RunFault;
+use crate::finish::{write_in_turn, write_tapes};
+use crate::tapes::{records_after, tapes_by_several};
+use alert_book::Book;
+use cbch_blocks::Tape;
+use cbsp_wire::Cell;
+use device_ends::Sink;
+use order_desk::Gate;
+use std::alloc::AllocGlobal;
+use std::io::Write;
+use std::sync::Wait;
+use std::thread::Threads;
+
+/// Runs the sessions of a book's parts, and writes the tapes of its cells, by one worker. It has nobody to hand pages
+/// to while the desk is open, so the tapes are made of the settled records, each once, and there is nothing to compare.
+/// They are made as they are written: one alone is held, whose memory is taken before the first octet is out.
+fn write_by_one<T: AllocGlobal + Threads + Wait + Sync, W: Write, G: Gate>(
+    rt: &T,
+    book: Book,
+    sink: &mut Sink<W>,
+    slots: u16,
+    sessions: Sessions,
+    worker: Workers,
+    gate: &G,
+) -> Result<(), RunFault>
+    requires book { IsSomeBook book }
+    ensures ok { OnOk result (HasWritten book slots sessions.number (W.contents (writer_of sink.old))
+        (W.contents (writer_of sink.new))) }
+    ensures err { IfErr result (StopsAtTape book slots sessions.number (W.contents (writer_of sink.old))
+        (W.contents (writer_of sink.new))) }
+    ensures not_failed { OnOk result (sink_failed sink.new ≡ false) }
+    ensures untouched { IfErr result (λ fault. (IsWriteFault fault → ⊥) → sink.new ≡ sink.old) }
+    ensures write { IfErr result (λ fault. IsWriteFault fault → sink_failed sink.new ≡ true) }
+    ensures stays { sink_failed sink.old ≡ true → sink.new ≡ sink.old }
+{
+    // The tapes of a run have one size.
+    book_runs::session_laws();
+    let records = records_after(rt, &book, slots, sessions, worker, gate)?;
+    drop(book);
+    // its octets are overwritten, so that those of any cell do
+    let tape = Tape::open(rt.alloc(), Cell { lac: 0, ci: 0 }, slots)?;
+    match write_in_turn(tape, &records, sink) {
+        Ok(()) => Ok(()),
+        Err(failed) => Err(RunFault::Write(failed)),
+    }
+}
+
+/// Does so by several workers, which make all tapes before the first is written.
+fn write_by_several<T: AllocGlobal + Threads + Wait + Sync, W: Write, G: Gate>(
+    rt: &T,
+    book: &Book,
+    sink: &mut Sink<W>,
+    slots: u16,
+    sessions: Sessions,
+    workers: Workers,
+    gate: &G,
+) -> Result<(), RunFault>
+    requires book { IsSomeBook book.now }
+    ensures ok { OnOk result (HasWritten book.now slots sessions.number (W.contents (writer_of sink.old))
+        (W.contents (writer_of sink.new))) }
+    ensures err { IfErr result (StopsAtTape book.now slots sessions.number (W.contents (writer_of sink.old))
+        (W.contents (writer_of sink.new))) }
+    ensures not_failed { OnOk result (sink_failed sink.new ≡ false) }
+    ensures untouched { IfErr result (λ fault. (IsWriteFault fault → ⊥) → sink.new ≡ sink.old) }
+    ensures write { IfErr result (λ fault. IsWriteFault fault → sink_failed sink.new ≡ true) }
+    ensures stays { sink_failed sink.old ≡ true → sink.new ≡ sink.old }
+{
+    let tapes = tapes_by_several(rt, book, slots, sessions, workers, gate)?;
+    match write_tapes(&tapes, sink) {
+        Ok(()) => Ok(()),
+        Err(fault) => Err(RunFault::Write(fault)),
+    }
+}
+
+/// Runs the sessions of a book's parts, and writes the tapes of its cells. Nothing is written before the desk is
+/// settled.
+pub(crate) fn write_run<T: AllocGlobal + Threads + Wait + Sync, W: Write, G: Gate>(
+    rt: &T,
+    book: Book,
+    sink: &mut Sink<W>,
+    slots: u16,
+    sessions: Sessions,
+    workers: Workers,
+    gate: &G,
+) -> Result<(), RunFault>
+    requires book { IsSomeBook book }
+    ensures ok { OnOk result (HasWritten book slots sessions.number (W.contents (writer_of sink.old))
+        (W.contents (writer_of sink.new))) }
+    ensures err { IfErr result (StopsAtTape book slots sessions.number (W.contents (writer_of sink.old))
+        (W.contents (writer_of sink.new))) }
+    ensures not_failed { OnOk result (sink_failed sink.new ≡ false) }
+    ensures untouched { IfErr result (λ fault. (IsWriteFault fault → ⊥) → sink.new ≡ sink.old) }
+    ensures write { IfErr result (λ fault. IsWriteFault fault → sink_failed sink.new ≡ true) }
+    ensures stays { sink_failed sink.old ≡ true → sink.new ≡ sink.old }
+{
+    if workers.number == 1 {
+        write_by_one(rt, book, sink, slots, sessions, workers, gate)
+    } else {
+        write_by_several(rt, &book, sink, slots, sessions, workers, gate)
+    }
+}
