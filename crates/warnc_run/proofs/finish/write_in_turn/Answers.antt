@@ -1,4 +1,4 @@
-use Rattle.std.proofs.Common.{◌≡◌, ap, refl, length, map, rules, subst, sym, take}
+use Rattle.std.proofs.Common.{◌≡◌, ap, refl, map, rules, subst, take}
 use native.Mathlib.Omega.{arith}
 use Rattle.std.proofs.lemmas.List.{length-map, take_all}
 use Rattle.std.specs.Io.KnownBytes.{Appends}
