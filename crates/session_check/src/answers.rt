@@ -96,11 +96,25 @@ fn are_same(one: &Command, other: &Command) -> bool
     one == other
 }
 
-/// Whether an entry of a number is that of a command that the history's cell was asked from slot `at` on.
+/// Whether an entry has the slot of a command that the history's cell was asked from slot `at` on. It stands in the log
+/// at its number, and the slots of a log never fall: so one that has the command's own slot needs no look at the entry
+/// before it, for which memory would have to be waited.
+fn is_at_its_slot(history: &CellRecord, at: u16, number: u16, entry: &Entry) -> bool
+    requires { slice_get history.now.log number ≡ Some entry.now }
+    ensures { IsTrue result
+        ↔ (entry.now.slot ≡ given_slot history.now.slots (slot_before history.now.log number) at) }
+{
+    let slots = history.slots();
+    entry.slot == slots.min(at) || entry.slot == slot_in(history, number, at)
+}
+
+/// Whether an entry of a number, at which it stands in the log, is that of a command that the history's cell was asked
+/// from slot `at` on.
 fn is_entry_of(history: &CellRecord, at: u16, command: &Command, number: u16, entry: &Entry) -> bool
+    requires { slice_get history.now.log number ≡ Some entry.now }
     ensures { IsTrue result ↔ IsEntryOf history.now at command.now number entry.now }
 {
-    are_same(&entry.command, command) && entry.slot == slot_in(history, number, at)
+    are_same(&entry.command, command) && is_at_its_slot(history, at, number, entry)
 }
 
 /// The answer that a note says the history's cell gave to a command that it was asked from slot `at` on.
