@@ -425,6 +425,10 @@ impl CellBook {
     }
 
     /// Enters a command with an answer that stops and starts nothing.
+    //
+    // Inlined, so that the answer isn't written to the stack and read again at once in larger parts, for which a
+    // processor has to wait.
+    #[inline(always)]
     fn note(&mut self, command: &Command, answer: Answer) -> Result<Answer, Refused>
         requires asked { IsAsked self.old command.now }
         requires right { right_answer self.old command.now ≡ answer }

@@ -145,6 +145,10 @@ pub(crate) fn raise(nodes: &mut [Node], place: usize, more: First)
 }
 
 /// Keeps this of the message at a place, and puts right what is ahead of the place and of those above it.
+//
+// Inlined, so that what is kept isn't written to the stack and read again at once in larger parts, for which a
+// processor has to wait.
+#[inline(always)]
 fn change(nodes: &mut [Node], place: usize, kept: Progress)
     requires within { place < length nodes.old }
     requires others { IsTreeBut nodes.old place }
