@@ -25,8 +25,8 @@ invariant_of-self c =
     omega (arith, below k (accepted_of d) (omega (arith, h, length-map messages accepted_of)), entry)) in
     record {
       rising = subst AreRisingMessages (sym c.push_reserved.ensures.items) rising;
-      by_pair = rw (c.push_reserved.ensures.items, c.insert_at.ensures) (with_pair messages t.by_pair.items c.args.new _ c.in-Err.at
-          c.self.invariant.by_pair gap (ap (λ x. (c.args.new.id, x)) c.number.ensures)
+      by_pair = rw (c.push_reserved.ensures.items, c.insert_at.ensures) (with_pair messages t.by_pair.items
+          c.args.new _ c.in-Err.at c.self.invariant.by_pair gap (ap (λ x. (c.args.new.id, x)) c.number.ensures)
           (omega (arith, c.len.ensures, t.messages.ok.0)));
     }
 
