@@ -97,8 +97,8 @@ fn are_same(one: &Command, other: &Command) -> bool
 }
 
 /// Whether an entry has the slot of a command that the history's cell was asked from slot `at` on. It stands in the log
-/// at its number, and the slots of a log never fall: so if it has the command's own slot, the entry before it needn't be
-/// looked at, which is seldom in a processor's cache.
+/// at its number, and the slots of a log never fall: so if it has the command's own slot, there is no need to look at
+/// the entry before it, which is seldom in a processor's cache.
 fn is_at_its_slot(history: &CellRecord, at: u16, number: u16, entry: &Entry) -> bool
     requires { slice_get history.now.log number ≡ Some entry.now }
     ensures { IsTrue result
