@@ -3,12 +3,9 @@
 # reads the book and accepts its messages too. The books are those of bench/make_cell_book.py: 32 normal messages, and the others
 # background, each of 15 pages, so that nearly each slot airs a page. The longest may be at most four times the shortest.
 set -eu
-top=$(cd "$(dirname "$0")/.." && pwd)
-work=$(mktemp -d)
-trap 'rm -rf "$work"' EXIT
-"$top/warnc" --help >/dev/null
+. "$(dirname "$(readlink -f "$0")")/start.sh"
 for messages in 64 512 4032; do python3 "$top/bench/make_cell_book.py" "$messages" >"$work/$messages"; done
-python3 - "${1:-$top/crates/warnc/out/warnc}" "$work" <<'PY'
+python3 - "${1:-$program}" "$work" <<'PY'
 import os, subprocess, sys, time
 program, work = sys.argv[1:]
 SLOTS = 65535

@@ -2,12 +2,9 @@
 # Times `warnc compile` on generated books of 64 cells and 4,096 slots, with one worker and with four, beside `wc -l` on
 # the octets that it writes, in one run, and reports its peak memory beside the size of the tapes.
 set -eu
-top=$(cd "$(dirname "$0")/.." && pwd)
-work=$(mktemp -d)
-trap 'rm -rf "$work"' EXIT
-"$top/warnc" --help >/dev/null
+. "$(dirname "$(readlink -f "$0")")/start.sh"
 for kind in typical full; do python3 "$top/bench/make_books.py" 1 "$kind" >"$work/$kind"; done
-PYTHONPATH=$top/bench PYTHONDONTWRITEBYTECODE=1 python3 - "${1:-$top/crates/warnc/out/warnc}" "$work" <<'PY'
+PYTHONPATH=$top/bench PYTHONDONTWRITEBYTECODE=1 python3 - "${1:-$program}" "$work" <<'PY'
 import os, subprocess, sys
 from timing import best_of_five
 program, work = sys.argv[1:]

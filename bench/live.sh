@@ -3,12 +3,9 @@
 # alert's last version is shown once if the alert isn't stopped, and nothing is shown that the book has not for that cell.
 # No run may take longer than a minute. live.sh [RUNS]; 200 runs if no number is given.
 set -eu
-top=$(cd "$(dirname "$0")/.." && pwd)
-work=$(mktemp -d)
-trap 'rm -rf "$work"' EXIT
-"$top/warnc" --help >/dev/null
+. "$(dirname "$(readlink -f "$0")")/start.sh"
 for seed in 1 2 3 4; do python3 "$top/bench/make_live_book.py" "$seed" >"$work/$seed"; done
-python3 - "$top/crates/warnc/out/warnc" "$work" "${1:-200}" <<'PY'
+python3 - "$program" "$work" "${1:-200}" <<'PY'
 import csv, io, os, subprocess, sys, time
 program, work, runs = sys.argv[1], sys.argv[2], int(sys.argv[3])
 SLOTS = "1024"

@@ -8,7 +8,8 @@ background  4,096 rows: each cell accepts thousands of background messages, and 
 It uses nothing of warnc.
 """
 import random
-import sys
+
+from timing import words_of
 
 CELLS = 64
 SLOTS = 4096
@@ -71,11 +72,13 @@ KINDS = {"typical": (200, (30, 60, 120, 240)), "full": (4096, (4, 8, 30, 120, 10
 
 
 def main():
-    chance = random.Random(int(sys.argv[1]))
-    made = background_rows(chance) if sys.argv[2] == "background" else rows(chance, *KINDS[sys.argv[2]])
+    seed, kind = words_of(__doc__, 2, 2)
+    chance = random.Random(int(seed))
+    made = background_rows(chance) if kind == "background" else rows(chance, *KINDS[kind])
     for row in made:
         fields = [str(field) for field in row]
         print(",".join('"' + field.replace('"', '""') + '"' if "," in field else field for field in fields))
 
 
-main()
+if __name__ == "__main__":
+    main()

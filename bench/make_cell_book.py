@@ -7,7 +7,7 @@ them have 960 pages for some 960 slots: the cell is as good as always busy, what
 
 It uses nothing of warnc.
 """
-import sys
+from timing import words_of
 
 NORMAL = 32
 TEXT = "Flood warning for the lower town: leave the river bank and go to higher ground. "
@@ -15,8 +15,9 @@ LENGTH = 15 * 93
 
 
 def main():
+    (messages,) = words_of(__doc__, 1, 1)
     print("cell,1,1")
-    for number in range(int(sys.argv[1])):
+    for number in range(int(messages)):
         category = 2 if number < NORMAL else 1
         first = number % len(TEXT)
         text = (TEXT[first:] + TEXT * 18)[:LENGTH - 1] + "."
@@ -26,4 +27,5 @@ def main():
         print(",".join(str(field) for field in row))
 
 
-main()
+if __name__ == "__main__":
+    main()

@@ -7,7 +7,8 @@ comes first: 8 alerts of one page with a period of 64 take an eighth of a cell's
 at most half of them. It uses nothing of warnc.
 """
 import random
-import sys
+
+from timing import words_of
 
 CELLS = 64
 ALERTS = 64
@@ -40,7 +41,8 @@ def rows(chance):
 
 
 def main():
-    for row in rows(random.Random(int(sys.argv[1]))):
+    (seed,) = words_of(__doc__, 1, 1)
+    for row in rows(random.Random(int(seed))):
         print(row)
 
 

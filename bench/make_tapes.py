@@ -11,6 +11,8 @@ import random
 import struct
 import sys
 
+from timing import words_of
+
 SLOTS = 4096
 CELLS = 64
 LATIN = "Flood warning for the lower town: leave the river bank and go to higher ground. "
@@ -72,11 +74,13 @@ KINDS = {
 
 
 def main():
-    chance = random.Random(int(sys.argv[1]))
-    slots_of = KINDS[sys.argv[2] if len(sys.argv) > 2 else "mixed"]
+    seed, kind = [*words_of(__doc__, 1, 2), "mixed"][:2]
+    chance = random.Random(int(seed))
+    slots_of = KINDS[kind]
     for cell in range(CELLS):
         slots = slots_of(chance, cell)[:SLOTS]
         sys.stdout.buffer.write(struct.pack(">HHI", 1, cell + 1, SLOTS) + b"".join(slots))
 
 
-main()
+if __name__ == "__main__":
+    main()

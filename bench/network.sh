@@ -5,11 +5,8 @@
 #
 # Usage: bench/network.sh [PROGRAM]
 set -eu
-top=$(cd "$(dirname "$0")/.." && pwd)
-work=$(mktemp -d)
-trap 'rm -rf "$work"' EXIT
-[ $# -gt 0 ] || "$top/warnc" --help >/dev/null
-python3 - "${1:-$top/crates/warnc/out/warnc}" "$work" <<'PY'
+. "$(dirname "$(readlink -f "$0")")/start.sh"
+python3 - "${1:-$program}" "$work" <<'PY'
 import os, random, resource, subprocess, sys, time
 
 program, work = sys.argv[1:]

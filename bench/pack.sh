@@ -3,11 +3,8 @@
 # is wrong, so no text is packed), its rows and texts (the last text can't be sent), and all of `warnc compile --slots 1`. What
 # packing takes is the difference of the first two. pack.sh [PROGRAM [OTHER]]: OTHER is timed beside it, as one that packs row by row.
 set -eu
-top=$(cd "$(dirname "$0")/.." && pwd)
-work=$(mktemp -d)
-trap 'rm -rf "$work"' EXIT
-[ $# -gt 0 ] || "$top/warnc" --help >/dev/null
-python3 - "$work" "${1:-$top/crates/warnc/out/warnc}" ${2:+"$2"} <<'PY'
+. "$(dirname "$(readlink -f "$0")")/start.sh"
+python3 - "$work" "${1:-$program}" ${2:+"$2"} <<'PY'
 import os, subprocess, sys, time
 work, *programs = sys.argv[1:]
 ROWS = 4096

@@ -3,13 +3,10 @@
 # tapes (64 tapes of 4,096 slots are 24 MB, so four inputs are read one after another), on tapes
 # with many messages of 15 pages, and on tapes with many messages of one page.
 set -eu
-top=$(cd "$(dirname "$0")/.." && pwd)
-work=$(mktemp -d)
-trap 'rm -rf "$work"' EXIT
-"$top/warnc" --help >/dev/null
+. "$(dirname "$(readlink -f "$0")")/start.sh"
 for seed in 1 2 3 4; do python3 "$top/bench/make_tapes.py" "$seed" >"$work/mixed$seed"; done
 for kind in long short; do python3 "$top/bench/make_tapes.py" 1 "$kind" >"$work/$kind"; done
-python3 - "$top/crates/warnc/out/warnc" "$work" <<'PY'
+python3 - "$program" "$work" <<'PY'
 import os, subprocess, sys, time
 program, work = sys.argv[1:]
 KINDS = {"mixed": ["mixed1", "mixed2", "mixed3", "mixed4"], "long": ["long"], "short": ["short"]}

@@ -1,7 +1,17 @@
-"""Times commands, for the scripts of this folder."""
+"""Times commands, and reads words, for the scripts of this folder."""
 import os
 import subprocess
+import sys
 import time
+
+
+def words_of(document, fewest, most):
+    """Returns the words that a script is given. If they are too few or too many, or ask for help, prints its document and ends it."""
+    words = sys.argv[1:]
+    if not fewest <= len(words) <= most or words[0].startswith("-"):
+        print(document, end="")
+        sys.exit(0 if words in (["-h"], ["--help"]) else 2)
+    return words
 
 
 def best_of_five(command, source, target):

@@ -4,30 +4,36 @@
 # stopped; if it asks for something else, it is refused until the folder is removed.
 set -eu
 here=$(dirname "$(readlink -f "$0")")
+document() {
+    sed -n '2,/^$/s/^# \{0,1\}//p' "$0"
+}
 usage() {
-    sed -n '2,/^$/s/^# \{0,1\}//p' "$0" >&2
+    document >&2
     exit 2
 }
+case ${1:-} in
+-h | --help)
+    document
+    exit 0 ;;
+esac
 [ $# -ge 4 ] || usage
 command=$1 slots=$2 network=$(readlink -f "$3") output=$4
 shift 4
 case $command in report | compile) ;; *) usage ;; esac
-if [ -z "${WARNC:-}" ]; then
-    "$here/../warnc" --version > /dev/null
-    WARNC=$here/../crates/warnc/out/warnc
-fi
+[ -n "${WARNC:-}" ] || WARNC=$(WARNC_WHICH=1 "$here/../warnc")
 WARNC=$(readlink -f "$WARNC")
 export WARNC
 
+# A network book that is refused leaves no folder behind.
+groups=$("$WARNC" groups < "$network")
 mkdir -p "$output.parts"
 folder=$(readlink -f "$output.parts")
-asked="$command $slots $(sha256sum < "$network")"
+asked="$command $slots $(sha256sum < "$network") $("$WARNC" --version | head -n 1)"
 [ -f "$folder/asked" ] || echo "$asked" > "$folder/asked"
 if [ "$asked" != "$(cat "$folder/asked")" ]; then
-    echo "$folder is of another run" >&2
+    echo "$folder is of another run: remove it, or name another output" >&2
     exit 2
 fi
-groups=$("$WARNC" groups < "$network")
 
 # Joins the parts in the order of the groups, if all are there.
 join() {

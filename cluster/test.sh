@@ -6,8 +6,13 @@
 # Usage: test.sh [PROGRAM]        PROGRAM is a built warnc, if it isn't this one
 set -eu
 here=$(dirname "$(readlink -f "$0")")
-program=${1:-$here/../crates/warnc/out/warnc}
-program=$(readlink -f "$program")
+case ${1:-} in
+-*)
+    sed -n '2,/^set/{/^#/s/^# \{0,1\}//p}' "$0"
+    [ "$1" = -h ] || [ "$1" = --help ] || exit 2
+    exit 0 ;;
+esac
+program=$(readlink -f "${1:-$(WARNC_WHICH=1 "$here/../warnc")}")
 folder=$(mktemp -d)
 passed=0 failed=0 skipped=0
 end() {

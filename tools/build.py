@@ -1,6 +1,8 @@
 #!/usr/bin/env python3
 """Proves and builds warnc: crates that don't stand on each other side by side, each once those below it are proved.
 
+Usage: build.py      the program is crates/warnc/out/warnc then
+
 `rt` keeps one checkout's checks out of each other's libraries, so that two of them wait for each other. So each lane is a checkout of
 its own, outside the repository: what is proved in one is taken over by the others, and is linked into this one.
 
@@ -229,5 +231,15 @@ def build():
     return 0
 
 
+def main(words):
+    if words:
+        print(__doc__, end="")
+        return 0 if words in (["-h"], ["--help"]) else 2
+    if shutil.which("rt") is None:
+        print("warnc: 'rt', the command of the Rattle toolchain, isn't there: README.md says what is needed", file=sys.stderr)
+        return 70
+    return build()
+
+
 if __name__ == "__main__":
-    sys.exit(build())
+    sys.exit(main(sys.argv[1:]))

@@ -311,7 +311,7 @@ def beside_tshark(program):
 
 
 def main():
-    parser = argparse.ArgumentParser(description=__doc__.splitlines()[0])
+    parser = argparse.ArgumentParser(description=__doc__, formatter_class=argparse.RawDescriptionHelpFormatter)
     parser.add_argument("--used", action="store_true")
     parser.add_argument("--channel", type=int, choices=[51, 52], default=51)
     parser.add_argument("--back", nargs="+")

@@ -29,18 +29,7 @@ TEXTS = [
     "</bdi></svg></details><h1>'&amp;' & \"&lt;\"</h1>",
     "Вода поднимается! Идите в школу.",
 ]
-BY_HAND = """\
-cell,1,1
-cell,1,2
-write,0,fire,4370,0,1,en,0,4,0,*,Fire in the old town. Stay inside and close the windows.
-write,2,flood,4371,0,2,ru,2,8,0,1-2,Вода поднимается! Идите сейчас же в школу.
-write,3,storm,4372,0,3,en,2,2,6,1-1,Storm warning until six.
-write,8,<script>,4373,0,4,en,1,6,0,*,<script>alert('A text is a text.')</script>
-update,14,fire,en,0,3,0,*,The fire is under control. Keep the windows closed.
-write,16,works,4374,0,5,en,2,1,0,1-1,Road works on bridge 7.
-stop,30,fire,1-1
-stop,34,flood,1-2
-"""
+TOP = os.path.dirname(os.path.dirname(os.path.realpath(__file__)))
 SLOTS_BY_HAND = 48
 
 
@@ -189,20 +178,27 @@ def differences(program, browser, book, slots):
         yield from wrong_loads(page, slots)
 
 
+def book_by_hand():
+    """Returns the book of which docs/ has a picture."""
+    with open(os.path.join(TOP, "examples", "picture.csv"), encoding="utf-8") as it:
+        return it.read()
+
+
 def take_picture(program, browser, path):
     """Writes a picture of the chart of the book by hand."""
     with tempfile.TemporaryDirectory() as folder:
         chart = os.path.join(folder, "chart.html")
         with open(chart, "wb") as file:
-            file.write(run(program, ["chart", "--slots", str(SLOTS_BY_HAND)], BY_HAND.encode()))
+            file.write(run(program, ["chart", "--slots", str(SLOTS_BY_HAND)], book_by_hand().encode()))
         words = [browser, "--headless=new", "--no-sandbox", "--disable-gpu", f"--user-data-dir={folder}/profile"]
         subprocess.run([*words, "--hide-scrollbars", "--window-size=1000,640", f"--screenshot={os.path.abspath(path)}",
                         f"file://{chart}"], stderr=subprocess.DEVNULL, stdout=subprocess.DEVNULL, check=True)
 
 
 def main(words):
-    if not words:
-        sys.exit(__doc__)
+    if not words or words[0].startswith("-"):
+        print(__doc__, end="")
+        return 0 if words in (["-h"], ["--help"]) else 2
     program = os.path.abspath(words[0])
     browser = shutil.which("chromium") or shutil.which("chromium-browser")
     if not browser:
@@ -212,7 +208,7 @@ def main(words):
             take_picture(program, browser, words[2])
         return 0
     chance = random.Random(41)
-    books = [BY_HAND, *(random_book(chance) for _ in range(int(words[1]) if words[1:] else 20))]
+    books = [book_by_hand(), *(random_book(chance) for _ in range(int(words[1]) if words[1:] else 20))]
     wrong = [it for book in books for it in differences(program, browser, book, SLOTS_BY_HAND)]
     print("\n".join(wrong) or f"{len(books)} charts are as their reports{', in the browser too' if browser else ''}")
     return 1 if wrong else 0

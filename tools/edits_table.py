@@ -133,9 +133,13 @@ def all_edits():
 
 
 def main():
-    if sys.argv[1:] != ["--check"]:
+    words = sys.argv[1:]
+    if words not in ([], ["--all"], ["--check"]):
+        print(__doc__, end="")
+        return 0 if words in (["-h"], ["--help"]) else 2
+    if words != ["--check"]:
         print(document(), end="")
-        if sys.argv[1:] == ["--all"]:
+        if words == ["--all"]:
             print(all_edits())
         return 0
     with open(os.path.join(TOP, "docs", "edits.md"), encoding="utf-8") as it:

@@ -1,11 +1,14 @@
 #!/usr/bin/env python3
-"""Runs the gate, `rt ci`, and prints what processor time each crate took: its proof, its tests, its edits that must be refused.
+"""Runs the gate, `rt ci --anew`, and prints what processor time each crate took: its proof, its tests, its edits that must be refused.
 
-The times are read from /proc while the gate runs, so nothing else of this repository should be checked beside it. The last column
-is a multiple of what the crate `septets` took in the same run, so that it can be compared between machines; docs/gate.md has the
-budget. With a file as argument, what the gate says goes there; else it goes to standard output. With names of crates behind it,
-these and those below them alone are proved and tried.
+Usage: gate_times.py [--log FILE] [CRATE..]      with names of crates, these and those below them alone; what the gate says goes to the
+                                                 file, or to standard output
+
+It begins from nothing, so it takes as long as the first gate on a machine. The times are read from /proc while the gate runs, so nothing
+else of this repository should be checked beside it. The table is that of docs/gate.md: its last column is a multiple of what the crate
+`septets` took in the same run, so that it can be compared between machines.
 """
+import argparse
 import os
 import subprocess
 import sys
@@ -14,7 +17,7 @@ import time
 TICKS = os.sysconf("SC_CLK_TCK")
 UNIT = "septets"
 KINDS = ("proof", "tests", "edits")
-OTHERS = "(compilers, programs, rt)"
+OTHERS = "compilers, programs, rt"
 
 
 def kind_of(words, folder):
@@ -67,25 +70,32 @@ def sample(seen, top):
         seen[key][2] = max(seen[key][2], seconds)
 
 
+def row_of(name, row, unit):
+    """Returns a row of the table."""
+    total = sum(row.values())
+    cells = (f"{row[it]:,.0f}" if row[it] >= 0.5 else "-" for it in KINDS)
+    return f"| {name} | {' | '.join(cells)} | {total:,.0f} | {total / unit:.1f} |"
+
+
 def table(seen):
     """Returns the lines of the table, the dearest crate first."""
     rows = {}
     for crate, kind, seconds in seen.values():
         rows.setdefault(crate, dict.fromkeys(KINDS, 0.0))[kind] += seconds
     unit = sum(rows.get(UNIT, {}).values()) or 1.0
-    lines = [f"{'crate':28}{'proof':>9}{'tests':>9}{'edits':>9}{'total':>9}{'x ' + UNIT:>12}"]
-    for crate, row in sorted(rows.items(), key=lambda it: -sum(it[1].values())):
-        total = sum(row.values())
-        lines.append(f"{crate:28}" + "".join(f"{row[it]:9.0f}" for it in KINDS) + f"{total:9.0f}{total / unit:12.1f}")
-    total = sum(sum(row.values()) for row in rows.values())
-    lines.append(f"{'all':28}" + "".join(f"{sum(row[it] for row in rows.values()):9.0f}" for it in KINDS) + f"{total:9.0f}{total / unit:12.1f}")
-    return lines
+    lines = ["| Crate | Proof | Tests | Edits | Total | Times septets |", "|---|---|---|---|---|---|"]
+    lines += [row_of(crate, row, unit) for crate, row in sorted(rows.items(), key=lambda it: -sum(it[1].values()))]
+    return [*lines, row_of("all", {it: sum(row[it] for row in rows.values()) for it in KINDS}, unit)]
 
 
-def main(words):
+def main():
+    parser = argparse.ArgumentParser(description=__doc__, formatter_class=argparse.RawDescriptionHelpFormatter)
+    parser.add_argument("--log", metavar="FILE", help="what the gate says goes there")
+    parser.add_argument("crates", metavar="CRATE", nargs="*")
+    words = parser.parse_args()
     began, seen = time.monotonic(), {}
-    out = open(words[0], "w", encoding="utf-8") if words else None
-    gate = subprocess.Popen(["rt", "ci", *words[1:]], stdin=subprocess.DEVNULL, stdout=out, stderr=subprocess.STDOUT if out else None)
+    out = open(words.log, "w", encoding="utf-8") if words.log else None
+    gate = subprocess.Popen(["rt", "ci", "--anew", *words.crates], stdin=subprocess.DEVNULL, stdout=out, stderr=subprocess.STDOUT if out else None)
     while gate.poll() is None:
         sample(seen, gate.pid)
         time.sleep(0.1)
@@ -95,4 +105,4 @@ def main(words):
 
 
 if __name__ == "__main__":
-    sys.exit(main(sys.argv[1:]))
+    sys.exit(main())

@@ -105,6 +105,9 @@ def main():
                 with open(path, "w", encoding="utf-8") as it:
                     it.write("\n".join(lines))
         return 0
+    if sys.argv[1:]:
+        print(__doc__, end="")
+        return 0 if sys.argv[1:] in (["-h"], ["--help"]) else 2
     paths = ["README.md"] + [p for pattern in ("docs/*.md", "crates/*/src/**/*.rt", "crates/*/specs/**/*.antt", "crates/*/proofs/**/*.antt")
                              for p in sorted(glob.glob(pattern, recursive=True))]
     count = 0

@@ -701,8 +701,8 @@ def main(words):
     if len(words) == 3 and words[0] in TABLES:
         print_answers(*words)
         return 0
-    print(__doc__.split("\n\n")[1], file=sys.stderr)
-    return 2
+    print(__doc__, end="")
+    return 0 if words in (["-h"], ["--help"]) else 2
 
 
 if __name__ == "__main__":

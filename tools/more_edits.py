@@ -2,14 +2,15 @@
 """Tries the edits in crates/NAME/more-edits: wrong bodies that the prover has to refuse, in the form of those in must-fail.
 
 Edits of different functions are tried together: they are put into one copy of the crate, and one check of it says which functions
-have an open goal. An edit counts as refused only if a goal of its own function stays open. An edit that isn't refused so, or that
-changes more than one function, or a constant or a macro, is tried alone, and is refused if the crate isn't proved with it.
+have an open goal. An edit counts as refused there only if a goal of its own function is open, and not if that function calls another
+that isn't proved. All others, and those that change more than one function, or a constant or a macro, are tried alone: each is refused
+if the crate isn't proved with it.
 
 Usage: more_edits.py [--batch N] [--lanes N] [--since COMMIT] [CRATE..]
 
-With names of crates, those alone are tried; with --since, those that changed since that commit. docs/gate.md keeps on which commit
-all were tried last: a run of all crates writes it, and so does a run since that commit or one before it. The last line is
-'N refused, M not refused', and the run fails if M is not 0.
+With names of crates, those alone are tried; with --since, those that changed since that commit. tools/edits_tried says of each crate when
+all of its edits were last refused, and on which commit (with a `+` if the crate had changes of its own). The last line is 'N refused, M
+not refused', and the run fails if M is not 0.
 """
 import argparse
 import os
@@ -25,8 +26,7 @@ TOP = os.path.dirname(os.path.dirname(os.path.realpath(__file__)))
 PARTS = ("src", "specs", "proofs")
 # what a check is likely to hold at most, in bytes
 MEMORY = 4 << 30
-GATE = os.path.join(TOP, "docs", "gate.md")
-RECORD = re.compile(r"(?m)^All were last tried (?:on \S+, on commit `(\w+)`|in parts).*$")
+TRIED = os.path.join(TOP, "tools", "edits_tried")
 
 
 def read_edit(path):
@@ -123,6 +123,14 @@ class Room:
         return ran.stdout
 
 
+def is_of_function(verdict, name):
+    """Whether a verdict refuses a function for itself: for a goal of its own, or for a proof of its own that doesn't fit any more."""
+    if not verdict.startswith(("no proof", "not proved")) or re.search(r"it calls|which (is|are) not proved", verdict):
+        return False
+    standing = re.search(r"stands on (.*)", verdict)
+    return standing is None or name in re.split(r"\W+", standing[1])
+
+
 def has_open_goal(said, edit):
     """Whether the prover says that the edit's own function has a goal that is open."""
     ((file, name),) = edit.functions
@@ -130,7 +138,7 @@ def has_open_goal(said, edit):
     for line in said.split("\n"):
         found = re.match(r"fn (\S+): (.*)", line)
         if found and found[1].endswith(f"::{name}") and module in found[1]:
-            return found[2].startswith(("no proof", "not proved"))
+            return is_of_function(found[2], name)
     return False
 
 
@@ -205,26 +213,18 @@ def changed_since(commit):
     return {path.split("/")[1] for path in paths if path.count("/") > 2 and path.split("/")[2] in (*PARTS, "more-edits")}
 
 
-def is_whole(words):
-    """Whether a run of these words leaves no edit untried that has changed since all were tried last."""
-    if words.crates:
-        return False
-    if words.since is None:
-        return True
-    last = RECORD.search(read(TOP, GATE))
-    return bool(last and last[1]) and subprocess.run(["git", "merge-base", "--is-ancestor", words.since, last[1]], cwd=TOP, check=False).returncode == 0
-
-
-def keep_record(count):
-    """Writes into docs/gate.md on which commit all edits were tried."""
-    text = read(TOP, GATE)
-    line = f"All were last tried on {time.strftime('%Y-%m-%d')}, on commit `{git('rev-parse', '--short', 'HEAD')}`: {count} refused, 0 not refused."
-    with open(GATE, "w", encoding="utf-8") as it:
-        it.write(RECORD.sub(line, text))
-
-
-def edits_in_all(names):
-    return sum(it.endswith(".edit") for name in names for it in os.listdir(os.path.join(TOP, "crates", name, "more-edits")))
+def keep_record(crates):
+    """Writes into tools/edits_tried that all edits of these crates were refused: a line has a crate, a day, a commit and a number."""
+    lines = {}
+    if os.path.exists(TRIED):
+        with open(TRIED, encoding="utf-8") as it:
+            lines = {line.split()[0]: line for line in it.read().splitlines()}
+    commit = git("rev-parse", "--short", "HEAD")
+    for crate, count in crates.items():
+        mark = "+" if git("status", "--porcelain", "--", f"crates/{crate}") else ""
+        lines[crate] = f"{crate} {time.strftime('%Y-%m-%d')} {commit}{mark} {count}"
+    with open(TRIED, "w", encoding="utf-8") as it:
+        it.write("".join(f"{lines[it]}\n" for it in sorted(lines)))
 
 
 def main():
@@ -243,8 +243,7 @@ def main():
     with ThreadPoolExecutor(words.lanes) as pool:
         counts = list(pool.map(lambda it: try_crate(it, words.batch), names))
     refused, left = sum(it[0] for it in counts), sum(it[1] for it in counts)
-    if left == 0 and is_whole(words):
-        keep_record(edits_in_all(every))
+    keep_record({name: count for name, (count, lost) in zip(names, counts) if not lost})
     print(f"{refused} refused, {left} not refused")
     return 1 if left else 0
 

@@ -111,8 +111,9 @@ def wanted(reference, rows, cells):
 
 
 def main():
-    if len(sys.argv) not in (3, 4):
-        sys.exit(__doc__)
+    if len(sys.argv) not in (3, 4) or sys.argv[1].startswith("-"):
+        print(__doc__, end="")
+        sys.exit(0 if sys.argv[1:] in (["-h"], ["--help"]) else 2)
     program, reference = sys.argv[1:3]
     differing, most = 0, int(sys.argv[3]) if len(sys.argv) == 4 else 300
     for seed in range(most):

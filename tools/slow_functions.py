@@ -72,7 +72,7 @@ def times_of(crate, words):
 
 
 def main():
-    parser = argparse.ArgumentParser(description=__doc__.split("\n", maxsplit=1)[0])
+    parser = argparse.ArgumentParser(description=__doc__, formatter_class=argparse.RawDescriptionHelpFormatter)
     parser.add_argument("--most", type=int, default=10, metavar="N", help="how many functions of a crate to print (10)")
     parser.add_argument("--test", action="store_true", help="prove the tests too")
     parser.add_argument("crates", nargs="+", metavar="CRATE")

@@ -246,8 +246,9 @@ def differs(program, seed):
 
 
 def main(words):
-    if not words:
-        raise SystemExit(__doc__)
+    if not words or words[0].startswith("-"):
+        print(__doc__, end="")
+        return 0 if words in (["-h"], ["--help"]) else 2
     runs = int(words[1]) if len(words) > 1 else 1500
     differing = sum(differs(words[0], seed) for seed in range(runs))
     print(f"{runs} runs, {differing} differ")

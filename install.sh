@@ -1,0 +1,64 @@
+#!/bin/sh
+# Installs the program of dist/ with its man page and its completions for bash, zsh and fish, or removes them again.
+#
+# Usage: ./install.sh [--prefix DIR] [--uninstall]
+#
+# DIR is /usr/local, if it isn't given. A packager's DESTDIR goes before it. Nothing is built: dist/ has the program for x86-64 Linux
+# with glibc 2.34 or later.
+set -eu
+here=$(dirname "$(readlink -f "$0")")
+prefix=/usr/local uninstall=
+usage() {
+    sed -n '2,/^set/s/^# \{0,1\}//p' "$0" | sed '/^set/d'
+}
+while [ $# -gt 0 ]; do
+    case $1 in
+    --prefix=*) prefix=${1#--prefix=} ;;
+    --prefix)
+        [ $# -gt 1 ] || { usage >&2; exit 2; }
+        shift
+        prefix=$1 ;;
+    --uninstall) uninstall=yes ;;
+    -h | --help) usage; exit 0 ;;
+    *) usage >&2; exit 2 ;;
+    esac
+    shift
+done
+case $prefix in
+/*) ;;
+?*) prefix=$PWD/$prefix ;;
+*) usage >&2; exit 2 ;;
+esac
+to=${DESTDIR:-}$prefix
+
+# What goes where: mode, file, place.
+list() {
+    cat << 'END'
+755 dist/warnc-x86_64-linux bin/warnc
+644 docs/warnc.1 share/man/man1/warnc.1
+644 tools/completions/warnc.bash share/bash-completion/completions/warnc
+644 tools/completions/_warnc share/zsh/site-functions/_warnc
+644 tools/completions/warnc.fish share/fish/vendor_completions.d/warnc.fish
+644 LICENSE share/doc/warnc/LICENSE
+644 THIRD-PARTY.md share/doc/warnc/THIRD-PARTY.md
+END
+}
+
+if [ -n "$uninstall" ]; then
+    list | while read -r mode file place; do rm -f "$to/$place"; done
+    rmdir "$to/share/doc/warnc" 2> /dev/null || true
+    echo "warnc is removed from $to"
+    exit 0
+fi
+sum=$(sha256sum < "$here/dist/warnc-x86_64-linux" | cut -d ' ' -f 1)
+if [ "$(sed -n 's/^program //p' "$here/dist/MANIFEST")" != "$sum" ]; then
+    echo "install.sh: the program of dist/ isn't that of dist/MANIFEST" >&2
+    exit 1
+fi
+list | while read -r mode file place; do
+    mkdir -p "$to/$(dirname "$place")"
+    rm -f "$to/$place"
+    cp "$here/$file" "$to/$place"
+    chmod "$mode" "$to/$place"
+done
+echo "$("$to/bin/warnc" --version | head -n 1) is installed in $to/bin"

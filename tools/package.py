@@ -1,0 +1,148 @@
+#!/usr/bin/env python3
+"""Makes packages of the program of dist/: a Debian package and a tar file, with their sums.
+
+Usage: package.py [FOLDER]      writes warnc_VERSION_amd64.deb, warnc-VERSION-x86_64-linux.tar.gz and SHA256SUMS into the folder,
+                                which is packages/ if it isn't given
+
+The packages of one tree are the same octet for octet, on each machine: all times in them are SOURCE_DATE_EPOCH, if that is set, and else
+the time of the last commit. The Debian package needs dpkg-deb, and is left out where that isn't there. The tar file has install.sh.
+"""
+import gzip
+import hashlib
+import io
+import os
+import shutil
+import subprocess
+import sys
+import tarfile
+import tempfile
+
+import release
+
+TOP = release.TOP
+# What the packages have beside the program: files of the repository, and where a Debian package has them.
+DOCUMENTS = ("README.md", "CHANGELOG.md", "LICENSE", "SECURITY.md", "THIRD-PARTY.md")
+COMPLETIONS = {"tools/completions/warnc.bash": "usr/share/bash-completion/completions/warnc",
+               "tools/completions/_warnc": "usr/share/zsh/vendor-completions/_warnc",
+               "tools/completions/warnc.fish": "usr/share/fish/vendor_completions.d/warnc.fish"}
+CONTROL = """\
+Package: warnc
+Version: {version}
+Section: utils
+Priority: optional
+Architecture: amd64
+Depends: libc6 (>= 2.34)
+Installed-Size: {size}
+Maintainer: Silltangelo maintainers <maintainers@users.noreply.silltangelo.example>
+Description: compiler of GSM cell broadcast warnings
+ From a book of alerts warnc computes what the broadcast channel of every cell
+ sends, and it reads such recordings back as a phone does.
+"""
+
+
+def time_of_packages():
+    """Returns the time that all files of a package have, in seconds since 1970."""
+    said = os.environ.get("SOURCE_DATE_EPOCH")
+    return int(said or subprocess.run(["git", "log", "-1", "--format=%ct"], cwd=TOP, stdout=subprocess.PIPE, text=True, check=True).stdout)
+
+
+def listed(folder):
+    """Returns the files of a folder of the repository that are under version control, if that can be asked, and else all."""
+    asked = subprocess.run(["git", "ls-files", folder], cwd=TOP, stdout=subprocess.PIPE, stderr=subprocess.DEVNULL, text=True, check=False)
+    if asked.returncode == 0 and asked.stdout:
+        return asked.stdout.split("\n")[:-1]
+    return [os.path.relpath(os.path.join(place, it), TOP) for place, _, files in os.walk(os.path.join(TOP, folder)) for it in files]
+
+
+def read(path):
+    return release.read(os.path.join(TOP, path))
+
+
+def debian_files():
+    """Returns what the Debian package has: path to mode and octets."""
+    docs = "usr/share/doc/warnc"
+    files = {"usr/bin/warnc": (0o755, release.read(release.RELEASED))}
+    files["usr/share/man/man1/warnc.1.gz"] = (0o644, gzip.compress(read("docs/warnc.1"), 9, mtime=0))
+    files.update({place: (0o644, read(it)) for it, place in COMPLETIONS.items()})
+    files.update({f"{docs}/{it}": (0o644, read(it)) for it in DOCUMENTS if it != "LICENSE"})
+    files.update({f"{docs}/{it.removeprefix('docs/')}": (0o644, read(it)) for it in listed("docs") if not it.endswith(".1")})
+    files.update({f"{docs}/{it}": (0o644, read(it)) for it in listed("examples")})
+    files[f"{docs}/copyright"] = (0o644, read("LICENSE"))
+    return files
+
+
+def put(root, path, mode, octets, time):
+    """Writes a file of a package, and gives it and its folders the mode and the time that they have in each package."""
+    file = os.path.join(root, path)
+    os.makedirs(os.path.dirname(file), exist_ok=True)
+    with open(file, "wb") as it:
+        it.write(octets)
+    os.chmod(file, mode)
+    os.utime(file, (time, time))
+
+
+def make_debian(folder, version, time):
+    """Makes the Debian package, and returns its name."""
+    name, files = f"warnc_{version}_amd64.deb", debian_files()
+    size = sum(len(octets) for _, octets in files.values()) // 1024 + 1
+    files["DEBIAN/control"] = (0o644, CONTROL.format(version=version, size=size).encode())
+    with tempfile.TemporaryDirectory(prefix="warnc-package-") as room:
+        os.chmod(room, 0o755)
+        for path, (mode, octets) in files.items():
+            put(room, path, mode, octets, time)
+        for place, folders, _ in os.walk(room, topdown=False):
+            for it in (*(os.path.join(place, one) for one in folders), place):
+                os.chmod(it, 0o755)
+                os.utime(it, (time, time))
+        subprocess.run(["dpkg-deb", "--root-owner-group", "-Zgzip", "--build", room, os.path.join(folder, name)], check=True,
+                       stdout=subprocess.DEVNULL, env={**os.environ, "SOURCE_DATE_EPOCH": str(time)})
+    return name
+
+
+def make_tar(folder, version, time):
+    """Makes the tar file, and returns its name."""
+    name = f"warnc-{version}-x86_64-linux.tar.gz"
+    paths = [*DOCUMENTS, "install.sh", "dist/MANIFEST", "dist/warnc-x86_64-linux", *COMPLETIONS, *listed("docs"), *listed("examples")]
+    octets = io.BytesIO()
+    with tarfile.open(fileobj=octets, mode="w", format=tarfile.PAX_FORMAT) as tar:
+        for path in sorted(paths):
+            info = tarfile.TarInfo(f"warnc-{version}/{path}")
+            held = read(path)
+            info.size, info.mtime = len(held), time
+            info.mode = 0o755 if path in ("install.sh", "dist/warnc-x86_64-linux") else 0o644
+            tar.addfile(info, io.BytesIO(held))
+    with open(os.path.join(folder, name), "wb") as it:
+        it.write(gzip.compress(octets.getvalue(), 9, mtime=0))
+    return name
+
+
+def make(folder):
+    """Makes the packages in a folder, and returns their names."""
+    version, time = release.written_manifest()["version"], time_of_packages()
+    os.makedirs(folder, exist_ok=True)
+    names = [make_tar(folder, version, time)]
+    if shutil.which("dpkg-deb"):
+        names.append(make_debian(folder, version, time))
+    else:
+        print("package: dpkg-deb isn't there, so there is no Debian package: SKIPPED")
+    with open(os.path.join(folder, "SHA256SUMS"), "w", encoding="ascii") as it:
+        for name in sorted(names):
+            it.write(f"{hashlib.sha256(release.read(os.path.join(folder, name))).hexdigest()}  {name}\n")
+    return names
+
+
+def main(words):
+    if len(words) > 1 or words[:1] and words[0].startswith("-"):
+        print(__doc__, end="")
+        return 0 if words in (["-h"], ["--help"]) else 2
+    wrong = release.faults()
+    if wrong:
+        print(f"package: {wrong[0]}", file=sys.stderr)
+        return 1
+    folder = words[0] if words else os.path.join(TOP, "packages")
+    print("\n".join(os.path.join(folder, it) for it in make(folder)))
+    return 0
+
+
+if __name__ == "__main__":
+    sys.exit(main(sys.argv[1:]))

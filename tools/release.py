@@ -1,0 +1,162 @@
+#!/usr/bin/env python3
+"""Writes dist/: the program for x86-64 Linux, and the manifest that says of what it was made.
+
+Usage: release.py            proves and builds the program, and writes both
+       release.py --stale    says in a line why dist/ isn't of this tree, and nothing if it is
+       release.py --check    proves and builds the program once more, from nothing and in a folder of its own, by `rt ci --anew`, and
+                             says whether it is the one of dist/, octet for octet
+
+It fails if dist/ isn't of this tree, or if the two programs differ.
+
+A line of the manifest is a key and a value. `sources` is the sum of crates.txt, HANDLES, and all files of src/, specs/ and proofs/ of the
+crates that `crates` names: that of the lines that sha256sum prints of them, sorted. `program` is the sum of the program, and `manifest`
+that of the lines above it. All sums are SHA-256.
+"""
+import hashlib
+import os
+import re
+import shutil
+import subprocess
+import sys
+import tempfile
+
+from build import PROGRAM, TOP, build, copy_checkout, crates_below
+
+DIST = os.path.join(TOP, "dist")
+RELEASED = os.path.join(DIST, "warnc-x86_64-linux")
+MANIFEST = os.path.join(DIST, "MANIFEST")
+PARTS = ("src", "specs", "proofs")
+COMMAND_LINE = os.path.join("crates", "warnc_cli", "src", "command.rt")
+
+
+def read(path):
+    with open(path, "rb") as it:
+        return it.read()
+
+
+def sum_of(octets):
+    return hashlib.sha256(octets).hexdigest()
+
+
+def sources(top, crates):
+    """Returns the paths of all that the program is made of."""
+    found = ["crates.txt", "HANDLES"]
+    for crate in crates:
+        for part in PARTS:
+            for place, _, files in os.walk(os.path.join(top, "crates", crate, part)):
+                found += [os.path.relpath(os.path.join(place, it), top) for it in files if it.endswith((".rt", ".antt"))]
+    return found
+
+
+def sum_of_sources(top, crates):
+    """Returns the sum of the sources: that of the lines `SUM  PATH`, sorted, as sha256sum and sort print them."""
+    lines = sorted(f"{sum_of(read(os.path.join(top, it)))}  {it}\n" for it in sources(top, crates))
+    return sum_of("".join(lines).encode())
+
+
+def version_of(top):
+    """Returns the version of the program, and the toolchain that proved it, by its source."""
+    with open(os.path.join(top, COMMAND_LINE), encoding="utf-8") as it:
+        return re.search(r'VERSION: &str = "([^"\\]+)\\n([^"]+)"', it.read()).groups()
+
+
+def manifest_of(top, program):
+    """Returns the manifest of a program that was built of a tree."""
+    version, toolchain = version_of(top)
+    crates = sorted(crates_below(PROGRAM))
+    lines = [("version", version), ("toolchain", toolchain), ("crates", " ".join(crates)), ("sources", sum_of_sources(top, crates)),
+             ("program", sum_of(program))]
+    text = "".join(f"{key} {value}\n" for key, value in lines)
+    return text + f"manifest {sum_of(text.encode())}\n"
+
+
+def written_manifest():
+    """Returns the keys and values of dist/MANIFEST; none if its own sum isn't that of its lines."""
+    try:
+        text = read(MANIFEST).decode()
+    except (OSError, ValueError):
+        return {}
+    head, mark, own = text.rpartition("manifest ")
+    if not mark or own != f"{sum_of(head.encode())}\n":
+        return {}
+    return dict(it.split(" ", 1) for it in head.splitlines())
+
+
+def faults():
+    """Returns why dist/ is no release of any tree: a program that isn't the manifest's, or a manifest that was changed."""
+    said = written_manifest()
+    if not said:
+        return ["dist/MANIFEST isn't there, or was changed: its last line isn't the sum of those above it"]
+    if not os.path.isfile(RELEASED) or sum_of(read(RELEASED)) != said["program"]:
+        return [f"{os.path.relpath(RELEASED, TOP)} isn't the program of dist/MANIFEST"]
+    shown = subprocess.run([RELEASED, "--version"], stdout=subprocess.PIPE, text=True, check=False).stdout
+    if shown != f"warnc {said['version']}\n{said['toolchain']}\n":
+        return [f"{os.path.relpath(RELEASED, TOP)} says that it is another version than dist/MANIFEST does"]
+    return []
+
+
+def stale():
+    """Returns in a line why dist/ isn't of this tree, or None if it is."""
+    found = faults()
+    if found:
+        return found[0]
+    said, crates = written_manifest(), sorted(crates_below(PROGRAM))
+    if said["crates"].split() != crates:
+        return "dist/ is of an older tree: the program stands on other crates now"
+    if said["sources"] != sum_of_sources(TOP, crates):
+        return "dist/ is of an older tree: a source of the program has changed since"
+    return None
+
+
+def is_built():
+    """Proves and builds the program here; returns whether that could be done."""
+    return build() == 0
+
+
+def write():
+    if not is_built():
+        return 1
+    program = read(os.path.join(TOP, "crates", PROGRAM, "out", PROGRAM))
+    os.makedirs(DIST, exist_ok=True)
+    with open(RELEASED, "wb") as it:
+        it.write(program)
+    os.chmod(RELEASED, 0o755)
+    with open(MANIFEST, "w", encoding="utf-8") as it:
+        it.write(manifest_of(TOP, program))
+    print(f"{os.path.relpath(RELEASED)}: {len(program)} octets, {sum_of(program)}")
+    return 0
+
+
+def compare(folder):
+    """Compares the program that was built in a checkout with that of dist/; returns whether they are equal."""
+    made, released = (read(it) for it in (os.path.join(folder, "crates", PROGRAM, "out", PROGRAM), RELEASED))
+    print(f"release: the program that was built anew and that of dist/ are {'equal' if made == released else 'NOT EQUAL'}: {sum_of(made)}")
+    return made == released
+
+
+def check():
+    """Proves and builds the program from nothing in a folder of its own, and compares it with that of dist/."""
+    with tempfile.TemporaryDirectory(prefix="warnc-release-") as folder:
+        crates = sorted(crates_below(PROGRAM))
+        copy = copy_checkout(os.path.join(folder, "checkout"), crates)
+        for crate in crates:
+            shutil.rmtree(os.path.join(copy, "crates", crate, "must-fail"), ignore_errors=True)
+        done = subprocess.run(["rt", "ci", "--anew"], cwd=copy, stdin=subprocess.DEVNULL, check=False)
+        return 0 if done.returncode == 0 and compare(copy) else 1
+
+
+def main(words):
+    if words == ["--stale"]:
+        why = stale()
+        print(why or "", end="\n" if why else "")
+        return 1 if why else 0
+    if words == ["--check"]:
+        return check()
+    if not words:
+        return write()
+    print(__doc__, end="")
+    return 0 if words in (["-h"], ["--help"]) else 2
+
+
+if __name__ == "__main__":
+    sys.exit(main(sys.argv[1:]))
