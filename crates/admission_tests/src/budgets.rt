@@ -47,6 +47,14 @@ fits 77597521 1 -> Load
 fits 1 7 -> Load
 total -> 232792560
 
+# Messages of one page with periods of six, three and two slots fill a cell, too.
+new
+load 1 6 -> 38798760
+reserve 0 38798760 - -> ok
+reserve 1 77597520 - -> ok
+reserve 2 116396280 - -> ok
+total -> 232792560
+
 # What is reserved up to a slot is free from there on.
 default
 reserve 0 77597520 6 -> ok
@@ -262,5 +270,5 @@ fn gives_worked_loads(rt: HostRuntime) {
 
 #[test]
 fn fills_exactly_and_frees_at_the_end(rt: HostRuntime) {
-    expect_rows(&rt, RESERVED, 38);
+    expect_rows(&rt, RESERVED, 44);
 }

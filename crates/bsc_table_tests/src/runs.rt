@@ -18,6 +18,11 @@ status 0003 -> unknown
 air -> 0/1 1/1 0/1 1/2
 log -> 2 entries
 
+# Two pages don't fit into a period of one slot.
+cell 1-1 8
+write 0001 every 1 pages 2 -> refused: bsc capacity exceeded
+log -> 1 entries
+
 # A load stays until the period of the stop is over.
 cell 1-1 8
 write 0001 every 2 -> started at 0
@@ -444,7 +449,7 @@ fn books_are_refused_until_there_is_memory(rt: HostRuntime) -> Result<(), Fail> 
 
 #[test]
 fn runs_air_what_was_worked_by_hand(rt: HostRuntime) -> Result<(), Fail> {
-    expect_rows(&rt, rt.alloc(), AIRS, 89)?;
+    expect_rows(&rt, rt.alloc(), AIRS, 92)?;
     expect_rows(&rt, rt.alloc(), BACKGROUND, 40)
 }
 

@@ -142,6 +142,8 @@ reply kill 4370 0010 1-1,1-2 cause 02 stopped 258 -> 0600001a0e11120200100900060
 # A replacement in two cells: three numbers of three octets, and lists of what was refused and of what was completed.
 reply replace 4370 0010 0011 normal 2 1-1,1-2 replaced 1 1 cause 06 -> \
     0300001d0e11120300110200100900060100010002060800080100010001000100
+reply replace 4370 0010 0011 normal 2 1-1,1-2 replaced 1 1 replaced 2 1 -> \
+    0200001b0e111203001102001008000f010001000100010000010002000100
 reply replace 4370 0010 0011 normal 2 1-2,1-1 cause 06 cause 02 -> \
     030000180e111203001102001009000c010001000206010001000102
 
@@ -159,5 +161,5 @@ cells none -> right
 
 #[test]
 fn a_reply_says_what_each_cell_answered(rt: HostRuntime) -> Result<(), Fail> {
-    expect_rows(&rt, REPLIES, 11)
+    expect_rows(&rt, REPLIES, 12)
 }

@@ -7,7 +7,7 @@ use crate::lines::{cell_of, cells_of, message_of};
 use bsc_table::{Answer, State};
 use cbs_page::Serial;
 use cbsp_wire::Cell;
-use order_desk::{Desk, DeskFault, Note, Open, Pass, Piece, cells_ok};
+use order_desk::{Desk, DeskFault, Note, Open, Pass, Piece, SettleFault, cells_ok};
 use std::alloc::{AllocError, Global};
 use std::fmt::Write;
 use std::sync::Wait;
@@ -90,6 +90,11 @@ pub fn begin(alloc: Global, run: &mut Run, verb: &str, words: &mut Words) -> Res
 
 /// Tells a fault by its names, and what it says.
 pub fn put_fault(told: &mut String, fault: DeskFault) -> Result<(), AllocError> {
+    write!(told, "{fault:?}: {fault}")
+}
+
+/// Tells a fault of a settlement by its names, and what it says.
+pub fn put_settle_fault(told: &mut String, fault: SettleFault) -> Result<(), AllocError> {
     write!(told, "{fault:?}: {fault}")
 }
 

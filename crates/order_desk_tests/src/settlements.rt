@@ -10,6 +10,11 @@ p plays 1-1 2 -> 0..2
 p asks 1-1 4370 0001 -> Unknown
 settle p -> settled 1-1: 4 slots, air of 4, log of 1
 
+# A play alone.
+desk 4 1-1
+p plays 1-1 2 -> 0..2
+settle p -> settled 1-1: 4 slots, air of 4, log of 0
+
 # A play without its pass.
 desk 4 1-1
 p plays 1-1 2 -> 0..2
@@ -119,9 +124,12 @@ desk 4 1-1
 p plays 1-1 1 -> 0..1
 p asks 1-1 4370 0001 -> Unknown
 settle none -> Strange { cell: Cell { lac: 1, ci: 1 }, number: 0 }
+
+# What such a fault says.
+settle-fault 3 -> Session { part: 3 }: settlement failed
 ";
 
 #[test]
 fn a_desk_is_settled_or_the_first_disagreement_is_told(rt: HostRuntime) -> Result<(), Fail> {
-    expect_rows(&rt, SETTLEMENTS, 81)
+    expect_rows(&rt, SETTLEMENTS, 85)
 }

@@ -5,8 +5,8 @@
 
 use crate::ends::{close, settle, show};
 use crate::replies::{judge_cells, reply};
-use crate::run::{Run, begin, put_fault, take_out, with_pass};
-use order_desk::DeskFault;
+use crate::run::{Run, begin, put_fault, put_settle_fault, take_out, with_pass};
+use order_desk::{DeskFault, SettleFault};
 use std::alloc::Global;
 use std::mem;
 use std::process::Abort;
@@ -18,6 +18,12 @@ use test_support::{Drought, Row, Words, after_refusals, is_refused};
 fn tell_memory(run: &mut Run, words: &mut Words) -> Result<(), Fail> {
     let done = words.number16()?;
     Ok(put_fault(&mut run.told, DeskFault::Memory { done })?)
+}
+
+/// `settle-fault PART`: the fault of a settlement with the session of a part, by its name and its text.
+fn tell_session(run: &mut Run, words: &mut Words) -> Result<(), Fail> {
+    let part = words.number16()?;
+    Ok(put_settle_fault(&mut run.told, SettleFault::Session { part })?)
 }
 
 /// Tells what comes of an action.
@@ -37,6 +43,7 @@ fn carry_out<T: AllocGlobal + Wait>(
         "reply" => reply(rt.alloc(), run, words),
         "cells" => judge_cells(rt.alloc(), run, words),
         "fault" => tell_memory(run, words),
+        "settle-fault" => tell_session(run, words),
         _ => Err(Fail::new("no such action")),
     }
 }

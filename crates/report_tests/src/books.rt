@@ -1,8 +1,8 @@
 //! Books of cells, their runs, what handsets read of their blocks, and reports of them, by lines.
 //!
 //! - `cell CI SLOTS; COMMAND; ..` is the run of a cell of location area 1, all of whose slots are played; it is then
-//! one
-//!   of those that are reported. Each command says its answer: `write ID SERIAL REPLACED PAGES PERIOD BROADCASTS`,
+//!   one of those that are reported. Each command says its answer: `write ID SERIAL REPLACED PAGES PERIOD BROADCASTS`,
+//!   `background` with the same words,
 //!   `kill ID SERIAL` and `status ID SERIAL`, whose serial numbers are hexadecimal, with `-` for no message that is
 //!   replaced; and `play SLOTS`. `fill MESSAGES STARTED` begins so many messages of period 60, and orders stops of
 //!   others to fill the log. `forget` drops all runs.
@@ -37,7 +37,13 @@ const PAGE: Content = Content {
 };
 
 /// The command of a write of one page or of two.
-fn write_of(alloc: Global, id: u16, serial: Serial, words: &mut Words) -> Result<Command, Fail>
+fn write_of(
+    alloc: Global,
+    category: Category,
+    id: u16,
+    serial: Serial,
+    words: &mut Words,
+) -> Result<Command, Fail>
     ensures { IfOk result (λ command. IsWellFormed command) }
 {
     let replaces = match words.word() {
@@ -59,7 +65,7 @@ fn write_of(alloc: Global, id: u16, serial: Serial, words: &mut Words) -> Result
         id,
         serial,
         replaces,
-        category: Category::Normal,
+        category,
         period,
         broadcasts,
         dcs: Dcs(0x01),
@@ -73,7 +79,8 @@ fn command_of(alloc: Global, verb: &str, words: &mut Words) -> Result<Command, F
 {
     let (id, serial) = (words.number16()?, Serial::of(words.hex16()?));
     match verb {
-        "write" => write_of(alloc, id, serial, words),
+        "write" => write_of(alloc, Category::Normal, id, serial, words),
+        "background" => write_of(alloc, Category::Background, id, serial, words),
         "kill" => Ok(Command::Kill { id, serial }),
         _ => Ok(Command::Status { id, serial }),
     }

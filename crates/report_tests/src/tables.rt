@@ -147,6 +147,24 @@ forget
 cell 1 4; write 4370 0010 - 1 2 0; write 4371 0020 - 2 4 0; play 3; kill 4371 0020 -> Started { slot: 0 }; \
     Started { slot: 0 }; 0..3; Stopped { completed: 0 }
 heard -> block 4 of slot 0: 4370 0010, no more
+forget
+
+# a message of the background has the slots that no other needs, and is shown once its second page came
+cell 1 8; write 4370 0010 - 1 1 0; background 4371 0020 - 2 4 0; play 3; kill 4370 0010 -> Started { slot: 0 }; \
+    Started { slot: 0 }; 0..3; Stopped { completed: 3 }
+heard -> block 4 of slot 0: 4370 0010, block 4 of slot 5: 4371 0020, no more
+forget
+
+# a replacement that would start at the end of the run isn't shown
+cell 1 6; write 4370 0010 - 1 6 0; write 4371 0020 - 1 3 0; write 4372 0030 - 1 2 0; play 4; \
+    write 4371 0021 0020 1 3 0 -> Started { slot: 0 }; Started { slot: 0 }; Started { slot: 0 }; 0..4; \
+    Replaced { slot: 6, completed: 1 }
+heard -> block 4 of slot 0: 4372 0030, block 4 of slot 1: 4371 0020, block 4 of slot 3: 4370 0010, no more
+forget
+
+# nothing is shown of a cell without orders
+cell 1 3
+heard -> no more
 ";
 
 /// A full log, and the most slots.
@@ -169,5 +187,5 @@ fn the_report_of_two_cells_goes_out_whole_or_in_front(rt: HostRuntime) -> Result
 fn rows_say_what_became_of_each_order_of_a_cell(rt: HostRuntime) -> Result<(), Fail> {
     expect_rows(&rt, rt.alloc(), ONE_CELL, 25)?;
     expect_rows(&rt, rt.alloc(), LONG, 4)?;
-    expect_rows(&rt, rt.alloc(), HEARD, 10)
+    expect_rows(&rt, rt.alloc(), HEARD, 19)
 }
