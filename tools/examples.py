@@ -31,7 +31,7 @@ def lines_of(path):
     shown = "\n".join(re.findall(r"\.nf\n\.RS\n(.*?)\.RE\n\.fi", text, re.S))
     for written, char in ((r"\-", "-"), (r"\(aq", "'"), (r"\e", "\\"), (r"\&", "")):
         shown = shown.replace(written, char)
-    return [f"    {it}" for it in shown.split("\n")]
+    return [f"    {it}" if it else "" for it in shown.split("\n")]
 
 
 def is_whole(command):
