@@ -1,5 +1,5 @@
 -- What a handset shows of blocks without a difference, whoever sent them (own).
-use Rattle.std.specs.Prelude.{◌≡◌, ℕ, ◌<◌, true, false, List, [], All, Any, Contains, encode_utf8_all}
+use Rattle.std.specs.Prelude.{◌≡◌, ℕ, true, false, List, [], All, Any, Contains, encode_utf8_all}
 use Rattle.std.specs.List.{flat_map}
 use Rattle.cbs_page.specs.Coding.{alphabet_of}
 use Rattle.cbs_page.specs.Text.{text_in}
@@ -28,7 +28,6 @@ message_asked a = record {
 abbrev pub OwedAreShown : Type 0
 OwedAreShown = (r : Record) (blocks : List (List ℕ))
     → IsLegal r
-    → All (All (λ octet. octet < 256)) blocks
     → AreDifferences r blocks []
     → All (λ a. a.background ≡ false → is_owed r.slots a 0 ≡ true → Contains (shown_in blocks) (message_asked a))
     (asked_of_log r.log)
