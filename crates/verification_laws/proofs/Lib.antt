@@ -10,6 +10,7 @@ pub mod NoOthers
 pub mod PageNumbers
 pub mod ReadPages
 pub mod OwedShown
+pub mod ShownAsked
 pub mod OwnSlots
 pub mod OneList
 pub mod OneOrder
