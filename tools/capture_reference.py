@@ -20,6 +20,9 @@ import sys
 IDLE = bytes([0x2F] + [0x2B] * 22)
 FRAMES = 51 * 26 * 2048
 SLOTS = FRAMES // 51 // 8
+CHANNELS = {51: 15, 52: 12}
+# in a multiframe, by the channel's number in GSMTAP
+FIRST_FRAMES = {15: 32, 12: 8}
 
 
 class Refused(Exception):
@@ -76,7 +79,7 @@ def packet_of_block(number, lac, cell, place, block, channel):
     slot, part = divmod(place, 4)
     multiframe = 8 * slot + part
     when = divmod(multiframe * 51 * 120000 // 26, 1000000)
-    body = datagram(gsmtap((multiframe * 51 + 32) % FRAMES, channel, block))
+    body = datagram(gsmtap((multiframe * 51 + FIRST_FRAMES[channel]) % FRAMES, channel, block))
     return packet(internet(struct.pack(">HH", lac, cell), struct.pack(">I", 0x0A000000 + number), slot % 65536, body), when)
 
 
@@ -262,11 +265,11 @@ def compare(program, runs):
         words = ["pcap", "--channel", str(channel)] + ["--used"] * used
         several = b"".join([tape] * rng.choice([0, 1, 1, 2, 65]) if slots < 8 else [tape])
         several = several if rng.random() < 0.9 else several[:rng.randrange(len(several) + 1)]
-        mine = made(capture_of, several, used, {51: 15, 52: 12}[channel])
+        mine = made(capture_of, several, used, CHANNELS[channel])
         assert ran(program, words, several) == mine, f"run {run}: {words}"
         lac, cell = struct.unpack_from(">HH", tape)
         back = ["tape", "--cell", f"{lac}-{cell}", "--slots"]
-        whole = ran(program, ["pcap"], tape)
+        whole = ran(program, ["pcap", "--channel", str(channel)], tape)
         assert ran(program, [*back, str(slots)], whole) == tape, f"run {run}: there and back"
         file = random_file(rng, tape)
         wanted = rng.choice([slots, slots, max(1, slots - 1), slots + 3])
@@ -331,7 +334,7 @@ def main():
             source = bytes(map(int, words.back[2].split("."))) if len(words.back) > 2 else None
             sys.stdout.buffer.write(tape_of(octets, lac, cell, int(words.back[1]), source))
         else:
-            sys.stdout.buffer.write(capture_of(octets, words.used, {51: 15, 52: 12}[words.channel]))
+            sys.stdout.buffer.write(capture_of(octets, words.used, CHANNELS[words.channel]))
     except Refused as why:
         print(why, file=sys.stderr)
         return 1

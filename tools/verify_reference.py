@@ -92,7 +92,7 @@ def asked_of(report, orders, slots):
 
 
 def sent_in(blocks):
-    """Yields each readable page that stands in blocks, with its slot."""
+    """Yields each page that stands in blocks, with its slot. One whose data coding has no alphabet has no text."""
     for place in range(len(blocks) - 3):
         if tuple(it[0] for it in blocks[place:place + 4]) == TYPES:
             page = b"".join(it[1:] for it in blocks[place:place + 4])
@@ -101,8 +101,8 @@ def sent_in(blocks):
             if number == 0 or total == 0:
                 number = total = 1
             alphabet = malformed.alphabet_of(dcs)
-            if alphabet is not None and number <= total:
-                yield place // 4, ident, serial, number, total, dcs, malformed.text_of_content(alphabet, page[6:])
+            text = None if alphabet is None else malformed.text_of_content(alphabet, page[6:])
+            yield place // 4, ident, serial, number, total, dcs, text
 
 
 def differences_of_message(one, sent, slots):
@@ -181,7 +181,7 @@ def spoilt(rng, tapes):
     tapes = [(lac, ci, slots, list(blocks)) for lac, ci, slots, blocks in tapes]
     for _ in range(rng.randrange(1, 5)):
         place = rng.randrange(len(tapes)) if tapes else None
-        kind = rng.randrange(12)
+        kind = rng.randrange(13)
         if place is None or kind == 0:
             tapes.insert(rng.randrange(len(tapes) + 1), (rng.randrange(1, 5), rng.randrange(1, 9), 1, [IDLE] * 4))
             continue
@@ -206,9 +206,16 @@ def spoilt(rng, tapes):
             source = rng.choice(tapes)[3]
             at = 4 * rng.randrange(len(source) // 4)
             blocks[4 * one:4 * one + 4] = source[at:at + 4]
+        elif kind == 10:
+            # another data coding or page parameter: many can't be shown
+            first = [it for it in range(len(blocks)) if blocks[it][0] == 0x20] or [0]
+            at = rng.choice(first)
+            block = bytearray(blocks[at])
+            block[rng.randrange(5, 7)] = rng.randrange(256)
+            blocks[at] = bytes(block)
         else:
             used = [it for it in range(len(blocks)) if blocks[it][0] != 0x2F] or [0]
-            at, octet = rng.choice(used), rng.randrange(23 if kind == 10 else 7)
+            at, octet = rng.choice(used), rng.randrange(23 if kind == 11 else 7)
             block = bytearray(blocks[at])
             block[octet] ^= 1 << rng.randrange(8)
             blocks[at] = bytes(block)

@@ -1,11 +1,12 @@
--- The chart of a run: one page in HTML that stands alone (own). What is fixed in it are constants of the code; what is
--- said here is what stands between them, and in which order.
+-- The chart of a run: one page in HTML that stands alone (own). What is fixed in it are constants of the code, but for
+-- the words of causes; what is said here is what stands between them, and in which order.
 use Rattle.std.specs.Prelude.{ℕ, ◌-◌, ◌*◌, ◌/◌, ◌%◌, ◌==◌, ◌&&◌, Bool, true, if◌then◌else◌, Option, Some, None, List}
-use Rattle.std.specs.Prelude.{[], ◌∷◌, ◌++◌}
+use Rattle.std.specs.Prelude.{[], ◌∷◌, ◌++◌, codes}
 use Rattle.std.specs.Fmt.{decimal}
 use Rattle.std.specs.List.{flat_map}
 use Rattle.std.specs.Io.KnownBytes.{Appends}
 use Rattle.hex.specs.Hex.{encode_lower}
+use Rattle.admission.specs.declared.measure.TheConstants.{SCALE}
 use Rattle.device_ends.specs.Moves.{AppendsFront}
 use Rattle.device_ends.specs.Stream.{Writes}
 use Rattle.device_ends.specs.declared.writing.Sink.{Sink}
@@ -37,19 +38,19 @@ name_text row = decimal row.id ++ lines.SPACE.now ++ serial_text row.serial
 -- a cause in words (3GPP TS 48.049, 8.2, Cause)
 abbrev pub cause_words : ℕ → List ℕ
 cause_words number =
-    if number == cause.PARAMETER_NOT_RECOGNISED then causes.NOT_RECOGNISED.now
-    else if number == cause.PARAMETER_VALUE_INVALID then causes.VALUE_INVALID.now
-    else if number == cause.MESSAGE_REFERENCE_NOT_IDENTIFIED then causes.NOT_IDENTIFIED.now
-    else if number == cause.CELL_IDENTITY_NOT_VALID then causes.CELL_NOT_VALID.now
-    else if number == cause.UNRECOGNISED_MESSAGE then causes.UNRECOGNISED.now
-    else if number == cause.MISSING_MANDATORY_ELEMENT then causes.MISSING.now
-    else if number == cause.BSC_CAPACITY_EXCEEDED then causes.CAPACITY.now
-    else if number == cause.CELL_MEMORY_EXCEEDED then causes.CELL_MEMORY.now
-    else if number == cause.BSC_MEMORY_EXCEEDED then causes.BSC_MEMORY.now
-    else if number == cause.CELL_BROADCAST_NOT_OPERATIONAL then causes.NOT_OPERATIONAL.now
-    else if number == cause.EXTENDED_CHANNEL_NOT_SUPPORTED then causes.NOT_SUPPORTED.now
-    else if number == cause.MESSAGE_REFERENCE_ALREADY_USED then causes.ALREADY_USED.now
-    else causes.OTHER.now
+    if number == cause.PARAMETER_NOT_RECOGNISED then codes "parameter not recognised"
+    else if number == cause.PARAMETER_VALUE_INVALID then codes "parameter value invalid"
+    else if number == cause.MESSAGE_REFERENCE_NOT_IDENTIFIED then codes "message reference not identified"
+    else if number == cause.CELL_IDENTITY_NOT_VALID then codes "cell identity not valid"
+    else if number == cause.UNRECOGNISED_MESSAGE then codes "unrecognised message"
+    else if number == cause.MISSING_MANDATORY_ELEMENT then codes "missing mandatory element"
+    else if number == cause.BSC_CAPACITY_EXCEEDED then codes "BSC capacity exceeded"
+    else if number == cause.CELL_MEMORY_EXCEEDED then codes "cell memory exceeded"
+    else if number == cause.BSC_MEMORY_EXCEEDED then codes "BSC memory exceeded"
+    else if number == cause.CELL_BROADCAST_NOT_OPERATIONAL then codes "cell broadcast not operational"
+    else if number == cause.EXTENDED_CHANNEL_NOT_SUPPORTED then codes "extended channel not supported"
+    else if number == cause.MESSAGE_REFERENCE_ALREADY_USED then codes "message reference already used"
+    else codes "another cause"
 
 -- a cause in words, and its number in two hexadecimal digits
 unfoldable pub cause_text : ℕ → List ℕ
@@ -129,12 +130,17 @@ ticks slots = tick 0 ++ tick (slots / 4) ++ tick (slots / 2) ++ tick (slots * 3 
 unfoldable pub axis : (slots : ℕ) → List ℕ
 axis slots = times.AXIS.now ++ ticks slots ++ times.AXIS_END.now
 
--- the loads that are reserved over the slots: the picture is as high as SCALE, so that its upper edge is a full cell
+-- the loads that are reserved over the slots: the picture is as wide as the run
+unfoldable pub load_width : (slots : ℕ) → List ℕ
+load_width slots = loads.LOAD.now ++ decimal slots ++ loads.LOAD_BOX.now
+
+-- and as high as SCALE, so that its upper edge is a full cell; the line begins and ends at its bottom
 unfoldable pub load_front : (slots : ℕ) → List ℕ
-load_front slots = loads.LOAD.now ++ decimal slots ++ loads.LOAD_BOX.now
+load_front slots = load_width slots ++ decimal SCALE ++ loads.LOAD_PATH.now ++ decimal SCALE
 
 unfoldable pub load_end : (slots : ℕ) → List ℕ
-load_end slots = loads.TO_SLOT.now ++ decimal slots ++ loads.LOAD_END.now
+load_end slots =
+    loads.TO_SLOT.now ++ decimal slots ++ loads.TO_LOAD.now ++ decimal SCALE ++ loads.LOAD_END.now
 
 abbrev pub load_picture : Record → List ℕ
 load_picture r = load_front r.slots ++ load_line r ++ load_end r.slots

@@ -52,8 +52,9 @@ pub const NUMBER: &str = " (";
 /// What comes after it.
 pub const NUMBER_END: &str = ")";
 
-/// A cause in words (3GPP TS 48.049, 8.2, Cause).
-fn cause_words(number: u8) -> &'static str
+/// A cause of [`cbsp_wire::cause`] in words, as 3GPP TS 48.049, 8.2, Cause, names it; `another cause` for each other
+/// number.
+pub fn cause_words(number: u8) -> &'static str
     ensures { result.now ≡ cause_words number }
 {
     match number {

@@ -16,5 +16,6 @@ pub mod message;
 mod page;
 pub mod time;
 
+pub use cause::cause_words;
 pub use chart::write_chart;
 pub use laws::chart_laws;

@@ -1,12 +1,13 @@
 //! The loads that a cell has reserved, over the slots of its run.
 
 ghost use Rattle.std.specs.Prelude.{◌≡◌, ◌+◌, ◌<◌, ◌≤◌, ◌++◌, ℕ, List, length, slice_index, IfOk, OnOk};
+ghost use Rattle.std.specs.Fmt.{decimal};
 ghost use Rattle.std.specs.List.{flat_map, range_with_len};
 ghost use Rattle.admission.specs.declared.measure.TheConstants.{SCALE};
 ghost use Rattle.bsc_table.specs.Claim.{Claim, claim_at, claim_share_at};
 ghost use Rattle.bsc_table.specs.Record.{Record, claim_of, claims_in, claims_of};
 ghost use Rattle.bsc_table.specs.Room.{ClaimsFit};
-ghost use Rattle.chart.specs.ChartText.{load_end, load_front, load_picture};
+ghost use Rattle.chart.specs.ChartText.{load_end, load_front, load_picture, load_width};
 ghost use Rattle.chart.specs.Kept.{accepted_kept, all_kept, HavePeriods};
 ghost use Rattle.chart.specs.Load.{AreLoads, step_at, step_text};
 ghost use Rattle.chart.specs.Message.{end_within};
@@ -20,10 +21,13 @@ use std::alloc::{AllocError, Global};
 pub const LOAD: &str =
     "<div class=\"line\"><p>Reserved load</p>\n<svg class=\"loads\" viewBox=\"0 0 ";
 
-/// What comes after its width: it is as high as [`SCALE`], and the line begins at the bottom.
-pub const LOAD_BOX: &str =
-    " 232792560\" preserveAspectRatio=\"none\" role=\"img\"><title>Reserved load</title>\n\
-    <path class=\"load\" d=\"M0 232792560";
+/// What comes between its width and its height.
+pub const LOAD_BOX: &str = " ";
+
+/// What comes between its height and that at which the line begins: the bottom's.
+pub const LOAD_PATH: &str =
+    "\" preserveAspectRatio=\"none\" role=\"img\"><title>Reserved load</title>\n\
+    <path class=\"load\" d=\"M0 ";
 
 /// What comes before a slot to which the line goes on.
 pub const TO_SLOT: &str = "H";
@@ -31,8 +35,8 @@ pub const TO_SLOT: &str = "H";
 /// What comes before a height to which it goes on.
 pub const TO_LOAD: &str = "V";
 
-/// The end of the picture.
-pub const LOAD_END: &str = "V232792560z\"/></svg></div>\n";
+/// The end of the picture, after the bottom's height.
+pub const LOAD_END: &str = "z\"/></svg></div>\n";
 
 /// The first slot after a message's reservation, or after the run.
 pub(crate) fn end_within(kept: &KeptMessage, slots: usize) -> usize
@@ -121,14 +125,32 @@ fn push_line(page: &mut Page, loads: &[u64]) -> Result<(), AllocError>
     Ok(())
 }
 
-/// Appends the front of the picture of the loads.
-#[tactic(auto, unfolding(crate::specs::ChartText::load_front))]
-fn push_front(page: &mut Page, slots: u16) -> Result<(), AllocError>
-    ensures { OnOk result (page.new ≡ page.old ++ load_front slots) }
+/// Appends the height of the picture's bottom. Heights are counted from the top, at which the cell is full.
+fn push_bottom(page: &mut Page) -> Result<(), AllocError>
+    ensures { OnOk result (page.new ≡ page.old ++ decimal SCALE) }
+{
+    page.number(SCALE)
+}
+
+/// Appends the front of the picture of the loads, up to its height.
+#[tactic(auto, unfolding(crate::specs::ChartText::load_width))]
+fn push_width(page: &mut Page, slots: u16) -> Result<(), AllocError>
+    ensures { OnOk result (page.new ≡ page.old ++ load_width slots) }
 {
     page.markup(LOAD)?;
     page.number(u64::from(slots))?;
     page.markup(LOAD_BOX)
+}
+
+/// Appends the front of the picture, up to the begin of the line.
+#[tactic(auto, unfolding(crate::specs::ChartText::load_front))]
+fn push_front(page: &mut Page, slots: u16) -> Result<(), AllocError>
+    ensures { OnOk result (page.new ≡ page.old ++ load_front slots) }
+{
+    push_width(page, slots)?;
+    push_bottom(page)?;
+    page.markup(LOAD_PATH)?;
+    push_bottom(page)
 }
 
 /// Appends the end of the picture of the loads.
@@ -138,6 +160,8 @@ fn push_end(page: &mut Page, slots: u16) -> Result<(), AllocError>
 {
     page.markup(TO_SLOT)?;
     page.number(u64::from(slots))?;
+    page.markup(TO_LOAD)?;
+    push_bottom(page)?;
     page.markup(LOAD_END)
 }
 

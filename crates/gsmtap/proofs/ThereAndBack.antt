@@ -29,7 +29,7 @@ use Rattle.gsmtap.specs.Tap.{block_of, datagram_of, internet_of, payload_of, sen
 use Rattle.gsmtap.specs.declared.file.Link.TheVariants.{Internet}
 use Rattle.gsmtap.specs.declared.file.OctetOrder.TheVariants.{LowFirst}
 use Rattle.gsmtap.specs.declared.packet.Channel.{Channel}
-use Rattle.gsmtap.specs.declared.packet.Channel.TheVariants.{Basic, Extended}
+use Rattle.gsmtap.specs.declared.packet.Channel.TheVariants.{BesideSdcch4, BesideSdcch8}
 use Rattle.gsmtap.specs.declared.packet.Place.{Place}
 
 header_order : octet_order_of file_header ≡ Some LowFirst
@@ -62,8 +62,8 @@ record_long : (place : Place) → length (record_header place) ≡ 16
 unfolding record_header
 record_long place = refl
 
-frame_fits : (place : Place) → frame_number place < 256 ^ 4
-frame_fits place = omega arith
+frame_fits : (channel : Channel) (place : Place) → frame_number channel place < 256 ^ 4
+frame_fits channel place = omega arith
 
 -- what carries a block is taken as it
 datagram_there : (channel : Channel) (place : Place) (block : List ℕ) → length block ≡ 23 →
@@ -78,18 +78,20 @@ payload_there channel place block long =
     rw long (ap (λ xs. Some (tap_header channel place ++ xs)) (take_all 23 block (omega (arith, long))))
 
 block_there : (channel : Channel) (place : Place) (block : List ℕ) → length block ≡ 23 →
-    block_of (tap_header channel place ++ block) ≡ Some (record { frame = frame_number place; block = block })
+    block_of (tap_header channel place ++ block) ≡ Some (record { frame = frame_number channel place; block = block })
 unfolding tap_header block_of
-block_there Basic place block long =
+block_there BesideSdcch4 place block long =
     rw long (ap (λ (f : ℕ). Some (record { frame = f; block = block }))
-    (big_number-reads_back 4 (frame_number place) (15 ∷ 0 ∷ 2 ∷ 0 ∷ block) (frame_fits place)))
-block_there Extended place block long =
+    (big_number-reads_back 4 (frame_number BesideSdcch4 place) (15 ∷ 0 ∷ 2 ∷ 0 ∷ block)
+    (frame_fits BesideSdcch4 place)))
+block_there BesideSdcch8 place block long =
     rw long (ap (λ (f : ℕ). Some (record { frame = f; block = block }))
-    (big_number-reads_back 4 (frame_number place) (12 ∷ 0 ∷ 2 ∷ 0 ∷ block) (frame_fits place)))
+    (big_number-reads_back 4 (frame_number BesideSdcch8 place) (12 ∷ 0 ∷ 2 ∷ 0 ∷ block)
+    (frame_fits BesideSdcch8 place)))
 
 sent_there : (channel : Channel) (place : Place) (block : List ℕ) → length block ≡ 23 →
     sent_in Internet None (inside_of channel place block)
-    ≡ Some (record { frame = frame_number place; block = block })
+    ≡ Some (record { frame = frame_number channel place; block = block })
 unfolding sent_in internet_of
 sent_there channel place block long =
     rw (datagram_there channel place block long) (rw (payload_there channel place block long)
@@ -112,17 +114,15 @@ packet_whole channel place block long = record {
 }
 
 -- where it stands
-place_there : (place : Place) → place.block < 4 → place_in (frame_number place) ≡ place.block
-place_there place few = omega arith
+place_there : (channel : Channel) (place : Place) → place.block < 4 →
+    place_in (frame_number channel place) ≡ place.block
+place_there BesideSdcch4 place few = omega arith
+place_there BesideSdcch8 place few = omega arith
 
-slot_there : (place : Place) → place.block < 4 → slot_of_frame (frame_number place) ≡ place.slot % 6656
-slot_there place few = omega arith
-
-follows_first : (place : Place) → place.block < 4 → place.slot ≡ 0 →
-    followed None (slot_of_frame (frame_number place)) ≡ Some (record { first = 0; slot = 0 })
-unfolding followed
-follows_first place few is =
-    ap (λ (n : ℕ). Some (record { first = n; slot = 0 })) (slot_there place few ∙ ap (λ n. n % 6656) is)
+slot_there : (channel : Channel) (place : Place) → place.block < 4 →
+    slot_of_frame (frame_number channel place) ≡ place.slot % 6656
+slot_there BesideSdcch4 place few = omega arith
+slot_there BesideSdcch8 place few = omega arith
 
 same_slot : (slot : ℕ) → nearest (record { first = 0; slot = slot }) (slot % 6656) ≡ Some slot
 same_slot slot =
@@ -173,19 +173,19 @@ put_next done left place block is =
 abbrev pub at : Cell → (slot block : ℕ) → Place
 at cell slot block = record { tape = 0; cell = cell; slot = slot; block = block }
 
-with_next : (cell : Cell) (slot block : ℕ) (octets : List ℕ) (track : Option Track) (done : List (List ℕ)) (left : ℕ) →
-    block < 4 → nat_lt block 4 ≡ true → length done ≡ 4 * slot + block →
+with_next : (channel : Channel) (cell : Cell) (slot block : ℕ) (octets : List ℕ) (track : Option Track)
+    (done : List (List ℕ)) (left : ℕ) → block < 4 → nat_lt block 4 ≡ true → length done ≡ 4 * slot + block →
     followed track (slot % 6656) ≡ Some (record { first = 0; slot = slot }) →
     with_block (record { track = track; blocks = sofar done (suc left) })
-    (record { frame = frame_number (at cell slot block); block = octets })
+    (record { frame = frame_number channel (at cell slot block); block = octets })
     ≡ Ok (record { track = Some (record { first = 0; slot = slot }); blocks = sofar (done ++ octets ∷ []) left })
 unfolding with_block
-with_next cell slot block octets track done left few few_is many leads =
+with_next channel cell slot block octets track done left few few_is many leads =
     let place : Place = at cell slot block in
-    let there : length done ≡ 4 * slot + place_in (frame_number place) =
-    many ∙ ap (λ n. 4 * slot + n) (sym (place_there place few)) in
-    rw (place_there place few) (rw few_is (rw (slot_there place few) (rw leads
-    (rw (put_next done left (4 * slot + place_in (frame_number place)) octets there) refl))))
+    let there : length done ≡ 4 * slot + place_in (frame_number channel place) =
+    many ∙ ap (λ n. 4 * slot + n) (sym (place_there channel place few)) in
+    rw (place_there channel place few) (rw few_is (rw (slot_there channel place few) (rw leads
+    (rw (put_next done left (4 * slot + place_in (frame_number channel place)) octets there) refl))))
 
 next_packet : (channel : Channel) (cell : Cell) (slot block : ℕ) (octets : List ℕ) (track : Option Track)
     (done : List (List ℕ)) (left : ℕ) → length octets ≡ 23 →
@@ -198,7 +198,7 @@ unfolding after_packet
 next_packet channel cell slot block octets track done left long few few_is many leads =
     ap (after_sent (record { track = track; blocks = sofar done (suc left) }))
     (sent_there channel (at cell slot block) octets long)
-    ∙ with_next cell slot block octets track done left few few_is many leads
+    ∙ with_next channel cell slot block octets track done left few few_is many leads
 
 -- the packets of blocks of a slot, from this one on, and of slots
 abbrev pub packets_in : Channel → Cell → (slot block : ℕ) → List (List ℕ) → List Packet

@@ -4,7 +4,7 @@ use Rattle.std.specs.Prelude.{ℕ, ◌+◌, ◌-◌, ◌*◌, ◌/◌, ◌%◌, 
 use Rattle.std.specs.List.{flat_map}
 use Rattle.byteorder.specs.Endian.{big_bytes, little_bytes}
 use Rattle.gsmtap.specs.declared.packet.Channel.{Channel}
-use Rattle.gsmtap.specs.declared.packet.Channel.TheVariants.{Basic, Extended}
+use Rattle.gsmtap.specs.declared.packet.Channel.TheVariants.{BesideSdcch4, BesideSdcch8}
 use Rattle.gsmtap.specs.declared.packet.Place.{Place}
 
 -- the 51-multiframe in which a block is sent, counted from the tape's first: a slot has eight of them, and its blocks
@@ -12,9 +12,16 @@ use Rattle.gsmtap.specs.declared.packet.Place.{Place}
 abbrev pub multiframe : Place → ℕ
 multiframe place = 8 * place.slot + place.block
 
+-- the first of the four frames of a 51-multiframe in which a cell broadcast channel sends a block. The channel stands
+-- in place of SDCCH/4 number 2, which has frames 32 to 35, or of SDCCH/8 number 2, which has 8 to 11 (3GPP TS 45.002,
+-- clause 7)
+abbrev pub first_frame : Channel → ℕ
+first_frame BesideSdcch4 = 32
+first_frame BesideSdcch8 = 8
+
 -- the number of a block's first frame, within the hyperframe of 2,048 * 26 * 51 frames (3GPP TS 45.002, clause 4.3.3)
-abbrev pub frame_number : Place → ℕ
-frame_number place = (multiframe place * 51 + 32) % 2715648
+abbrev pub frame_number : Channel → Place → ℕ
+frame_number channel place = (multiframe place * 51 + first_frame channel) % 2715648
 
 -- when a block is sent, in whole microseconds from the tape's begin: a frame has 120 / 26 milliseconds
 abbrev pub microseconds : Place → ℕ
@@ -60,16 +67,16 @@ internet_header place =
 unfoldable pub datagram_header : List ℕ
 datagram_header = network_words (4729 ∷ 4729 ∷ 47 ∷ 0 ∷ [])
 
--- the channel's number in GSMTAP
+-- the channel's number in GSMTAP: CBCH51 and CBCH52
 abbrev pub channel_number : Channel → ℕ
-channel_number Basic = 15
-channel_number Extended = 12
+channel_number BesideSdcch4 = 15
+channel_number BesideSdcch8 = 12
 
 -- the GSMTAP header: version 2, four words of 32 bits, type 1 (a block of the Um interface), time slot 0; ARFCN, signal
 -- and SNR 0; the frame number; the channel, antenna 0, sub-slot 2, and an octet that is kept free
 unfoldable pub tap_header : Channel → Place → List ℕ
 tap_header channel place =
-    (2 ∷ 4 ∷ 1 ∷ 0 ∷ 0 ∷ 0 ∷ 0 ∷ 0 ∷ []) ++ big_bytes 4 (frame_number place)
+    (2 ∷ 4 ∷ 1 ∷ 0 ∷ 0 ∷ 0 ∷ 0 ∷ 0 ∷ []) ++ big_bytes 4 (frame_number channel place)
     ++ (channel_number channel ∷ 0 ∷ 2 ∷ 0 ∷ [])
 
 -- a block as a packet of the file

@@ -8,8 +8,10 @@ use Rattle.gsmtap.specs.declared.fault.AirFaultKind.TheVariants.{Differs, StepsB
 use Rattle.gsmtap.specs.declared.tap.Sent.{Sent}
 use Rattle.gsmtap.specs.declared.track.Track.{Track}
 
--- the 51-multiframe of a frame within the hyperframe, which has 2,048 * 26 of them; its slot, of which the hyperframe
--- has 6,656; and its place in the slot, of which the blocks of the basic channel have the first four
+-- the 51-multiframe of a frame within the hyperframe, which has 2,048 * 26 of them (all four frames of a block lie in
+-- one, beside SDCCH/4 and beside SDCCH/8); its slot, of which the hyperframe has 6,656; and its place in the slot, of
+-- which the blocks of the basic channel have the first four, and those of the extended channel the others (3GPP TS
+-- 45.002, clause 6.5.4)
 abbrev pub multiframe_in : ℕ → ℕ
 multiframe_in frame = frame / 51 % 53248
 

@@ -1,7 +1,8 @@
 //! One block as a packet of a capture.
 
 ghost use Rattle.std.specs.Prelude.{◌≡◌, ◌+◌, ◌*◌, ◌<◌, ◌^◌, ◌++◌, OnOk};
-ghost use Rattle.gsmtap.specs.Packet.{channel_number, checksum, datagram_header, frame_number, internet_header};
+ghost use Rattle.gsmtap.specs.Packet.{channel_number, checksum, datagram_header, first_frame};
+ghost use Rattle.gsmtap.specs.Packet.{frame_number, internet_header};
 ghost use Rattle.gsmtap.specs.Packet.{microseconds, packet, record_header, tap_header, words_after, words_before};
 
 use byteorder::{BigEndian, ByteOrder, LittleEndian};
@@ -14,13 +15,14 @@ const PORT: u16 = 4729;
 /// How many octets a packet has from its IPv4 header on.
 const LENGTH: u32 = 67;
 
-/// The channel that blocks are said to come from.
+/// The cell broadcast channel that blocks are said to come from. It stands beside other SDCCHs, in place of their
+/// number 2 (3GPP TS 45.002, clause 7).
 #[derive(Clone, Copy, Debug, PartialEq, Eq)]
 pub enum Channel {
-    /// The basic cell broadcast channel: CBCH51, number 15.
-    Basic,
-    /// The extended cell broadcast channel: CBCH52, number 12.
-    Extended,
+    /// That beside SDCCH/4: CBCH51, number 15.
+    BesideSdcch4,
+    /// That beside SDCCH/8: CBCH52, number 12.
+    BesideSdcch8,
 }
 
 impl Channel {
@@ -29,8 +31,18 @@ impl Channel {
         ensures { result ≡ channel_number self }
     {
         match self {
-            Channel::Basic => 15,
-            Channel::Extended => 12,
+            Channel::BesideSdcch4 => 15,
+            Channel::BesideSdcch8 => 12,
+        }
+    }
+
+    /// The first of the four frames of a 51-multiframe in which it sends a block.
+    fn first_frame(self) -> u32
+        ensures { result ≡ first_frame self }
+    {
+        match self {
+            Channel::BesideSdcch4 => 32,
+            Channel::BesideSdcch8 => 8,
         }
     }
 }
@@ -74,10 +86,11 @@ fn microseconds(place: &Place) -> u64
 }
 
 /// The number of a block's first frame.
-fn frame_number(place: &Place) -> u32
-    ensures { result ≡ frame_number place.now }
+fn frame_number(channel: Channel, place: &Place) -> u32
+    ensures { result ≡ frame_number channel place.now }
 {
-    (((8 * u64::from(place.slot) + u64::from(place.block)) * 51 + 32) % 2_715_648) as u32
+    let multiframe = 8 * u64::from(place.slot) + u64::from(place.block);
+    ((multiframe * 51 + u64::from(channel.first_frame())) % 2_715_648) as u32
 }
 
 /// The header of a packet in the file.
@@ -147,7 +160,7 @@ fn datagram_header() -> [u8; 8]
 fn tap_header(channel: Channel, place: &Place) -> [u8; 16]
     ensures { result ≡ tap_header channel place.now }
 {
-    let [first, second, third, fourth] = frame_number(place).to_be_bytes();
+    let [first, second, third, fourth] = frame_number(channel, place).to_be_bytes();
     [
         2,
         4,

@@ -69,8 +69,8 @@ fn capture(alloc: Global, bench: &mut Bench, words: &mut Words) -> Result<String
         _ => Slots::All,
     };
     let channel = match words.number16()? {
-        52 => Channel::Extended,
-        _ => Channel::Basic,
+        52 => Channel::BesideSdcch8,
+        _ => Channel::BesideSdcch4,
     };
     bench.drought.begin(alloc);
     let outcome = capture_of(alloc, &bench.octets, Settings { channel, slots });

@@ -198,8 +198,9 @@ fn stream<R: Threads + Wait + Sync, G: Gate>(
 /// # Errors
 ///
 /// Returns [`CompileFault::Workers`] exactly if there are no workers or over 64; else [`CompileFault::Refused`] if out
-/// of memory, or if a thread can't be made, after all workers have ended; else [`CompileFault::Piece`] with the least
-/// number of a cell of which a piece is missing, or came twice, or was none of its run.
+/// of memory, or if a thread can't be made, after all workers have ended; else [`CompileFault::Piece`] if a piece of a
+/// cell is missing, or came twice, or was none of its run. No contract says which pieces come through the channel, so
+/// none says which number the fault has.
 pub fn stream_all<R: Threads + Wait + Sync, G: Gate>(
     rt: &R,
     alloc: Global,

@@ -12,6 +12,7 @@
 //!   writes the report and gives its first nine lines, each behind `|`.
 //! - `writer OCTETS CALLS` writes the report once more to a writer that takes so many octets a call and fails after so
 //!   many calls. It says how many octets of the report the writer took, and the faults of this and of one more call.
+//! - `cause NUMBER` says a cause, of two hexadecimal digits, in the words of a chart.
 
 ghost use Rattle.std.specs.Prelude.{IfOk};
 ghost use Rattle.bsc_table.specs.Orders.{IsWellFormed};
@@ -20,6 +21,7 @@ use bsc_table::{Answer, Category, CellBook, CellRecord, Command};
 use cbch_blocks::tape_of;
 use cbs_page::{Content, Dcs, Serial};
 use cbsp_wire::{Cell, Contents};
+use chart::cause_words;
 use device_ends::memory::{MemoryReader, MemoryWriter};
 use device_ends::{Sink, Source};
 use handset::{Handset, Reading, Refused, TapeFault, read_tape};
@@ -358,6 +360,9 @@ impl Books {
             "report" => self.report()?,
             "writer" => self.write(&mut Words::of(rest))?,
             "texts" => put_texts(&mut self.told)?,
+            "cause" => self
+                .told
+                .push_str(cause_words(u8::from_str_radix(rest, 16)?))?,
             _ => self.told.push_str("no such action")?,
         }
         Ok(())

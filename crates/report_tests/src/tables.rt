@@ -178,6 +178,26 @@ report -> whole|lac,ci,id,serial,start,end,completed,shown\
     |1,1,2,0001,0,65535,1093,yes|1,1,2,0003,0,0,0,refused 02|1,1,3,0001,0,65535,1093,yes|1,1,3,0003,0,0,0,refused 02
 ";
 
+/// Causes in words: those of the standard with which an order is refused, and others.
+const CAUSES: &str = "
+cause 00 -> parameter not recognised
+cause 01 -> parameter value invalid
+cause 02 -> message reference not identified
+cause 03 -> cell identity not valid
+cause 04 -> unrecognised message
+cause 05 -> missing mandatory element
+cause 06 -> BSC capacity exceeded
+cause 07 -> cell memory exceeded
+cause 08 -> BSC memory exceeded
+cause 09 -> another cause
+cause 0a -> cell broadcast not operational
+cause 0b -> another cause
+cause 0c -> extended channel not supported
+cause 0d -> message reference already used
+cause 0e -> another cause
+cause ff -> another cause
+";
+
 #[test]
 fn the_report_of_two_cells_goes_out_whole_or_in_front(rt: HostRuntime) -> Result<(), Fail> {
     expect_rows(&rt, rt.alloc(), TWO_CELLS_REPORTED, 46)
@@ -188,4 +208,9 @@ fn rows_say_what_became_of_each_order_of_a_cell(rt: HostRuntime) -> Result<(), F
     expect_rows(&rt, rt.alloc(), ONE_CELL, 25)?;
     expect_rows(&rt, rt.alloc(), LONG, 4)?;
     expect_rows(&rt, rt.alloc(), HEARD, 19)
+}
+
+#[test]
+fn causes_have_words(rt: HostRuntime) -> Result<(), Fail> {
+    expect_rows(&rt, rt.alloc(), CAUSES, 16)
 }

@@ -11,7 +11,6 @@ use Rattle.std.proofs.lemmas.List.{get_or-drop, get_or-map, length-drop, length-
 use Rattle.std.proofs.lemmas.List.Elements.{All-append, All-cons, All-nil}
 use Rattle.std.proofs.lemmas.List.Kept.{AllPairs-cons, AllPairs-filter}
 use Rattle.cbs_page.specs.declared.octets.PageView.{PageView}
-use Rattle.cbs_page.specs.Page.{is_readable}
 use Rattle.handset.specs.Reception.{page_in_front}
 use Rattle.verification.specs.declared.judged.JudgedPage.{JudgedPage}
 use Rattle.verification.specs.declared.sent.SentPage.{SentPage}
@@ -130,8 +129,8 @@ sent-later : (place : ℕ) (blocks : List (List ℕ)) → All (λ (s : SentPage)
 sent-later place [] = All-nil (λ (s : SentPage). place / 4 ≤ s.slot)
 sent-later place (block ∷ rest) =
     All-append (λ (s : SentPage). place / 4 ≤ s.slot)
-    (map (sent_at place) (filter is_readable (page_in_front (block ∷ rest)))) (sent_from (place + 1) rest)
-    (front-from place (filter is_readable (page_in_front (block ∷ rest))))
+    (map (sent_at place) (page_in_front (block ∷ rest))) (sent_from (place + 1) rest)
+    (front-from place (page_in_front (block ∷ rest)))
     (λ k d within.
     let up : place / 4 ≤ (place + 1) / 4 = omega arith in
     let later : (place + 1) / 4 ≤ (get_or (sent_from (place + 1) rest) k d).slot =
@@ -151,7 +150,7 @@ rising-front place (page ∷ pages) later from rise =
 pub sent-rising : (place : ℕ) (blocks : List (List ℕ)) → AllPairs (λ a b. a.slot ≤ b.slot) (sent_from place blocks)
 sent-rising place [] = λ i j d less within. absurd (let none : ⊥ = omega arith in none)
 sent-rising place (block ∷ rest) =
-    rising-front place (filter is_readable (page_in_front (block ∷ rest))) (sent_from (place + 1) rest)
+    rising-front place (page_in_front (block ∷ rest)) (sent_from (place + 1) rest)
     (λ k d within.
     let up : place / 4 ≤ (place + 1) / 4 = omega arith in
     let later : (place + 1) / 4 ≤ (get_or (sent_from (place + 1) rest) k d).slot =

@@ -18,14 +18,18 @@ use lib.Utf8.{encode}
 abbrev filling : ℕ → List ℕ
 filling units = flat_map {X = ℕ} (λ unit. 0x00 ∷ 0x0D ∷ []) (replicate units 0)
 
--- a content with this letter, and the blocks of a page with it: of message 1112, serial number and page parameter
+-- a content with this letter, and the blocks of a page with it: of message 1112, data coding, serial number and page
+-- parameter
 abbrev content : ℕ → Content
 content letter = record { used = 2; octets = 0x00 ∷ letter ∷ filling 40 }
 
-abbrev page_of : ℕ → ℕ → ℕ → List (List ℕ)
-page_of serial parameter letter =
-    (0x20 ∷ 0x00 ∷ serial ∷ 0x11 ∷ 0x12 ∷ 0x48 ∷ parameter ∷ 0x00 ∷ letter ∷ filling 7)
+abbrev page_in : ℕ → ℕ → ℕ → ℕ → List (List ℕ)
+page_in coding serial parameter letter =
+    (0x20 ∷ 0x00 ∷ serial ∷ 0x11 ∷ 0x12 ∷ coding ∷ parameter ∷ 0x00 ∷ letter ∷ filling 7)
     ∷ (0x21 ∷ filling 11) ∷ (0x22 ∷ filling 11) ∷ (0x33 ∷ filling 11) ∷ []
+
+abbrev page_of : ℕ → ℕ → ℕ → List (List ℕ)
+page_of serial parameter letter = page_in 0x48 serial parameter letter
 
 abbrev idle : List (List ℕ)
 idle = (0x2F ∷ []) ∷ (0x2F ∷ []) ∷ (0x2F ∷ []) ∷ (0x2F ∷ []) ∷ []
@@ -84,3 +88,12 @@ worked_not_ordered :
     ≡ record { slot = 4; id = 0x1112; serial = 0x0011; kind = kinds.NotOrdered } ∷ []
 unfolding encode
 worked_not_ordered = refl
+
+-- pages that can't be shown: number 3 of 2, a reserved data coding, and one of another serial number
+worked_not_shown :
+    found 8 (write ∷ [])
+    (whole ++ (page_of 0x10 0x32 65 ++ (page_in 0xF4 0x10 0x22 66 ++ (page_in 0xF4 0x11 0x11 65 ++ idle))))
+    ≡ at 5 (kinds.Otherwise 2) ∷ at 4 (kinds.Otherwise 3) ∷ at 8 (kinds.NotWhole 1)
+    ∷ record { slot = 6; id = 0x1112; serial = 0x0011; kind = kinds.NotOrdered } ∷ []
+unfolding encode
+worked_not_shown = refl

@@ -1,7 +1,6 @@
 -- Pages that were sent, by identifier and serial number (own). The contracts of private functions alone speak of them.
-use Rattle.std.specs.Prelude.{ℕ, ◌+◌, ◌*◌, ◌≤◌, List, All, AllPairs, IsTrue}
+use Rattle.std.specs.Prelude.{ℕ, ◌+◌, ◌*◌, ◌≤◌, List, AllPairs}
 use Rattle.std.specs.List.Sorted.{IsNonDecreasingBy}
-use Rattle.cbs_page.specs.Page.{is_readable}
 use Rattle.verification.specs.declared.sent.SentPage.{SentPage}
 use Rattle.verification.specs.Asked.{AskedMessage}
 use Rattle.verification.specs.Judged.{judged_in}
@@ -12,6 +11,5 @@ name_number id serial = id * 0x10000 + serial
 
 -- pages stand by name, and those of one message in the order in which they were sent
 pub record AreByName (sent : List SentPage) : Type 0 where
-  pub readable : All (λ s. IsTrue (is_readable s.page)) sent
   pub named : IsNonDecreasingBy (λ (s : SentPage). name_number s.page.id s.page.serial) sent
   pub rising : (a : AskedMessage) → AllPairs (λ x y. x.slot ≤ y.slot) (judged_in a sent)

@@ -9,7 +9,7 @@ use cbs_page::Serial;
 /// the cell's record.
 #[derive(Clone, Copy, Debug, PartialEq, Eq)]
 pub enum Kind {
-    /// A page of this number has another text, total or data coding than the message's.
+    /// A page of this number has another text, total or data coding than the message's, or can't be shown.
     Otherwise {
         /// The page's number, 1 to 15.
         page: u8,

@@ -1,6 +1,6 @@
 //! The pages of a message that were sent, each right or not.
 
-ghost use Rattle.std.specs.Prelude.{◌≡◌, ◌-◌, All, IfOk, IsTrue, Some, encode_utf8_all};
+ghost use Rattle.std.specs.Prelude.{◌≡◌, ◌-◌, IfOk, IsTrue, Some, encode_utf8_all};
 ghost use Rattle.std.specs.List.{slice_get};
 ghost use Rattle.cbs_page.specs.Page.{is_readable};
 ghost use Rattle.verification.specs.ByName.{AreByName};
@@ -43,9 +43,11 @@ fn reads_as(alloc: Global, page: &PageView, content: &Content) -> Result<bool, A
 
 /// Whether a page of a message is as it was asked. The only error is out of memory.
 fn is_right(alloc: Global, asked: &Asked, page: &PageView) -> Result<bool, AllocError>
-    requires { IsTrue (is_readable page.now) }
     ensures { IfOk result (λ says. says ≡ is_right (asked_kept asked.now) page.now) }
 {
+    if !page.readable() {
+        return Ok(false);
+    }
     let contents = asked.contents.as_slice();
     if usize::from(page.total) != contents.len() || page.dcs.0 != asked.dcs.0 {
         return Ok(false);
@@ -59,7 +61,6 @@ fn is_right(alloc: Global, asked: &Asked, page: &PageView) -> Result<bool, Alloc
 
 /// A page of a message, judged. The only error is out of memory.
 fn judged_page(alloc: Global, asked: &Asked, sent: &SentPage) -> Result<JudgedPage, AllocError>
-    requires { IsTrue (is_readable sent.now.page) }
     ensures { IfOk result (λ page. page ≡ judged (asked_kept asked.now) sent.now) }
 {
     Ok(JudgedPage {
@@ -72,8 +73,7 @@ fn judged_page(alloc: Global, asked: &Asked, sent: &SentPage) -> Result<JudgedPa
 /// Of pages by name those among which all of a message are.
 fn near<'p>(asked: &Asked, sent: &'p [SentPage]) -> &'p [SentPage]
     requires { AreByName sent.now }
-    ensures same { judged_in (asked_kept asked.now) result.now ≡ judged_in (asked_kept asked.now) sent.now }
-    ensures readable { All (λ s. IsTrue (is_readable s.page)) result.now }
+    ensures { judged_in (asked_kept asked.now) result.now ≡ judged_in (asked_kept asked.now) sent.now }
 {
     let name = name_number(asked.id, asked.serial);
     let first = sent.partition_point(|page| page.name_number() < name);

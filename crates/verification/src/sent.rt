@@ -1,7 +1,6 @@
 //! The pages that a tape sends.
 
-ghost use Rattle.std.specs.Prelude.{◌≡◌, ◌≤◌, All, AllPairs, IfOk, IsTrue, OnOk};
-ghost use Rattle.cbs_page.specs.Page.{is_readable};
+ghost use Rattle.std.specs.Prelude.{◌≡◌, ◌≤◌, AllPairs, IfOk, OnOk};
 ghost use Rattle.verification.specs.Asked.{AskedMessage};
 ghost use Rattle.verification.specs.ByName.{AreByName, name_number};
 ghost use Rattle.verification.specs.Judged.{judged_in};
@@ -39,21 +38,18 @@ impl SentPage {
     }
 }
 
-/// The readable pages in a tape's blocks, in order.
+/// The pages in a tape's blocks, in order, whatever their data codings and numbers.
 pub fn sent_pages(alloc: Global, blocks: &[[u8; 23]]) -> Result<Vec<SentPage>, AllocError>
     ensures pages { IfOk result (λ sent. sent.items ≡ sent_in blocks.now) }
-    ensures readable { IfOk result (λ sent. All (λ s. IsTrue (is_readable s.page)) sent.items) }
     ensures rising { IfOk result (λ sent. AllPairs (λ a b. a.slot ≤ b.slot) sent.items) }
 {
     let mut sent = Vec::new(alloc);
     for place in 0..blocks.len() {
         if let Some(page) = page_in_front(&blocks[place..]) {
-            if page.readable() {
-                sent.push(SentPage {
-                    slot: place / BLOCKS,
-                    page,
-                })?;
-            }
+            sent.push(SentPage {
+                slot: place / BLOCKS,
+                page,
+            })?;
         }
     }
     Ok(sent)
@@ -66,8 +62,7 @@ pub fn sent_pages(alloc: Global, blocks: &[[u8; 23]]) -> Result<Vec<SentPage>, A
 ///
 /// Out of memory.
 pub fn sort_by_name(sent: &mut Vec<SentPage>) -> Result<(), AllocError>
-    requires readable { All (λ s. IsTrue (is_readable s.page)) sent.old.items }
-    requires rising { AllPairs (λ a b. a.slot ≤ b.slot) sent.old.items }
+    requires { AllPairs (λ a b. a.slot ≤ b.slot) sent.old.items }
     ensures same { OnOk result ((a : AskedMessage) → judged_in a sent.new.items ≡ judged_in a sent.old.items) }
     ensures stand { OnOk result (AreByName sent.new.items) }
 {

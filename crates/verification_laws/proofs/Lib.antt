@@ -7,8 +7,10 @@ pub mod OwedPages
 pub mod OwnTapes
 pub mod OwnRuns
 pub mod NoOthers
-pub mod OctetPages
+pub mod PageNumbers
+pub mod ReadPages
 pub mod OwedShown
+pub mod ShownAsked
 pub mod OwnSlots
 pub mod OneList
 pub mod OneOrder

@@ -8,7 +8,6 @@ use Rattle.std.specs.List.Sorted.{IsPermutation}
 use Rattle.std.proofs.lemmas.Bool.{and_parts, cases_Bool, eqb-true}
 use Rattle.std.proofs.lemmas.List.{map-append}
 use Rattle.std.proofs.lemmas.List.Concat.{flat_map-cons}
-use Rattle.std.proofs.lemmas.List.Elements.{filter-append}
 use Rattle.std.proofs.lemmas.List.Folds.{Any-from_list_any}
 use Rattle.std.proofs.lemmas.List.Sorted.{length_permutation}
 use Rattle.cbs_page.specs.declared.octets.PageView.{PageView}
@@ -120,25 +119,36 @@ all-asked-after asked before (s ∷ sent) all is =
           (pushed (λ (x : SentPage). is_page_of_any asked x.page ≡ true) before s all here) both.1,
     )
 
--- the pages that are sent are those that a handset reads
+-- the pages that are sent are those that stand in the blocks
 pages-at : (place : ℕ) (pages : List PageView) → map (λ (s : SentPage). s.page) (map (sent_at place) pages) ≡ pages
 pages-at place [] = refl
 pages-at place (page ∷ pages) = ap (λ ps. page ∷ ps) (pages-at place pages)
 
 read-from : (place : ℕ) (blocks : List (List ℕ)) →
-    map (λ (s : SentPage). s.page) (sent_from place blocks) ≡ readable_pages blocks
+    map (λ (s : SentPage). s.page) (sent_from place blocks) ≡ pages_read blocks
 read-from place [] = refl
 read-from place (block ∷ rest) =
-    map-append (λ (s : SentPage). s.page) (map (sent_at place) (filter is_readable (page_in_front (block ∷ rest))))
+    map-append (λ (s : SentPage). s.page) (map (sent_at place) (page_in_front (block ∷ rest)))
     (sent_from (place + 1) rest)
     ∙ ap (λ ps. ps ++ map (λ (s : SentPage). s.page) (sent_from (place + 1) rest))
-    (pages-at place (filter is_readable (page_in_front (block ∷ rest))))
-    ∙ ap (λ ps. filter is_readable (page_in_front (block ∷ rest)) ++ ps) (read-from (place + 1) rest)
-    ∙ sym (filter-append is_readable (page_in_front (block ∷ rest)) (pages_read rest))
+    (pages-at place (page_in_front (block ∷ rest)))
+    ∙ ap (λ ps. page_in_front (block ∷ rest) ++ ps) (read-from (place + 1) rest)
 
--- the pages that were sent are those that a handset reads
-pub sent-are-read : (blocks : List (List ℕ)) → map (λ (s : SentPage). s.page) (sent_in blocks) ≡ readable_pages blocks
+-- the pages that were sent, as a list, and those of them that a handset shows
+pub sent-are-read : (blocks : List (List ℕ)) → map (λ (s : SentPage). s.page) (sent_in blocks) ≡ pages_read blocks
 sent-are-read blocks = read-from 0 blocks
+
+-- what is found among those that pass another test is found among all
+any-kept : {X : Type 0} (p q : X → Bool) (xs : List X) → list_any q (filter p xs) ≡ true → list_any q xs ≡ true
+any-kept p q [] some = some
+any-kept p q (x ∷ xs) some = here (p x) (q x) refl some (λ found. any-kept p q xs found)
+  where
+    here : (passes is : Bool) → q x ≡ is → list_any q (cond passes (x ∷ filter p xs) (filter p xs)) ≡ true →
+        (list_any q (filter p xs) ≡ true → list_any q xs ≡ true) → (is || list_any q xs) ≡ true
+    here passes true same found rest = refl
+    here true false same found rest =
+        rest (sym (ap (λ (b : Bool). b || list_any q (filter p xs)) same) ∙ found)
+    here false false same found rest = rest found
 
 -- a message that is shown has a page
 filter-without : {X : Type 0} (test : X → Bool) (xs : List X) → list_any test xs ≡ false → filter test xs ≡ []
@@ -167,7 +177,8 @@ has-page name pages complete =
           absurd (let t : true ≡ false = sym complete ∙ no in cc)
     ]
 
-any-map : {X Y : Type 0} (test : Y → Bool) (f : X → Y) (xs : List X) →
+-- a search among images
+pub any-map : {X Y : Type 0} (test : Y → Bool) (f : X → Y) (xs : List X) →
     list_any test (map f xs) ≡ list_any (λ x. test (f x)) xs
 any-map test f [] = refl
 any-map test f (x ∷ xs) = ap (λ rest. test (f x) || rest) (any-map test f xs)
@@ -205,21 +216,28 @@ accepted-alike log name (a ∷ xs) (b ∷ bs) all =
     || list_any (λ (x : AskedMessage). (name.id == x.id) && (name.serial == x.serial)) xs) all.0.serial_is
     ∙ ap (λ rest. ((name.id == b.id) && (name.serial == b.serial)) || rest) (accepted-alike log name xs bs all.1)
 
+-- a message that is complete was asked, where no page is of another
+pub complete-asked : (r : Record) (blocks : List (List ℕ)) (name : Name) →
+    not_ordered_after (asked_of_log r.log) [] (sent_in blocks) ≡ [] →
+    is_complete name (readable_pages blocks) ≡ true →
+    list_any (λ (a : AskedMessage). (name.id == a.id) && (name.serial == a.serial)) (asked_of_log r.log) ≡ true
+complete-asked r blocks name others complete =
+    let read : list_any (is_of name) (pages_read blocks) ≡ true =
+    any-kept is_readable (is_of name) (pages_read blocks) (has-page name (readable_pages blocks) complete) in
+    let sent : list_any (λ s. is_of name s.page) (sent_in blocks) ≡ true =
+    sym (any-map (is_of name) (λ (s : SentPage). s.page) (sent_in blocks))
+    ∙ ap (list_any (is_of name)) (sent-are-read blocks) ∙ read in
+    asked-page (asked_of_log r.log) name (sent_in blocks) sent
+    (all-asked-after (asked_of_log r.log) [] (sent_in blocks) tt others)
+
 -- where nothing differs nothing but what was asked is shown
 pub no-others : ShownAreTheComplete → NoOthersAreShown
 no-others complete r blocks are = λ k d within.
     let shown = complete blocks in
     let name : Name = name_shown (get_or (shown_in blocks) k d) in
-    let none = are-none r blocks are in
-    let read : list_any (is_of name) (readable_pages blocks) ≡ true =
-    has-page (name_shown (get_or (shown_in blocks) k d)) (readable_pages blocks) (shown.complete k d within) in
-    let sent : list_any (λ s. is_of name s.page) (sent_in blocks) ≡ true =
-    sym (any-map (is_of name) (λ (s : SentPage). s.page) (sent_in blocks))
-    ∙ ap (list_any (is_of name)) (sent-are-read blocks) ∙ read in
     let asked : list_any (λ (a : AskedMessage). (name.id == a.id) && (name.serial == a.serial)) (asked_of_log r.log) ≡
     true =
-    asked-page (asked_of_log r.log) name (sent_in blocks) sent
-    (all-asked-after (asked_of_log r.log) [] (sent_in blocks) tt none.others) in
+    complete-asked r blocks name (are-none r blocks are).others (shown.complete k d within) in
     let accepted = Any-from_list_any (λ (b : Accepted). (name.id == b.id) && (name.serial == b.serial))
     (accepted_in r.log)
     (sym (accepted-alike r.log name (asked_of_log r.log) (accepted_in r.log) (asked_are_accepted r.log)) ∙ asked) in

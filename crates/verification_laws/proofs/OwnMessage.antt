@@ -49,7 +49,7 @@ same_number log a b sound mine other number =
 pub own-right : (log : List Entry) (a : AskedMessage) (b : Accepted) (used : ℕ × ℕ) (h : IsAiredAs log used) →
     IsComing log [] a b → h.of ≡ b → is_right a h.page ≡ true
 own-right log a b used h same is =
-    right-page a h.page
+    right-page a h.page h.sendable.readable
     (subst (λ pages. Contains pages h.page) same.pages_are
     (subst (λ (x : Accepted). Contains (sent_by log x) h.page) is h.sent))
 

@@ -15,6 +15,7 @@ use Rattle.std.proofs.lemmas.List.Concat.{flat_map-cons}
 use Rattle.cbs_page.specs.declared.content.Content.{Content}
 use Rattle.cbs_page.specs.declared.octets.PageView.{PageView}
 use Rattle.cbs_page.specs.Coding.{alphabet_of}
+use Rattle.cbs_page.specs.Page.{is_readable}
 use Rattle.cbs_page.specs.Text.{text_in, text_of_page}
 use Rattle.scheduler.specs.Message.{IsBeforeStop}
 use Rattle.scheduler.specs.Air.{Air, IsPending}
@@ -74,24 +75,26 @@ reads page content same =
     (encode_utf8_all (text_in (alphabet_of page.dcs.0) octets))) (sym same)
     ∙ nat_list_eq_equiv.refl (encode_utf8_all (text_of_page page))
 
-right-from : (a : AskedMessage) (k : ℕ) (page : PageView) → IsFrom a.dcs (length a.contents) a.contents k (1 + k) page →
-    is_right a page ≡ true
-right-from a k page from =
+right-from : (a : AskedMessage) (k : ℕ) (page : PageView) → is_readable page ≡ true →
+    IsFrom a.dcs (length a.contents) a.contents k (1 + k) page → is_right a page ≡ true
+right-from a k page readable from =
     let number = from.number_is in
     let place : page.number - 1 ≡ k = omega (arith, number) in
-    both (page.total == length a.contents)
+    both (is_readable page) ((page.total == length a.contents)
+    && ((page.dcs.0 == a.dcs) && reads_as page (slice_get a.contents (page.number - 1)))) readable
+    (both (page.total == length a.contents)
     ((page.dcs.0 == a.dcs) && reads_as page (slice_get a.contents (page.number - 1)))
     (eq-eqb page.total (length a.contents) from.total_is)
     (both (page.dcs.0 == a.dcs) (reads_as page (slice_get a.contents (page.number - 1)))
     (eq-eqb page.dcs.0 a.dcs from.dcs_is)
     (ap (λ at. reads_as page (slice_get a.contents at)) place ∙ ap (reads_as page) from.there
-    ∙ reads page from.content from.octets_are))
+    ∙ reads page from.content from.octets_are)))
 
--- a page of the message itself is right
-pub right-page : (a : AskedMessage) (page : PageView) →
+-- a page of the message itself that can be shown is right
+pub right-page : (a : AskedMessage) (page : PageView) → is_readable page ≡ true →
     Contains (pages_from a.id a.serial a.dcs (length a.contents) 1 a.contents) page → is_right a page ≡ true
-right-page a page there =
-    right-from a there.0 page
+right-page a page readable there =
+    right-from a there.0 page readable
     (subst (IsFrom a.dcs (length a.contents) a.contents there.0 (1 + there.0)) there.2
     (from-at a.id a.serial a.dcs (length a.contents) 1 a.contents there.0 page there.1))
 

@@ -1,13 +1,13 @@
 -- The pages that the blocks of slots send, each with its slot.
-use Rattle.std.proofs.Common.{◌≡◌, ℕ, zero, suc, ◌+◌, ◌*◌, ◌/◌, ◌<◌, Bool, true, false, cond, Option, Some, None, List}
+use Rattle.std.proofs.Common.{◌≡◌, ℕ, zero, suc, ◌+◌, ◌*◌, ◌/◌, ◌<◌, Bool, true, false, Option, Some, None, List}
 use Rattle.std.proofs.Common.{[]}
-use Rattle.std.proofs.Common.{◌∷◌, ◌++◌, length, map, filter, get_or, refl, sym, ap, subst, ◌∙◌, arith}
+use Rattle.std.proofs.Common.{◌∷◌, ◌++◌, length, map, get_or, refl, sym, ap, subst, ◌∙◌, arith}
 use Rattle.std.specs.Prelude.{◌||◌}
 use Rattle.std.specs.Option.{option_to_list}
 use Rattle.std.specs.List.{flat_map, AllByRecursion, list_any}
 use Rattle.std.proofs.lemmas.List.Folds.{list_any-append}
 use Rattle.cbs_page.specs.declared.octets.PageView.{PageView}
-use Rattle.cbs_page.specs.Page.{view_of, is_readable}
+use Rattle.cbs_page.specs.Page.{view_of}
 use Rattle.handset.specs.Reception.{page_octets}
 use Rattle.scheduler.specs.Air.{Air}
 use Rattle.bsc_table.specs.declared.entry.Entry.{Entry}
@@ -44,10 +44,8 @@ sent_of_slots n [] all = refl
 sent_of_slots n (None ∷ slots) all =
     ap (λ place. sent_from place (flat_map blocks_of_slot slots)) (next_slot n) ∙ sent_of_slots (n + 1) slots all.1
 sent_of_slots n (Some page ∷ slots) all =
-    ap (λ views. map (sent_at (4 * n)) (filter is_readable views)
+    ap (λ views. map (sent_at (4 * n)) views
     ++ sent_from (4 * n + 1 + 1 + 1 + 1) (flat_map blocks_of_slot slots)) (one_page page all.0)
-    ∙ ap (λ (b : Bool). map (sent_at (4 * n)) (cond b (page ∷ []) [])
-    ++ sent_from (4 * n + 1 + 1 + 1 + 1) (flat_map blocks_of_slot slots)) all.0.readable
     ∙ ap (λ k. in_slot k page ∷ sent_from (4 * n + 1 + 1 + 1 + 1) (flat_map blocks_of_slot slots)) (own_slot n)
     ∙ ap (λ place. in_slot n page ∷ sent_from place (flat_map blocks_of_slot slots)) (next_slot n)
     ∙ ap (λ pages. in_slot n page ∷ pages) (sent_of_slots (n + 1) slots all.1)

@@ -8,7 +8,7 @@ ghost use Rattle.verification_laws.specs.OneList.{CellsDifferInOneList, TapesHav
 ghost use Rattle.verification_laws.specs.OwnTapes.{NoRowsAreFound, NothingIsFound, OwnTapesDifferNowhere};
 ghost use Rattle.verification_laws.specs.OwnTapes.{OwnTapesHaveNoRows, OwnTapesKeepTheirCells};
 ghost use Rattle.verification_laws.specs.Recorded.{RecordsAreRecorded};
-ghost use Rattle.verification_laws.specs.Shown.{NoOthersAreShown, OwedAreShown};
+ghost use Rattle.verification_laws.specs.Shown.{AllShownAreAsked, NoOthersAreShown, OwedAreShown};
 
 /// States, as its contract, what is found of a cell's own tape. That the history is legal, and that its run is over,
 /// are the only premises. Own rules, of no standard.
@@ -33,9 +33,10 @@ pub fn verification_laws()
     // The tape of such a record holds its blocks.
     ensures records_are_recorded { RecordsAreRecorded }
 
-    // Of blocks that have no difference, whoever sent them, no message is shown that the cell didn't accept, and each
-    // that isn't background and stood for a whole period is shown, with the text that was asked.
+    // Of blocks that have no difference, whoever sent them, each message that is shown is one that the cell accepted,
+    // with the text that was asked, and each that isn't background and stood for a whole period is shown.
     ensures no_others_are_shown { NoOthersAreShown }
+    ensures all_shown_are_asked { AllShownAreAsked }
     ensures owed_are_shown { OwedAreShown }
 {
     scheduler::air_laws();

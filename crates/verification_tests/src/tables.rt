@@ -109,7 +109,8 @@ next -> 1,8,4371,0021,12,broadcast 1 not whole
 next -> none
 ";
 
-/// What a page may say otherwise: its total, its data coding, its number and its text, and what is no difference.
+/// What a page may say otherwise: its total, its data coding, its number and its text, also so that no phone can show
+/// it; and what is no difference.
 const OTHERWISE: &str = "
 cell 9 8
 write 4370 0010 - high 4 2 A/B -> Started { slot: 0 }
@@ -129,23 +130,55 @@ next -> 1,9,4370,0010,6,page 3 reads otherwise
 next -> 1,9,4370,0010,8,broadcast 1 not whole
 next -> none
 
-# the spare bits of a page's last octet show nothing, and a page that can't be read is none
+# the spare bits of a page's last octet show nothing
 tape
 octet 3 22 F8
 found -> none
+
+# page 3 of 2, page 2 in a reserved data coding, a page parameter whose high half is 0, and a block of another type
 octet 4 6 32
-found -> 1,9,4370,0010,4,broadcast 0 not whole
+found -> 1,9,4370,0010,1,page 3 reads otherwise
+next -> 1,9,4370,0010,4,broadcast 0 not whole
 next -> none
 octet 4 6 22
 octet 4 5 F4
-found -> 1,9,4370,0010,4,broadcast 0 not whole
+found -> 1,9,4370,0010,1,page 2 reads otherwise
+next -> 1,9,4370,0010,4,broadcast 0 not whole
 next -> none
 octet 4 5 01
+octet 4 6 02
+found -> 1,9,4370,0010,1,page 1 reads otherwise
+next -> 1,9,4370,0010,4,broadcast 0 not whole
+next -> none
+octet 4 6 22
 octet 4 0 21
 found -> 1,9,4370,0010,4,broadcast 0 not whole
 next -> none
 octet 4 0 20
 found -> none
+
+# the whole message, and pages of others in a reserved data coding and with a number over the total; the message's own
+# page in a reserved data coding after its last broadcast
+blank
+send 4370 0010 en 1 2 A
+send 4370 0010 en 2 2 B
+send 4370 0011 en 1 1 A
+send 4370 0012 en 1 1 A
+send 4370 0010 en 1 2 A
+send 4370 0010 en 2 2 B
+send 4371 0010 en 1 1 A
+idle 1
+send 4370 0010 en 1 2 A
+octet 8 5 F4
+octet 12 6 21
+octet 24 5 80
+octet 32 5 1A
+found -> 1,9,4370,0011,2,not ordered
+next -> 1,9,4370,0012,3,not ordered
+next -> 1,9,4371,0010,6,not ordered
+next -> 1,9,4370,0010,8,page 1 reads otherwise
+next -> 1,9,4370,0010,8,after its last broadcast
+next -> none
 ";
 
 /// Messages of which fewer broadcasts are owed: background, a stop at a due slot, and a run that ends too soon.
@@ -295,7 +328,7 @@ fn starts_and_stops(rt: HostRuntime) -> Result<(), Fail> {
 
 #[test]
 fn otherwise(rt: HostRuntime) -> Result<(), Fail> {
-    let cells = expect_lines(&rt, rt.alloc(), OTHERWISE, 33)?;
+    let cells = expect_lines(&rt, rt.alloc(), OTHERWISE, 60)?;
     drop(cells);
     Ok(())
 }

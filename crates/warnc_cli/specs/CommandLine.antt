@@ -16,7 +16,7 @@ use Rattle.gsmtap.specs.declared.capture.Slots.{Slots}
 use Rattle.gsmtap.specs.declared.capture.Slots.TheVariants.{All, Used}
 use Rattle.gsmtap.specs.declared.packet.Channel.{Channel}
 use Rattle.gsmtap.specs.declared.tape.Wanted.{Wanted}
-use Rattle.gsmtap.specs.declared.packet.Channel.TheVariants.{Basic, Extended}
+use Rattle.gsmtap.specs.declared.packet.Channel.TheVariants.{BesideSdcch4, BesideSdcch8}
 use Rattle.warnc_run.specs.declared.network.Product.{Product}
 use Rattle.warnc_run.specs.declared.network.Product.TheVariants as product
 
@@ -66,12 +66,12 @@ AsksForGroups words = slice_get words 1 ≡ Some (codes "groups")
 abbrev pub slots_given : (words : List (List ℕ)) → Slots
 slots_given words = if is_given words (codes "--used") then Used else All
 
--- the words give the channel that a capture names: 51 is the basic one, which it is if no word begins with the option's
--- name, and 52 the extended one
+-- the words give the channel that a capture names: 51 is that beside SDCCH/4, which it is if no word begins with the
+-- option's name, and 52 that beside SDCCH/8
 abbrev pub GivesChannel : (words : List (List ℕ)) → Channel → Type 0
-GivesChannel words Basic =
+GivesChannel words BesideSdcch4 =
     GivesNumber words (codes "--channel") 51 ⊎ (is_given words (codes "--channel") ≡ false)
-GivesChannel words Extended = GivesNumber words (codes "--channel") 52
+GivesChannel words BesideSdcch8 = GivesNumber words (codes "--channel") 52
 
 -- the words ask for `pcap`
 pub record AsksForPcap (words : List (List ℕ)) (settings : Settings) : Type 0 where

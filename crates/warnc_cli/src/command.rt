@@ -220,16 +220,16 @@ fn page_options<'a, S: AsStr>(words: &'a [S]) -> Option<PageOptions<'a>>
     })
 }
 
-/// The channel that the words give, the basic one if they give none.
+/// The channel that the words give, that beside SDCCH/4 if they give none.
 fn channel_in<S: AsStr>(words: &[S]) -> Option<Channel>
     ensures { IfSome result (GivesChannel (map S.text words.now)) }
 {
     if !is_given(words, "--channel") {
-        return Some(Channel::Basic);
+        return Some(Channel::BesideSdcch4);
     }
     match number_of(words, "--channel")? {
-        51 => Some(Channel::Basic),
-        52 => Some(Channel::Extended),
+        51 => Some(Channel::BesideSdcch4),
+        52 => Some(Channel::BesideSdcch8),
         _ => None,
     }
 }
@@ -549,7 +549,7 @@ fn channel<'a>(alloc: Global) -> Arg<'a> {
         alloc,
         "channel",
         "CHANNEL",
-        "The channel that the packets name: 51 for the basic one, 52 for the extended; 51 if it isn't given",
+        "The CBCH that the packets name: 51 for that beside SDCCH/4, 52 for that beside SDCCH/8; 51 if it isn't given",
     )
     .value_parser(value_parser!(u16).range(51..=52))
 }

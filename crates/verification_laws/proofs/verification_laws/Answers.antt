@@ -1,4 +1,5 @@
 use Rattle.verification_laws.proofs.OwedShown.{owed-shown}
+use Rattle.verification_laws.proofs.ShownAsked.{shown-asked}
 use Rattle.composition.proofs.Laws.{Laws}
 use Rattle.bsc_table.specs.Promised.{LegalPagesAreAiredOnce}
 use Rattle.verification_laws.specs.OwnTapes.{NothingIsFound, OwnTapesKeepTheirCells}
@@ -47,5 +48,6 @@ returns c =
       no_rows_are_found = no-rows-found nothing;
       records_are_recorded = recorded laws c.recording_laws.ensures.made;
       no_others_are_shown = no-others c.reading_laws.ensures.shown_are_the_complete;
+      all_shown_are_asked = shown-asked c.reading_laws.ensures.shown_are_the_complete;
       owed_are_shown = owed-shown laws;
     }

@@ -22,9 +22,9 @@ up_to number sent place =
     IsPartitionPoint (λ (s : SentPage). leb (number_of s) number ≡ true)
     (λ (s : SentPage). leb (number_of s) number ≡ false) sent place
 
-pub returns-clause-same : goal.returns-clause-same
+pub returns : goal.returns
 unfolding before up_to
-returns-clause-same c =
+returns c =
     let a : AskedMessage = asked_kept c.args.asked.now in
     let number : ℕ = name_number c.args.asked.now.id c.args.asked.now.serial in
     let rest = take_rest c.args.sent.now c.partition_point-first.result in

@@ -1,59 +1,50 @@
-use Rattle.std.proofs.Common.{◌≡◌, ◌≤◌, ◌∙◌, ◌+◌, ◌++◌, [], ◌∷◌, List, Option, All, IsTrue, ap, sym, subst, arith, drop}
-use Rattle.std.proofs.Common.{map, filter, append-nil, true, false}
+use Rattle.std.proofs.Common.{◌≡◌, ◌≤◌, ◌∙◌, ◌+◌, ◌++◌, [], ◌∷◌, List, Option, ap, sym, subst, arith, drop}
+use Rattle.std.proofs.Common.{map, append-nil, refl, Some, None}
 use Rattle.std.specs.List.{AllPairs}
 use Rattle.std.specs.Option.{option_to_list}
 use Rattle.std.proofs.lemmas.List.{drop_all, take_rest}
 use Rattle.cbs_page.specs.declared.octets.PageView.{PageView}
-use Rattle.cbs_page.specs.Page.{is_readable}
 use Rattle.handset.specs.Reception.{page_in_front}
 use Rattle.verification.specs.declared.sent.SentPage.{SentPage}
 use Rattle.verification.specs.Sent.{sent_at, sent_from, sent_in}
 use Rattle.verification.proofs.ListLaws.{rest-more, rest-none}
-use Rattle.verification.proofs.SentLaws.{front-none, front-some, sent-next, sent-readable}
+use Rattle.verification.proofs.SentLaws.{sent-next}
 use Rattle.verification.proofs.TimeLaws.{sent-rising}
 use Rattle.verification.proofs.sent.sent_pages.Goals as goal
-use Rattle.verification.proofs.sent.sent_pages.Goals.{in-Some+then-readable+in_ok-push, in-Some+else-readable}
-use Rattle.verification.proofs.sent.sent_pages.Goals.{in_default}
+use Rattle.verification.proofs.sent.sent_pages.Goals.{in-Some+in_ok-push, in_default}
 
 -- the page in front, as it was looked for
 front : (c : goal.Joined-page_in_front) → option_to_list c.page_in_front.result
     ≡ page_in_front (drop c.loop-place.place c.args.blocks.now)
 front c = c.page_in_front.ensures ∙ ap page_in_front (take_rest c.args.blocks.now c.loop-place.place)
 
-step : (c : goal.Joined-page_in_front) (new more : List SentPage) → new ≡ c.loop-place.sent.items ++ more →
-    map (sent_at c.loop-place.place) (filter is_readable (page_in_front (drop c.loop-place.place c.args.blocks.now)))
-    ≡ more →
+step : (c : goal.Joined-page_in_front) (new more : List SentPage) (found : Option PageView)
+    → new ≡ c.loop-place.sent.items ++ more →
+    c.page_in_front.result ≡ found → map (sent_at c.loop-place.place) (option_to_list found) ≡ more →
     new ++ sent_from (c.loop-place.place + 1) (drop (c.loop-place.place + 1) c.args.blocks.now)
     ≡ sent_in c.args.blocks.now
-step c new more added here =
+step c new more found added is here =
     rest-more c.loop-place.sent.items new more (sent_from c.loop-place.place
     (drop c.loop-place.place c.args.blocks.now))
     (sent_from (c.loop-place.place + 1) (drop (c.loop-place.place + 1) c.args.blocks.now)) (sent_in c.args.blocks.now)
     c.loop-place.invariant
     (sent-next c.args.blocks.now c.loop-place.place (omega arith)
+    ∙ ap (λ (pages : List PageView). map (sent_at c.loop-place.place) pages
+    ++ sent_from (c.loop-place.place + 1) (drop (c.loop-place.place + 1) c.args.blocks.now))
+    (sym (ap (λ (page : Option PageView). option_to_list page) (sym is) ∙ front c))
     ∙ ap (λ (pages : List SentPage). pages
     ++ sent_from (c.loop-place.place + 1) (drop (c.loop-place.place + 1) c.args.blocks.now)) here)
     added
 
 pub loop-place-preserved : goal.loop-place-preserved
 loop-place-preserved c = elim c.match-page_in_front.branch [
-  | in-Some+then-readable+in_ok-push w ↦ step c c.match-page_in_front.sent.items
-      (sent_at c.loop-place.place w.in-Some.page ∷ [])
+  | in-Some+in_ok-push w ↦ step c c.match-page_in_front.sent.items
+      (sent_at c.loop-place.place w.in-Some.page ∷ []) (Some w.in-Some.page)
       (ap (λ sent. sent.items) w.sent-is ∙ w.in_ok-push.ensures.items)
-      (front-some c.loop-place.place w.in-Some.page true
-      (page_in_front (drop c.loop-place.place c.args.blocks.now))
-      (ap (λ (page : Option PageView). option_to_list page) (sym w.in-Some.is) ∙ front c)
-      (sym w.if-readable.true ∙ w.readable.ensures))
-  | in-Some+else-readable w ↦ step c c.match-page_in_front.sent.items []
+      w.in-Some.is refl
+  | in_default w ↦ step c c.match-page_in_front.sent.items [] None
       (ap (λ sent. sent.items) w.sent-is ∙ sym (append-nil c.loop-place.sent.items))
-      (front-some c.loop-place.place w.in-Some.page false
-      (page_in_front (drop c.loop-place.place c.args.blocks.now))
-      (ap (λ (page : Option PageView). option_to_list page) (sym w.in-Some.is) ∙ front c)
-      (sym w.if-readable.false ∙ w.readable.ensures))
-  | in_default w ↦ step c c.match-page_in_front.sent.items []
-      (ap (λ sent. sent.items) w.sent-is ∙ sym (append-nil c.loop-place.sent.items))
-      (front-none c.loop-place.place (page_in_front (drop c.loop-place.place c.args.blocks.now))
-      (ap (λ (page : Option PageView). option_to_list page) (sym w.in_default.is) ∙ front c))
+      w.in_default.is refl
 ]
 
 -- the pages when all blocks were looked at
@@ -62,10 +53,6 @@ whole c =
     rest-none c.loop-place.sent.items (sent_from c.loop-place.place (drop c.loop-place.place c.args.blocks.now))
     (sent_in c.args.blocks.now) c.loop-place.invariant
     (ap (sent_from c.loop-place.place) (drop_all c.loop-place.place c.args.blocks.now (omega arith)))
-
-pub returns-clause-readable : goal.returns-clause-readable
-returns-clause-readable c =
-    subst (All (λ (s : SentPage). IsTrue (is_readable s.page))) (sym (whole c)) (sent-readable 0 c.args.blocks.now)
 
 pub returns-clause-rising : goal.returns-clause-rising
 returns-clause-rising c =

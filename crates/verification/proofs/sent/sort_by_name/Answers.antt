@@ -1,9 +1,7 @@
-use Rattle.std.proofs.Common.{◌≤◌, IsTrue, sym, subst, rules}
+use Rattle.std.proofs.Common.{◌≤◌, sym, subst, rules}
 use Rattle.std.specs.List.{AllPairs}
-use Rattle.std.proofs.lemmas.List.Sorted.{All-permutation, IsNonDecreasingBy-from_sort_by_key, answers_always}
-use Rattle.cbs_page.specs.Page.{is_readable}
+use Rattle.std.proofs.lemmas.List.Sorted.{IsNonDecreasingBy-from_sort_by_key, answers_always}
 use Rattle.verification.specs.declared.judged.JudgedPage.{JudgedPage}
-use Rattle.verification.specs.declared.sent.SentPage.{SentPage}
 use Rattle.verification.proofs.ByNameLaws.{judged-kept, number_of}
 use Rattle.verification.proofs.TimeLaws.{judged-rising}
 use Rattle.verification.proofs.sent.sort_by_name.Goals as goal
@@ -16,13 +14,11 @@ returns-clause-same c = λ a.
 
 pub returns-clause-stand : goal.returns-clause-stand
 returns-clause-stand c = record {
-  readable = All-permutation (λ (s : SentPage). IsTrue (is_readable s.page)) c.args.sent.now.items
-      c.sort_by_key.new.self.items c.in_ok-sort_by_key.ensures.permutation c.requires.readable;
   named = IsNonDecreasingBy-from_sort_by_key number_of c.sort_by_key.new.self.items
       c.in_ok-sort_by_key.ensures.sorted (λ a r g h. search rules);
   rising = λ a.
       subst (AllPairs (λ (x y : JudgedPage). x.slot ≤ y.slot))
       (sym (judged-kept a c.args.sent.now.items c.sort_by_key.new.self.items
       (c.in_ok-sort_by_key.ensures.stable number_of (answers_always _ _ _ (λ f b r g h. search rules)))))
-      (judged-rising a c.args.sent.now.items c.requires.rising);
+      (judged-rising a c.args.sent.now.items c.requires);
 }
