@@ -116,6 +116,12 @@ abbrev pub IsWriteFault : RunFault → Type 0
 IsWriteFault (fault.Write failed) = ⊤
 IsWriteFault other = ⊥
 
+-- a fault of several workers: the tape at a place isn't that of the cell's record. One worker sends no pages, and makes
+-- the tapes of the records
+abbrev pub IsPieceFault : RunFault → Type 0
+IsPieceFault (fault.Compile (compile.Piece index)) = ⊤
+IsPieceFault other = ⊥
+
 -- why workers made no tapes, of octets that the reader has left before and after: there can't be so many of them, or
 -- the octets are a book, and memory ran out, or the tape at a place isn't that of the cell's record
 abbrev pub IsCompileFault : (from : Origin) (first last : Option (List ℕ)) → CompileFault → Type 0
@@ -137,6 +143,22 @@ IsSettleFault book slots parts (settle.Session part) = part ≤ parts
 IsSettleFault book slots parts other =
     (closed : ClosedDesk) × (passes : List (List Note)) × (closed.cells ≡ book.cells) × (closed.slots ≡ slots)
     × IsFault closed passes other
+
+-- a fault of threads at a desk: the desk's, only if it is out of memory or finds the book of another cell; or the
+-- workers', only if they are out of memory; or of memory
+abbrev pub IsOfRun : RunFault → Type 0
+IsOfRun (fault.Book f) = ⊥
+IsOfRun (fault.NoGroup groups) = ⊥
+IsOfRun (fault.Write failed) = ⊥
+IsOfRun (fault.Settle f) = ⊥
+IsOfRun (fault.Desk f) = IsDeskFault f
+IsOfRun (fault.Compile f) = f ≡ compile.Refused
+IsOfRun fault.Refused = ⊤
+
+-- a fault of the run of a book with so many sessions and by one worker: of its threads, or of its settlement
+abbrev pub IsOfBook : (book : Contents) (slots parts : ℕ) → RunFault → Type 0
+IsOfBook book slots parts (fault.Settle f) = IsSettleFault book slots parts f
+IsOfBook book slots parts other = IsOfRun other
 
 -- the faults with which a run of a book can end for another reason than memory: no contract excludes them, since what a
 -- lock of the desk holds, and what a worker sends, is known by its type alone
