@@ -10,6 +10,7 @@ use Rattle.alert_book.specs.declared.network.Origin.{Origin}
 use Rattle.alert_book.specs.declared.network.Origin.TheVariants as origin
 use Rattle.alert_book.specs.Book.{Contents, unread}
 use Rattle.alert_book.specs.Origin.{IsBookFrom, LacksGroup, RefusesFrom}
+use Rattle.bsc_table.specs.Promised.{IsServed}
 use Rattle.bsc_table.specs.Record.{Record}
 use Rattle.order_desk.specs.declared.fault.DeskFault.{DeskFault}
 use Rattle.order_desk.specs.declared.fault.DeskFault.TheVariants as desk
@@ -28,8 +29,9 @@ use Rattle.book_runs.specs.Run.{Exchange, IsRun}
 
 -- what is written for the octets that were read: they are a book, or a network book whose group has one; its run gives
 -- each cell a record, which shows what the book means; each message that a cell accepted is one that an order of the
--- book had it start, with that order's text, and no other order started one; and these are the tapes of the records, in
--- the order of the book's cells, and nothing else
+-- book had it start, with that order's text, and no other order started one; each requested broadcast of such a message
+-- is sent whole within its own period, unless the message is background, or its stop or the end of the run cuts the
+-- broadcast short; and these are the tapes of the records, in the order of the book's cells, and nothing else
 pub record IsCompiledFrom (from : Origin) (slots : ℕ) (input output : List ℕ) : Type 0 where
   pub book : Contents
   pub is_book : IsBookFrom from input book
@@ -38,6 +40,7 @@ pub record IsCompiledFrom (from : Origin) (slots : ℕ) (input output : List ℕ
   pub run : IsRun book slots exchanges records
   pub meant : All (IsMeantIn book) records
   pub accepted : All (AreThoseStarted book exchanges) records
+  pub served : All IsServed records
   pub written : output ≡ flat_map tape_of_record records
 
 -- the same of octets that are a book

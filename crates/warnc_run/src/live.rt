@@ -119,8 +119,10 @@ pub fn live_from<T: AllocGlobal + Threads + Wait + Sync, R: Read, W: Write, G: G
     ensures any_ends { AreWorkers workers
         → IsRunAtEnds result W.contents source.old source.new sink.old sink.new }
 {
-    // A handset is shown what the book means, whatever the cells answered, and whichever session came first.
+    // A handset is shown what the book means, whatever the cells answered, and whichever session came first; and each
+    // cell keeps the guarantee.
     book_runs::session_laws();
+    bsc_table::legal_histories();
     let Some(workers) = Workers::new(workers) else {
         return Err(RunFault::Compile(CompileFault::Workers));
     };

@@ -131,8 +131,10 @@ impl Network<'_> {
         requires counted { HasGroups 0 self.now.octets.now self.now.groups }
         ensures { IsMadeOf Product.Tapes self.now.slots group self.now.octets.now result }
     {
-        // A handset is shown what the book means, and a run of one session is a run of the book.
+        // A handset is shown what the book means, a run of one session is a run of the book, and each cell keeps the
+        // guarantee.
         book_runs::session_laws();
+        bsc_table::legal_histories();
         let book = self.book(rt, group)?;
         let tapes = tapes_by_one(rt, book, self.slots)?;
         Ok(Part::Tapes(tapes))
