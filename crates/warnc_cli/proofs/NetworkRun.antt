@@ -96,15 +96,15 @@ written_of Means (Some book) last old new makes = record {
   of_some = (makes.input, makes.output, makes.meant, makes.appended);
 }
 
--- with status 1 nothing was written, or the first groups
+-- with another status than 3 nothing was written, or the first groups
 pub first_groups : (made : Product) (slots : ℕ) (first last old new : Option (List ℕ)) (f : NetworkFault)
     → IsNetworkFault made slots first last old new f
-    → status_of_network_fault f ≡ 1
+    → status_of_network_fault f ≢ 3
     → Keeps old new ⊎ ((count : ℕ) × WritesOutput (AreFirstParts made slots count) first old new)
-first_groups made slots first last old new (fault.Network f) why is = inl why.1
-first_groups made slots first last old new (fault.Group group f) why is =
+first_groups made slots first last old new (fault.Network f) why other = inl why.1
+first_groups made slots first last old new (fault.Group group f) why other =
     inr (group, written_of (AreFirstParts made slots group) first last old new why.0)
-first_groups made slots first last old new fault.WriteFailed why is = absurd (omega (arith, is))
+first_groups made slots first last old new fault.WriteFailed why other = absurd (other refl)
 
 -- the report of a first group has the line of names at least
 some_part : (slots : ℕ) (input part : List ℕ) → IsReportedFrom (origin.Group 0) slots input part → 0 < length part
