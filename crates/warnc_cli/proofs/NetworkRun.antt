@@ -1,6 +1,6 @@
 -- What a run of all groups of a network writes, and what its faults say of the input.
 use Rattle.std.proofs.Common.{◌≡◌, ◌≢◌, ◌⊎◌, ◌∙◌, ℕ, ◌<◌, List, [], ◌∷◌, length}
-use Rattle.std.proofs.Common.{◌+◌, ◌/◌, map, ap, arith, inl, inr, refl, subst, sym, true, IfSome, None, Option}
+use Rattle.std.proofs.Common.{◌+◌, ◌/◌, map, ap, arith, inl, inr, refl, rules, subst, sym, true, IfSome, None, Option}
 use Rattle.std.proofs.Common.{Some}
 use Rattle.std.proofs.Math.Nat.{le-max_left}
 use Rattle.std.proofs.lemmas.List.{length-append}
@@ -56,15 +56,15 @@ stopped_group slots group book input (run.Settle f) same none is =
       subst (λ (octets : List ℕ). IsGroupBook group octets none.0) same none.1,
       (run.Settle f, (other, none.2)),
     )
-stopped_group slots group book input (run.Compile compile.Workers) same none is = absurd (none.2 refl)
+stopped_group slots group book input (run.Compile compile.Workers) same none is = absurd (apart none.2)
+  where
+    apart : compile.Workers ≡ compile.Refused → ⊥
+    apart h = search (rules, h)
 stopped_group slots group book input (run.Compile compile.Refused) same none is = absurd (omega (arith, is))
-stopped_group slots group book input (run.Compile (compile.Piece index)) same none is =
-    inr (
-      group,
-      none.0,
-      subst (λ (octets : List ℕ). IsGroupBook group octets none.0) same none.1,
-      (run.Compile (compile.Piece index), tt),
-    )
+stopped_group slots group book input (run.Compile (compile.Piece index)) same none is = absurd (apart none.2)
+  where
+    apart : compile.Piece index ≡ compile.Refused → ⊥
+    apart h = search (rules, h)
 stopped_group slots group book input (run.Write failed) same none is = absurd none.2
 stopped_group slots group book input run.Refused same none is = absurd (omega (arith, is))
 
@@ -77,7 +77,7 @@ no_network_run made slots None last old new f why is = tt
 no_network_run made slots (Some book) last old new (fault.Network f) why is =
     inl (no_network 0 book why.0.input last f why.0.consumed why.0.why is)
 no_network_run made slots (Some book) last old new (fault.Group group f) why is =
-    stopped_group slots group book why.0.input f (whole book why.0.input last why.0.read why.0.ended) why.1 is
+    stopped_group slots group book why.0.input f (whole book why.0.input last why.0.read why.0.ended) why.2 is
 no_network_run made slots (Some book) last old new fault.WriteFailed why is = absurd (omega (arith, is))
 
 -- what a reader had left was read whole, and what it means was written
@@ -96,15 +96,15 @@ written_of Means (Some book) last old new makes = record {
   of_some = (makes.input, makes.output, makes.meant, makes.appended);
 }
 
--- with status 1 nothing was written, or the first groups
+-- with another status than 3 nothing was written, or the first groups
 pub first_groups : (made : Product) (slots : ℕ) (first last old new : Option (List ℕ)) (f : NetworkFault)
     → IsNetworkFault made slots first last old new f
-    → status_of_network_fault f ≡ 1
+    → status_of_network_fault f ≢ 3
     → Keeps old new ⊎ ((count : ℕ) × WritesOutput (AreFirstParts made slots count) first old new)
-first_groups made slots first last old new (fault.Network f) why is = inl why.1
-first_groups made slots first last old new (fault.Group group f) why is =
+first_groups made slots first last old new (fault.Network f) why other = inl why.1
+first_groups made slots first last old new (fault.Group group f) why other =
     inr (group, written_of (AreFirstParts made slots group) first last old new why.0)
-first_groups made slots first last old new fault.WriteFailed why is = absurd (omega (arith, is))
+first_groups made slots first last old new fault.WriteFailed why other = absurd (other refl)
 
 -- the report of a first group has the line of names at least
 some_part : (slots : ℕ) (input part : List ℕ) → IsReportedFrom (origin.Group 0) slots input part → 0 < length part

@@ -351,6 +351,10 @@ abbrev pub WroteOfRefused : (words : List (List ℕ)) (input old new : Option (L
 WroteOfRefused words input old new =
     Keeps old new ⊎ (WroteDifferences words input old new ⊎ WroteFirstGroups words input old new)
 
+-- and with status 4: nothing, or the first groups of a network
+abbrev pub WroteWithoutMemory : (words : List (List ℕ)) (input old new : Option (List ℕ)) → Type 0
+WroteWithoutMemory words input old new = Keeps old new ⊎ WroteFirstGroups words input old new
+
 -- one of the two ends has failed
 abbrev pub OneHasFailed : {R W : Type 0} → Source R → Sink W → Type 0
 OneHasFailed source sink = (source_failed source ≡ true) ⊎ (sink_failed sink ≡ true)

@@ -20,7 +20,7 @@ ghost use Rattle.warnc_cli.specs.RunSteps.{IsNetworkRunBetween, IsRunBetween, Is
 ghost use Rattle.warnc_cli.specs.Status.{IsNoAir, IsNoNetwork, IsNoNetworkRun, IsNoRun, IsNoTapes, IsRefused};
 ghost use Rattle.warnc_cli.specs.Status.{OneHasFailed, RefusesInput};
 ghost use Rattle.warnc_cli.specs.Status.{IsNotVerified, MayWrite, WritesSome, WroteOfRefused};
-ghost use Rattle.warnc_cli.specs.Status.{ByInput, WritesSomeUnlessTapes, WroteWhatIsAsked};
+ghost use Rattle.warnc_cli.specs.Status.{ByInput, WritesSomeUnlessTapes, WroteWhatIsAsked, WroteWithoutMemory};
 ghost use Rattle.device_ends.specs.Stream.{Writes};
 
 use crate::command::{PageOptions, Task, asks_for_text, task_of};
@@ -87,6 +87,8 @@ pub fn run_between<T: AllocGlobal + Threads + Wait + Sync, S: AsStr, R: Read, W:
     ensures untouched { (MayWrite (map S.text words.now) result → ⊥) → sink.new ≡ sink.old }
     ensures differences { result ≡ REFUSED_INPUT → ByInput R.remaining W.contents
         (WroteOfRefused (map S.text words.now)) source.old sink.old sink.new }
+    ensures memory { result ≡ MEMORY → ByInput R.remaining W.contents
+        (WroteWithoutMemory (map S.text words.now)) source.old sink.old sink.new }
     ensures refused { result ≡ REFUSED_INPUT
         → RefusesInput (map S.text words.now) (R.remaining (reader_of source.old)) }
     ensures device { result ≡ DEVICE → OneHasFailed source.new sink.new }
@@ -362,6 +364,9 @@ fn run_network<T: AllocGlobal + Threads + Wait + Sync, R: Read, W: Write, F: Wri
         → WritesSome (W.contents (writer_of sink.old)) (W.contents (writer_of sink.new)) }
     ensures refused { result ≡ REFUSED_INPUT → IfSome (R.remaining (reader_of source.old)) (IsNoNetworkRun slots) }
     ensures first_groups { result ≡ REFUSED_INPUT → Keeps (W.contents (writer_of sink.old))
+        (W.contents (writer_of sink.new)) ⊎ ((count : ℕ) × WritesOutput (AreFirstParts made slots count)
+        (R.remaining (reader_of source.old)) (W.contents (writer_of sink.old)) (W.contents (writer_of sink.new))) }
+    ensures memory { result ≡ MEMORY → Keeps (W.contents (writer_of sink.old))
         (W.contents (writer_of sink.new)) ⊎ ((count : ℕ) × WritesOutput (AreFirstParts made slots count)
         (R.remaining (reader_of source.old)) (W.contents (writer_of sink.old)) (W.contents (writer_of sink.new))) }
 {

@@ -5,7 +5,7 @@ use native.Mathlib.Omega.{arith}
 use Rattle.std.proofs.KnownBytes.{Appends-nil, Appends-trans}
 use Rattle.std.proofs.Math.Seq.{drop-cons, take-append-add}
 use Rattle.std.proofs.lemmas.Grind.{flat_map-append}
-use Rattle.std.proofs.lemmas.List.{get_or_past, length-append, take-append-drop, take-append-le, take_all}
+use Rattle.std.proofs.lemmas.List.{length-append, take-append-drop, take-append-le}
 use Rattle.std.specs.Io.KnownBytes.{Appends, Consumes, IsAtEnd}
 use Rattle.device_ends.specs.Moves.{ReadsUpTo}
 use Rattle.alert_book.specs.declared.fault.BookFault.{BookFault}
@@ -17,7 +17,6 @@ use Rattle.alert_book.specs.Book.{Contents}
 use Rattle.alert_book.specs.Network.{HasGroups, HasNoBookIn, IsGroupBook, IsNoNetworkBook, RefusesNetwork}
 use Rattle.alert_book.specs.NetworkLaws.{CountsAreOne, NetworksAreRight}
 use Rattle.warnc_run.specs.declared.fault.RunFault.{RunFault}
-use Rattle.warnc_run.specs.declared.fault.RunFault.TheVariants as run
 use Rattle.warnc_run.specs.declared.network.NetworkFault.{NetworkFault}
 use Rattle.warnc_run.specs.declared.network.NetworkFault.TheVariants as fault
 use Rattle.warnc_run.specs.declared.network.Product.{Product}
@@ -26,34 +25,18 @@ use Rattle.warnc_run.specs.Compiled.{Makes}
 use Rattle.warnc_run.specs.Network.{joined_parts, ArePartsFrom, HasNoPart, IsNetworkFault, IsOfNetwork, IsPartOf}
 use Rattle.warnc_run.specs.NetworkSteps.{octets_of_part, AreMadeFrom, HasNoEmptyTape, IsMadeOf, IsWritten, StopsAt}
 use Rattle.warnc_run.specs.NetworkSteps.{StopsParts, WritesFrontOf, WritesParts, WritesPartsFront}
-use Rattle.warnc_run.specs.RunSteps.{IsOfTapes, IsSomeBook, TakesFront}
+use Rattle.warnc_run.specs.RunSteps.{IsSomeBook, TakesFront}
 
--- what a writer took of tapes before it failed is a front of them
+-- what a writer took of tapes before it failed is a front of them, and not all
 pub front_of_tapes : (tapes : List (List ℕ)) (written : ℕ) (old new : Option (List ℕ))
+    → 0 < length tapes
     → TakesFront tapes written old new
     → WritesFrontOf (joined_parts tapes) old new
-front_of_tapes [] written old new taken = (0, subst (Appends old new) nothing taken.appended)
+front_of_tapes tapes written old new some taken =
+    (length front + written, less, subst (Appends old new) (sym same) taken.appended)
   where
-    none : List (List ℕ)
-    none = []
-
-    empty : List ℕ
-    empty = []
-
-    nothing : joined_parts (take taken.place none) ++ take written (get_or none taken.place empty) ≡ empty
-    nothing =
-        ap (λ (front : List (List ℕ)). joined_parts front ++ take written (get_or none taken.place empty))
-        (take_all taken.place none (omega arith))
-        ∙ ap (take written) (get_or_past none taken.place empty (omega arith))
-        ∙ take_all written empty (omega arith)
-front_of_tapes (first ∷ others) written old new taken =
-    (length front + written, subst (Appends old new) (sym same) taken.appended)
-  where
-    tapes : List (List ℕ)
-    tapes = first ∷ others
-
     within : taken.place < length tapes
-    within = taken.within (omega arith)
+    within = taken.within some
 
     front : List ℕ
     front = joined_parts (take taken.place tapes)
@@ -69,6 +52,14 @@ front_of_tapes (first ∷ others) written old new taken =
         ap joined_parts (sym (take-append-drop taken.place tapes))
         ∙ flat_map-append (λ (part : List ℕ). part) (take taken.place tapes) (drop taken.place tapes)
         ∙ ap (λ (left : List (List ℕ)). front ++ joined_parts left) (drop-cons tapes taken.place [] within)
+
+    less : length front + written < length (joined_parts tapes)
+    less =
+        let all = ap length whole in
+        let both = length-append front (tape ++ rest) in
+        let own = length-append tape rest in
+        let part = taken.less within in
+        omega (arith, all, both, own, part)
 
     same : take (length front + written) (joined_parts tapes) ≡ front ++ take written tape
     same =
@@ -137,7 +128,7 @@ part_after made slots group i input part a b c before is wrote =
     parts_after made slots group i 1 (group + i) input a b c refl before
     (one_part made slots (group + i) input (octets_of_part part) b c is wrote)
 
--- whole parts, and then no more than a front of some
+-- whole parts, and then a front of some
 front_after : (made : Product) (slots group n m most from : ℕ) (input : List ℕ) (a b c : Option (List ℕ))
     → from ≡ group + n
     → WritesParts made slots group n input a b
@@ -148,10 +139,13 @@ front_after made slots group n m most from input a b c at before after fits =
     let same : from ≡ group + length before.parts = omega (arith, at, before.count_is) in
     let whole = joined_parts before.parts in
     let both = length-append before.parts after.parts in
+    let all : joined_parts (before.parts ++ after.parts) ≡ whole ++ joined_parts after.parts =
+    flat_map-append (λ (part : List ℕ). part) before.parts after.parts in
+    let long = ap length all in
+    let sum = length-append whole (joined_parts after.parts) in
     let octets : take (length whole + after.front.0) (joined_parts (before.parts ++ after.parts))
     ≡ whole ++ take after.front.0 (joined_parts after.parts) =
-    ap (take (length whole + after.front.0))
-    (flat_map-append (λ (part : List ℕ). part) before.parts after.parts)
+    ap (take (length whole + after.front.0)) all
     ∙ take-append-add whole (joined_parts after.parts) after.front.0 in record {
       parts = before.parts ++ after.parts;
       few = omega (arith, both, before.count_is, after.few, fits);
@@ -159,8 +153,9 @@ front_after made slots group n m most from input a b c at before after fits =
           (subst (λ (g : ℕ). ArePartsFrom made slots input g after.parts) same after.each);
       front = (
         length whole + after.front.0,
+        omega (arith, long, sum, after.front.1),
         subst (Appends a c) (sym octets)
-            (Appends-trans a b c whole (take after.front.0 (joined_parts after.parts)) before.appended after.front.1),
+            (Appends-trans a b c whole (take after.front.0 (joined_parts after.parts)) before.appended after.front.2),
       );
     }
 
@@ -207,10 +202,7 @@ stop_at made slots group i number count input came a b c fault.WriteFailed less 
       parts = octets_of_part part ∷ [];
       few = omega arith;
       each = ((subst (IsMadeOf made slots (group + i) input) is of).0, tt);
-      front = (
-        front.0,
-        subst (λ (octets : List ℕ). Appends b c (take front.0 octets)) (sym (append-nil (octets_of_part part))) front.1,
-      );
+      front = subst (λ (octets : List ℕ). WritesFrontOf octets b c) (sym (append-nil (octets_of_part part))) front;
     }) (omega (arith, less))
 
 -- the parts of all groups are the network's
@@ -261,6 +253,7 @@ fault_of_parts made slots groups input first last old new (fault.Group g f) read
         };
         appended = wrote.appended;
       },
+      omega (arith, is, less),
       none,
     )
 fault_of_parts made slots groups input first last old new fault.WriteFailed read ended counted stops = (
@@ -280,7 +273,8 @@ fault_of_parts made slots groups input first last old new fault.WriteFailed read
       written = refl;
     };
     taken = stops.front.0;
-    front = stops.front.1;
+    some_left = λ some. stops.front.1;
+    front = stops.front.2;
   },
 )
 
@@ -303,19 +297,6 @@ refused_network first last input f read (inr (inr wrong)) = record {
   bounded = read.bounded;
   why = inr (inr (inr (read.ended wrong.0, wrong)));
 }
-
--- a fault of the run of a group's book says why the group has no part
-pub no_part : (slots group : ℕ) (input : List ℕ) (book : Contents) (f : RunFault)
-    → IsGroupBook group input book
-    → IsOfTapes book slots 1 f
-    → HasNoPart slots group input f
-no_part slots group input book (run.Book f) is why = absurd why
-no_part slots group input book (run.NoGroup groups) is why = absurd why
-no_part slots group input book (run.Desk f) is why = (book, is, why)
-no_part slots group input book (run.Settle f) is why = (book, is, why)
-no_part slots group input book (run.Compile f) is why = (book, is, why)
-no_part slots group input book (run.Write failed) is why = absurd why
-no_part slots group input book run.Refused is why = tt
 
 -- a group's book is some book
 pub a_book : (group : ℕ) (input : List ℕ) (book : Contents) → IsGroupBook group input book → IsSomeBook book
@@ -417,6 +398,7 @@ nothing_taken made slots groups octets judged first last old read is counted =
           written = refl;
         };
         taken = 0;
+        some_left = λ some. some;
         front = Appends-nil old;
       },
     )

@@ -25,8 +25,8 @@ use Rattle.report.specs.Rows.{AreOfOneCells, cell_rows}
 use Rattle.report.specs.declared.fault.ReportFault.{ReportFault}
 use Rattle.report.specs.declared.fault.ReportFault.TheVariants as report
 use Rattle.report.specs.declared.row.Row.{Row}
-use Rattle.warnc_run.specs.Compiled.{HasReadFrom, IsWriteFault, MakesFront}
-use Rattle.warnc_run.specs.RunSteps.{AreReadings, AreReportRows, HasNoBookToRun, HaveRunLive, IsOfBook, IsOfBookReport}
+use Rattle.warnc_run.specs.Compiled.{HasReadFrom, IsOfBook, IsPieceFault, IsWriteFault, MakesFront}
+use Rattle.warnc_run.specs.RunSteps.{AreReadings, AreReportRows, HasNoBookToRun, HaveRunLive, IsOfBookReport}
 use Rattle.warnc_run.specs.RunSteps.{IsOfTapes, own_rows}
 use Rattle.warnc_run.specs.declared.fault.RunFault.{RunFault}
 use Rattle.warnc_run.specs.declared.fault.RunFault.TheVariants as run
@@ -36,7 +36,7 @@ use Rattle.warnc_run.proofs.Written.{fault_of_reading, fault_of_run, only}
 use Rattle.cbch_blocks.specs.RecordBlocks.{tape_of_record}
 use Rattle.handset.specs.Laws.{TapeIsOneKind}
 use Rattle.handset.specs.Tape.{IsTape, TapeReading}
-use Rattle.warnc_run.specs.Reported.{is_headed, reading_of_record, IsPieceFault, IsReportedFrom, IsReportRunFault}
+use Rattle.warnc_run.specs.Reported.{is_headed, reading_of_record, IsReportedFrom, IsReportRunFault}
 
 -- the readings of records before one, and that of its tape, are those up to it
 pub read_on : TapeIsOneKind → (records : List Record) (tapes : List (List ℕ)) (i : ℕ) (tape : List ℕ)

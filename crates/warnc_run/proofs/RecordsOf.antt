@@ -10,9 +10,9 @@ use Rattle.book_runs.specs.Ordered.{RunsAcceptWhatWasOrdered}
 use Rattle.book_runs.specs.Run.{Exchange}
 use Rattle.book_runs.specs.RunLaws.{RunsShowTheBook}
 use Rattle.parallel_compile.specs.declared.fault.CompileFault.TheVariants as compile
-use Rattle.warnc_run.specs.Compiled.{HasReadFrom, IsSettleFault}
+use Rattle.warnc_run.specs.Compiled.{HasReadFrom, IsOfBook, IsSettleFault}
 use Rattle.warnc_run.specs.Records.{AreRecordsFrom, IsRecordsFault}
-use Rattle.warnc_run.specs.RunSteps.{HaveRunLive, IsOfBook}
+use Rattle.warnc_run.specs.RunSteps.{HaveRunLive}
 use Rattle.warnc_run.specs.declared.fault.RunFault.{RunFault}
 use Rattle.warnc_run.specs.declared.fault.RunFault.TheVariants as run
 use Rattle.warnc_run.proofs.Written.{only}

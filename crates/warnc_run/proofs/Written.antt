@@ -25,6 +25,7 @@ use Rattle.alert_book.specs.Book.{Contents}
 use Rattle.alert_book.specs.Origin.{IsBookFrom}
 use Rattle.cbsp_wire.specs.declared.message.Cell.{Cell}
 use Rattle.cbsp_wire.specs.Range.{cells_are_valid}
+use Rattle.bsc_table.specs.Promised.{IsServed, LegalHistoriesAreServed}
 use Rattle.bsc_table.specs.Record.{Record}
 use Rattle.cbch_blocks.specs.RecordBlocks.{tape_of_record}
 use Rattle.book_runs.specs.Live.{IsLiveRun, IsRunBy}
@@ -266,13 +267,13 @@ only (x ∷ []) count = (x, refl)
 only (x ∷ (y ∷ rest)) count = absurd (omega (arith, count))
 
 -- a run of several sessions of the book whose octets were read is compiled to its tapes
-pub made_live : LiveRunsShowTheBook → LiveRunsAcceptWhatWasOrdered
+pub made_live : LiveRunsShowTheBook → LiveRunsAcceptWhatWasOrdered → LegalHistoriesAreServed
     → (from : Origin) (input : List ℕ) (book : Contents) (slots parts : ℕ) (tapes : List (List ℕ))
     → slots ≤ 65535
     → IsBookFrom from input book
     → AreTapesOf book slots parts tapes
     → IsLiveFrom from slots parts input (joined tapes)
-made_live law orders from input book slots parts tapes few is_book are = record {
+made_live law orders keeps from input book slots parts tapes few is_book are = record {
   book = book;
   is_book = is_book;
   sessions = are.live.sessions;
@@ -281,6 +282,8 @@ made_live law orders from input book slots parts tapes few is_book are = record 
   run = are.live.run;
   meant = law from input book slots are.live.sessions are.records is_book few are.live.run;
   accepted = orders from input book slots are.live.sessions are.records is_book are.live.run;
+  served = All-weaker (IsRunBy slots are.live.sessions) IsServed (λ r run. keeps r run.legal) are.records
+      are.live.run.each;
   written = ap joined are.made ∙ joined_tapes are.records;
 }
 
@@ -316,6 +319,7 @@ made_by_one one from slots input output live =
       meant = live.meant;
       accepted = subst (λ (exchanges : List Exchange). All (AreThoseStarted live.book exchanges) live.records)
           (ap (flat_map (λ (exchanges : List Exchange). exchanges)) session.1 ∙ append-nil session.0) live.accepted;
+      served = live.served;
       written = live.written;
     }
 
@@ -433,7 +437,7 @@ has_room_for_each law from input book slots parts records shown cell tape few is
         ∙ sizes k (tape_of_record d) (subst (λ (n : ℕ). k < n) (sym (length-map records tape_of_record)) within)
 
 -- a fault of a run whose tapes were to be written, of the book whose octets were read
-pub fault_of_writing : LiveRunsShowTheBook → LiveRunsAcceptWhatWasOrdered
+pub fault_of_writing : LiveRunsShowTheBook → LiveRunsAcceptWhatWasOrdered → LegalHistoriesAreServed
     → (from : Origin) (slots parts : ℕ) (first last old new : Option (List ℕ)) (book : Contents) (fault : RunFault)
     → slots ≤ 65535
     → (read : HasReadFrom from first last)
@@ -441,7 +445,7 @@ pub fault_of_writing : LiveRunsShowTheBook → LiveRunsAcceptWhatWasOrdered
     → StopsAtTape book slots parts old new fault
     → ((IsWriteFault fault → ⊥) → Keeps old new)
     → IsRunFault from slots parts (IsLiveFrom from slots parts) first last old new fault
-fault_of_writing law orders from slots parts first last old new book (run.Write failed) few read is stops kept =
+fault_of_writing law orders keeps from slots parts first last old new book (run.Write failed) few read is stops kept =
     let is_book = subst (IsBookFrom from read.input) is read.is_book in
     let taken = taken_of_run law from read.input book slots parts stops.tapes failed.written old new few is_book
     stops.are stops.taken in record {
@@ -449,22 +453,23 @@ fault_of_writing law orders from slots parts first last old new book (run.Write 
       output = joined stops.tapes;
       read = read.read;
       ended = read.ended;
-      meant = made_live law orders from read.input book slots parts stops.tapes few is_book stops.are;
+      meant = made_live law orders keeps from read.input book slots parts stops.tapes few is_book stops.are;
       whole = taken.whole;
       under_way = taken.under_way;
       some_left = taken.some_left;
       front = taken.front;
     }
-fault_of_writing law orders from slots parts first last old new book (run.Book f) few read is stops kept = absurd stops
-fault_of_writing law orders from slots parts first last old new book (run.NoGroup groups) few read is stops kept =
+fault_of_writing law orders keeps from slots parts first last old new book (run.Book f) few read is stops kept =
     absurd stops
-fault_of_writing law orders from slots parts first last old new book (run.Desk f) few read is stops kept =
+fault_of_writing law orders keeps from slots parts first last old new book (run.NoGroup groups) few read is stops kept =
+    absurd stops
+fault_of_writing law orders keeps from slots parts first last old new book (run.Desk f) few read is stops kept =
     (stops, read, kept (λ write. write))
-fault_of_writing law orders from slots parts first last old new book (run.Settle f) few read is stops kept =
+fault_of_writing law orders keeps from slots parts first last old new book (run.Settle f) few read is stops kept =
     fault_of_run from slots parts (IsLiveFrom from slots parts) first last old new book (run.Settle f) read is stops
     (kept (λ write. write))
-fault_of_writing law orders from slots parts first last old new book (run.Compile f) few read is stops kept =
+fault_of_writing law orders keeps from slots parts first last old new book (run.Compile f) few read is stops kept =
     fault_of_run from slots parts (IsLiveFrom from slots parts) first last old new book (run.Compile f) read is stops
     (kept (λ write. write))
-fault_of_writing law orders from slots parts first last old new book run.Refused few read is stops kept =
+fault_of_writing law orders keeps from slots parts first last old new book run.Refused few read is stops kept =
     kept (λ write. write)

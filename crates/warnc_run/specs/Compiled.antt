@@ -10,6 +10,7 @@ use Rattle.alert_book.specs.declared.network.Origin.{Origin}
 use Rattle.alert_book.specs.declared.network.Origin.TheVariants as origin
 use Rattle.alert_book.specs.Book.{Contents, unread}
 use Rattle.alert_book.specs.Origin.{IsBookFrom, LacksGroup, RefusesFrom}
+use Rattle.bsc_table.specs.Promised.{IsServed}
 use Rattle.bsc_table.specs.Record.{Record}
 use Rattle.order_desk.specs.declared.fault.DeskFault.{DeskFault}
 use Rattle.order_desk.specs.declared.fault.DeskFault.TheVariants as desk
@@ -28,8 +29,9 @@ use Rattle.book_runs.specs.Run.{Exchange, IsRun}
 
 -- what is written for the octets that were read: they are a book, or a network book whose group has one; its run gives
 -- each cell a record, which shows what the book means; each message that a cell accepted is one that an order of the
--- book had it start, with that order's text, and no other order started one; and these are the tapes of the records, in
--- the order of the book's cells, and nothing else
+-- book had it start, with that order's text, and no other order started one; each requested broadcast of such a message
+-- is sent whole within its own period, unless the message is background, or its stop or the end of the run cuts the
+-- broadcast short; and these are the tapes of the records, in the order of the book's cells, and nothing else
 pub record IsCompiledFrom (from : Origin) (slots : ℕ) (input output : List ℕ) : Type 0 where
   pub book : Contents
   pub is_book : IsBookFrom from input book
@@ -38,6 +40,7 @@ pub record IsCompiledFrom (from : Origin) (slots : ℕ) (input output : List ℕ
   pub run : IsRun book slots exchanges records
   pub meant : All (IsMeantIn book) records
   pub accepted : All (AreThoseStarted book exchanges) records
+  pub served : All IsServed records
   pub written : output ≡ flat_map tape_of_record records
 
 -- the same of octets that are a book
@@ -116,6 +119,12 @@ abbrev pub IsWriteFault : RunFault → Type 0
 IsWriteFault (fault.Write failed) = ⊤
 IsWriteFault other = ⊥
 
+-- a fault of several workers: the tape at a place isn't that of the cell's record. One worker sends no pages, and makes
+-- the tapes of the records
+abbrev pub IsPieceFault : RunFault → Type 0
+IsPieceFault (fault.Compile (compile.Piece index)) = ⊤
+IsPieceFault other = ⊥
+
 -- why workers made no tapes, of octets that the reader has left before and after: there can't be so many of them, or
 -- the octets are a book, and memory ran out, or the tape at a place isn't that of the cell's record
 abbrev pub IsCompileFault : (from : Origin) (first last : Option (List ℕ)) → CompileFault → Type 0
@@ -137,6 +146,22 @@ IsSettleFault book slots parts (settle.Session part) = part ≤ parts
 IsSettleFault book slots parts other =
     (closed : ClosedDesk) × (passes : List (List Note)) × (closed.cells ≡ book.cells) × (closed.slots ≡ slots)
     × IsFault closed passes other
+
+-- a fault of threads at a desk: the desk's, only if it is out of memory or finds the book of another cell; or the
+-- workers', only if they are out of memory; or of memory
+abbrev pub IsOfRun : RunFault → Type 0
+IsOfRun (fault.Book f) = ⊥
+IsOfRun (fault.NoGroup groups) = ⊥
+IsOfRun (fault.Write failed) = ⊥
+IsOfRun (fault.Settle f) = ⊥
+IsOfRun (fault.Desk f) = IsDeskFault f
+IsOfRun (fault.Compile f) = f ≡ compile.Refused
+IsOfRun fault.Refused = ⊤
+
+-- a fault of the run of a book with so many sessions and by one worker: of its threads, or of its settlement
+abbrev pub IsOfBook : (book : Contents) (slots parts : ℕ) → RunFault → Type 0
+IsOfBook book slots parts (fault.Settle f) = IsSettleFault book slots parts f
+IsOfBook book slots parts other = IsOfRun other
 
 -- the faults with which a run of a book can end for another reason than memory: no contract excludes them, since what a
 -- lock of the desk holds, and what a worker sends, is known by its type alone

@@ -1,6 +1,6 @@
 -- What `warnc report --network` and `warnc compile --network` make of the octets that they read: of a network book the
 -- parts of all its groups, one after the other. Own.
-use Rattle.std.specs.Prelude.{◌≡◌, ◌≢◌, ◌↔◌, ⊤, ℕ, ◌+◌, ◌≤◌, List, [], ◌∷◌, length, Option, Result, true, false}
+use Rattle.std.specs.Prelude.{◌≡◌, ◌≢◌, ◌↔◌, ⊤, ℕ, ◌+◌, ◌<◌, ◌≤◌, List, [], ◌∷◌, length, Option, Result, true, false}
 use Rattle.std.specs.Prelude.{IfErr, IsErrOf, IsTrue, OnOk, take}
 use Rattle.std.specs.Io.KnownBytes.{Appends, Consumes, IsAtEnd, Keeps}
 use Rattle.std.specs.List.{flat_map}
@@ -17,9 +17,8 @@ use Rattle.warnc_run.specs.declared.network.NetworkFault.{NetworkFault}
 use Rattle.warnc_run.specs.declared.network.NetworkFault.TheVariants as fault
 use Rattle.warnc_run.specs.declared.network.Product.{Product}
 use Rattle.warnc_run.specs.declared.network.Product.TheVariants as product
-use Rattle.warnc_run.specs.Compiled.{IsCompiledFrom, Makes}
+use Rattle.warnc_run.specs.Compiled.{IsCompiledFrom, IsOfBook, Makes}
 use Rattle.warnc_run.specs.Reported.{IsReportedFrom}
-use Rattle.warnc_run.specs.RunSteps.{IsOfTapes}
 
 -- the part of the group of this number: what `compile --group` or `report --group` writes of it
 abbrev pub IsPartOf : Product → (slots group : ℕ) (input output : List ℕ) → Type 0
@@ -54,7 +53,8 @@ pub record AreFirstParts (made : Product) (slots count : ℕ) (input output : Li
   pub each : ArePartsFrom made slots input 0 parts
   pub written : output ≡ joined_parts parts
 
--- all of the octets were read, and of what they mean the writer took the first `taken` octets, and no more
+-- all of the octets were read, and of what they mean the writer took the first `taken` octets, and no more: some are
+-- left, if there is any output
 pub record MakesSome (Means : (input output : List ℕ) → Type 0) (first last old new : Option (List ℕ)) : Type 0 where
   pub input : List ℕ
   pub output : List ℕ
@@ -62,29 +62,31 @@ pub record MakesSome (Means : (input output : List ℕ) → Type 0) (first last 
   pub ended : IsAtEnd last
   pub meant : Means input output
   pub taken : ℕ
+  pub some_left : 0 < length output → taken < length output
   pub front : Appends old new (take taken output)
 
--- why there is no part of a group: out of memory; or its book's run, of so many slots, ended with this fault, which is
--- of memory, or one that no contract excludes
+-- why there is no part of a group: out of memory; or its book's run, of so many slots and by one worker, ended with
+-- this fault, which is of memory, or one that no contract excludes
 abbrev pub HasNoPart : (slots group : ℕ) (input : List ℕ) → RunFault → Type 0
 HasNoPart slots group input run.Refused = ⊤
 HasNoPart slots group input other =
-    (book : Contents) × IsGroupBook group input book × IsOfTapes book slots 1 other
+    (book : Contents) × IsGroupBook group input book × IsOfBook book slots 1 other
 
 -- why not all was written: the network book can't be read or is refused, with nothing written; or there is no part of a
--- group, with those of all groups before it written, and nothing else; or the writer failed, and took no more than a
--- front of the parts of some first groups
+-- group that the network has, with those of all groups before it written, and nothing else; or the writer failed, and
+-- took a front of the parts of some first groups, and not all of them
 abbrev pub IsNetworkFault : Product → (slots : ℕ) (first last old new : Option (List ℕ)) → NetworkFault → Type 0
 IsNetworkFault made slots first last old new (fault.Network f) = RefusesNetwork first last 0 f × Keeps old new
 IsNetworkFault made slots first last old new (fault.Group group f) =
-    (wrote : Makes (AreFirstParts made slots group) first last old new) × HasNoPart slots group wrote.input f
+    (wrote : Makes (AreFirstParts made slots group) first last old new) × (group < wrote.meant.groups)
+    × HasNoPart slots group wrote.input f
 IsNetworkFault made slots first last old new fault.WriteFailed =
     (count : ℕ) × MakesSome (AreFirstParts made slots count) first last old new
 
 -- a fault of the network book
-abbrev pub IsOfBook : NetworkFault → Type 0
-IsOfBook (fault.Network f) = ⊤
-IsOfBook other = ⊥
+abbrev pub IsOfNetworkBook : NetworkFault → Type 0
+IsOfNetworkBook (fault.Network f) = ⊤
+IsOfNetworkBook other = ⊥
 
 -- what is so of it at any reader and any writer
 pub record IsNetworkAtEnds {R W : Type 0} (result : Result (Unit {0}) NetworkFault) (held : W → Option (List ℕ))
@@ -92,8 +94,8 @@ pub record IsNetworkAtEnds {R W : Type 0} (result : Result (Unit {0}) NetworkFau
   -- what is done left a sink that has not failed
   pub not_failed : OnOk result (sink_failed new ≡ false)
   -- nothing is written with a fault of the network book, nor is the sink touched
-  pub nothing_written : IfErr result (λ f. IsOfBook f → Keeps (held (writer_of old)) (held (writer_of new)))
-  pub untouched : IfErr result (λ f. IsOfBook f → new ≡ old)
+  pub nothing_written : IfErr result (λ f. IsOfNetworkBook f → Keeps (held (writer_of old)) (held (writer_of new)))
+  pub untouched : IfErr result (λ f. IsOfNetworkBook f → new ≡ old)
   -- a failed reader is reported exactly if the source has failed
   pub read : IsErrOf result (fault.Network unread) ↔ IsTrue (source_failed last)
   -- a failed writer is reported only if the sink has failed, and no other fault has it fail

@@ -1,11 +1,12 @@
 -- Steps of a network's run (own). The contracts of private functions alone speak of them.
-use Rattle.std.specs.Prelude.{◌≡◌, ⊤, ℕ, ◌+◌, ◌<◌, ◌≤◌, Bool, false, true, List, length, slice_index_or, All, Option}
-use Rattle.std.specs.Prelude.{Result, Ok, Err, take}
+use Rattle.std.specs.Prelude.{◌≡◌, ⊤, ℕ, ◌+◌, ◌*◌, ◌<◌, ◌≤◌, Bool, false, true, List, length, slice_index_or, All}
+use Rattle.std.specs.Prelude.{Option, Result, Ok, Err, take}
 use Rattle.std.specs.Io.KnownBytes.{Appends}
 use Rattle.warnc_run.specs.declared.fault.RunFault.{RunFault}
 use Rattle.warnc_run.specs.declared.network.NetworkFault.{NetworkFault}
 use Rattle.warnc_run.specs.declared.network.NetworkFault.TheVariants as fault
 use Rattle.warnc_run.specs.declared.network.Product.{Product}
+use Rattle.warnc_run.specs.declared.network.Product.TheVariants as product
 use Rattle.warnc_run.specs.declared.parts.Part.{Part}
 use Rattle.warnc_run.specs.declared.parts.Part.TheVariants as parts
 use Rattle.warnc_run.specs.Network.{joined_parts, ArePartsFrom, HasNoPart, IsPartOf}
@@ -39,11 +40,17 @@ pub record WritesParts (made : Product) (slots group count : ℕ) (input : List 
     pub each : ArePartsFrom made slots input group parts
     pub appended : Appends old new (joined_parts parts)
 
--- so many of the octets were written, and no more
+-- so many of the octets were written, and no more, and not all
 abbrev pub WritesFrontOf : List ℕ → (old new : Option (List ℕ)) → Type 0
-WritesFrontOf octets old new = (taken : ℕ) × Appends old new (take taken octets)
+WritesFrontOf octets old new = (taken : ℕ) × (taken < length octets) × Appends old new (take taken octets)
 
--- no more than a front of the parts of at most so many was written
+-- how many groups are run before their parts are written: one for each worker where these are tapes, and eight where
+-- they are reports
+abbrev pub groups_together : Product → (workers : ℕ) → ℕ
+groups_together product.Tapes workers = workers
+groups_together product.Report workers = 8 * workers
+
+-- a front of the parts of at most so many was written, and not all of them
 pub record WritesPartsFront (made : Product) (slots group most : ℕ) (input : List ℕ) (old new : Option (List ℕ)) : Type
     0
   where

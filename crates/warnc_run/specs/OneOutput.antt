@@ -6,7 +6,9 @@ use Rattle.cbsp_wire.specs.declared.message.Cell.{Cell}
 use Rattle.warnc_run.specs.Charted.{IsCharted}
 use Rattle.warnc_run.specs.Compiled.{IsCompiledFrom}
 use Rattle.warnc_run.specs.Live.{IsLiveFrom}
+use Rattle.warnc_run.specs.Network.{IsOfNetwork}
 use Rattle.warnc_run.specs.Reported.{IsReportedFrom}
+use Rattle.warnc_run.specs.declared.network.Product.{Product}
 
 -- the tapes that are written for a book are the same whatever the number of workers, the machine and the day
 abbrev pub CompiledIsOne : Type 0
@@ -27,6 +29,13 @@ abbrev pub ChartedIsOne : Type 0
 ChartedIsOne = (slots : ℕ) (wanted : Option Cell) (input output other : List ℕ)
     → IsCharted slots wanted input output
     → IsCharted slots wanted input other
+    → output ≡ other
+
+-- and so are the tapes or the reports of all groups of a network
+abbrev pub NetworkIsOne : Type 0
+NetworkIsOne = (made : Product) (slots : ℕ) (input output other : List ℕ)
+    → IsOfNetwork made slots input output
+    → IsOfNetwork made slots input other
     → output ≡ other
 
 -- with one session, `live` writes the tapes that `compile` writes

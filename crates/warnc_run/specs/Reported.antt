@@ -15,15 +15,13 @@ use Rattle.handset.specs.Tape.{TapeReading}
 use Rattle.book_runs.specs.Meant.{IsMeantIn}
 use Rattle.book_runs.specs.Ordered.{AreThoseStarted}
 use Rattle.book_runs.specs.Run.{Exchange, IsRun}
-use Rattle.parallel_compile.specs.declared.fault.CompileFault.TheVariants as compile
 use Rattle.report.specs.ReportText.{part_text}
 use Rattle.report.specs.Rows.{report_rows}
 use Rattle.report.specs.declared.fault.ReportFault.TheVariants as report
-use Rattle.warnc_run.specs.declared.fault.RunFault.{RunFault}
 use Rattle.warnc_run.specs.declared.fault.RunFault.TheVariants as run
 use Rattle.warnc_run.specs.declared.report_run.ReportRunFault.{ReportRunFault}
 use Rattle.warnc_run.specs.declared.report_run.ReportRunFault.TheVariants as fault
-use Rattle.warnc_run.specs.Compiled.{HasReadFrom, IsRunFault, IsWriteFault, MakesFront}
+use Rattle.warnc_run.specs.Compiled.{HasReadFrom, IsPieceFault, IsRunFault, IsWriteFault, MakesFront}
 
 -- what a handset shows that reads the blocks of a record, with the record's cell and slots
 abbrev pub reading_of_record : Record → TapeReading
@@ -56,11 +54,6 @@ IsReported slots input output = IsReportedFrom origin.Book slots input output
 abbrev pub IsReportWriteFault : ReportRunFault → Type 0
 IsReportWriteFault (fault.Report report.WriteFailed) = ⊤
 IsReportWriteFault other = ⊥
-
--- a fault of the workers: the tape at a place isn't that of the cell's record
-abbrev pub IsPieceFault : RunFault → Type 0
-IsPieceFault (run.Compile (compile.Piece index)) = ⊤
-IsPieceFault other = ⊥
 
 -- why no report was made: a fault of the run, with nothing written; or memory ran out after it, with nothing written;
 -- or the writer failed with a front of the report. The cells never differ, and no tape is another record's

@@ -15,7 +15,7 @@ use Rattle.parallel_compile.specs.declared.fault.CompileFault.TheVariants as com
 use Rattle.report.specs.Rows.{report_rows}
 use Rattle.report.specs.declared.row.Row.{Row}
 use Rattle.report.specs.declared.fault.ReportFault.TheVariants as report
-use Rattle.warnc_run.specs.Compiled.{IsDeskFault, IsSettleFault}
+use Rattle.warnc_run.specs.Compiled.{IsOfBook, IsOfRun}
 use Rattle.warnc_run.specs.Reported.{reading_of_record}
 use Rattle.warnc_run.specs.declared.fault.RunFault.{RunFault}
 use Rattle.warnc_run.specs.declared.fault.RunFault.TheVariants as fault
@@ -31,22 +31,6 @@ abbrev pub HasNoBookToRun : (from : Origin) (old new : Option (List ℕ)) → Ru
 HasNoBookToRun from old new (fault.Book f) = RefusesFrom from old new f
 HasNoBookToRun from old new (fault.NoGroup groups) = LacksGroup from old new groups
 HasNoBookToRun from old new other = ⊥
-
--- a fault of threads at a desk: the desk's, only if it is out of memory or finds the book of another cell; or the
--- workers', only if they are out of memory; or of memory
-abbrev pub IsOfRun : RunFault → Type 0
-IsOfRun (fault.Book f) = ⊥
-IsOfRun (fault.NoGroup groups) = ⊥
-IsOfRun (fault.Write failed) = ⊥
-IsOfRun (fault.Settle f) = ⊥
-IsOfRun (fault.Desk f) = IsDeskFault f
-IsOfRun (fault.Compile f) = f ≡ compile.Refused
-IsOfRun fault.Refused = ⊤
-
--- a fault of the run of a book with so many sessions: of its threads, or of its settlement
-abbrev pub IsOfBook : (book : Contents) (slots parts : ℕ) → RunFault → Type 0
-IsOfBook book slots parts (fault.Settle f) = IsSettleFault book slots parts f
-IsOfBook book slots parts other = IsOfRun other
 
 -- a fault of the tapes of such a run: of the run, or of the workers, but for their number
 abbrev pub IsOfTapes : (book : Contents) (slots parts : ℕ) → RunFault → Type 0

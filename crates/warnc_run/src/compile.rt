@@ -4,7 +4,7 @@ ghost use Rattle.std.specs.Prelude.{◌≡◌, ◌↔◌, IfErr, IsErrOf, OnOk};
 ghost use Rattle.device_ends.specs.Stream.{Between, FaultBetween};
 ghost use Rattle.parallel_compile.specs.declared.fault.CompileFault.TheVariants as compile;
 ghost use Rattle.warnc_run.specs.Compiled.{AreWorkers, IsCompileFaultFrom, IsCompileRunFault, IsCompiled};
-ghost use Rattle.warnc_run.specs.Compiled.{IsCompiledFrom, IsMade, IsRunAtEnds, IsUnmade, Makes};
+ghost use Rattle.warnc_run.specs.Compiled.{IsCompiledFrom, IsMade, IsPieceFault, IsRunAtEnds, IsUnmade, Makes};
 ghost use Rattle.warnc_run.specs.declared.fault.RunFault.TheVariants as faults;
 
 use crate::fault::RunFault;
@@ -44,6 +44,9 @@ pub fn compile_stream<T: AllocGlobal + Threads + Wait + Sync, R: Read, W: Write>
     ensures untried { IsErrOf result (faults.Compile compile.Workers)
         → (source.new ≡ source.old) × (sink.new ≡ sink.old) }
 
+    // One worker sends no pages, so no tape of its is another record's.
+    ensures no_piece { workers ≡ 1 → IfErr result (λ fault. IsPieceFault fault → ⊥) }
+
     // At any reader and any writer.
     ensures any_ends { AreWorkers workers
         → IsRunAtEnds result W.contents source.old source.new sink.old sink.new }
@@ -74,6 +77,9 @@ pub fn compile_from<T: AllocGlobal + Threads + Wait + Sync, R: Read, W: Write>(
     ensures workers { IsErrOf result (faults.Compile compile.Workers) ↔ (AreWorkers workers → ⊥) }
     ensures untried { IsErrOf result (faults.Compile compile.Workers)
         → (source.new ≡ source.old) × (sink.new ≡ sink.old) }
+
+    // One worker sends no pages, so no tape of its is another record's.
+    ensures no_piece { workers ≡ 1 → IfErr result (λ fault. IsPieceFault fault → ⊥) }
 
     // At any reader and any writer.
     ensures any_ends { AreWorkers workers

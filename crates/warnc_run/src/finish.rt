@@ -1,6 +1,6 @@
 //! The end of a run: its tapes are written.
 
-ghost use Rattle.std.specs.Prelude.{◌≡◌, ◌<◌, ℕ, List, length, map, true, is_err, All, IfErr, OnOk};
+ghost use Rattle.std.specs.Prelude.{◌≡◌, ◌<◌, ℕ, List, length, map, false, true, is_err, All, IfErr, OnErr, OnOk};
 ghost use Rattle.std.specs.Io.KnownBytes.{Appends};
 ghost use Rattle.std.specs.List.{flat_map};
 ghost use Rattle.cbch_blocks.specs.RecordBlocks.{tape_of_record};
@@ -19,6 +19,7 @@ pub(crate) fn write_tapes<W: Write>(tapes: &[Tape], sink: &mut Sink<W>) -> Resul
         (W.contents (writer_of sink.new)) (flat_map (λ (tape : List ℕ). tape) tapes.now)) }
     ensures err { IfErr result (λ failed. TakesFront tapes.now failed.written (W.contents (writer_of sink.old))
         (W.contents (writer_of sink.new))) }
+    ensures some { sink_failed sink.old ≡ false → OnErr result (0 < length tapes.now) }
     ensures failed { sink_failed sink.new ≡ is_err result }
     ensures failed_stays { sink_failed sink.old ≡ true → sink.new ≡ sink.old }
 {

@@ -1,6 +1,7 @@
 //! Laws of what is written.
 
-ghost use Rattle.warnc_run.specs.OneOutput.{ChartedIsOne, CompiledIsOne, LiveOfOneIsCompiled, ReportedIsOne};
+ghost use Rattle.warnc_run.specs.OneOutput.{ChartedIsOne, CompiledIsOne, LiveOfOneIsCompiled, NetworkIsOne};
+ghost use Rattle.warnc_run.specs.OneOutput.{ReportedIsOne};
 
 /// States, as its contract, that what is written for a book is a function of the book's octets and of the number of
 /// slots. Does nothing: its body names the laws that carry it.
@@ -12,10 +13,14 @@ pub fn output_laws()
     ensures reported { ReportedIsOne }
     ensures charted { ChartedIsOne }
 
+    // And so is what is written of all groups of a network.
+    ensures network { NetworkIsOne }
+
     // With one session, `live` writes the tapes that `compile` writes. With more, in which order they come to a cell is
     // chance, and the tapes may differ.
     ensures live { LiveOfOneIsCompiled }
 {
+    alert_book::network_laws();
     book_runs::one_run_law();
     book_runs::session_laws();
 }

@@ -3,7 +3,7 @@
 ghost use Rattle.std.specs.Prelude.{◌≡◌, ◌↔◌, ◌<◌, ◌≤◌, IfErr, IsErrOf, OnOk};
 ghost use Rattle.device_ends.specs.Stream.{Between, FaultBetween};
 ghost use Rattle.parallel_compile.specs.declared.fault.CompileFault.TheVariants as compile;
-ghost use Rattle.warnc_run.specs.Compiled.{AreWorkers, IsMade, IsRunAtEnds, IsUnmade, Makes};
+ghost use Rattle.warnc_run.specs.Compiled.{AreWorkers, IsMade, IsPieceFault, IsRunAtEnds, IsUnmade, Makes};
 ghost use Rattle.warnc_run.specs.Live.{IsLive, IsLiveFault, IsLiveFaultFrom, IsLiveFrom};
 ghost use Rattle.warnc_run.specs.declared.fault.RunFault.TheVariants as faults;
 
@@ -40,10 +40,10 @@ use std::thread::Threads;
 /// Returns the book's fault, the desk's, the settlement's, the workers' or [`RunFault::Refused`] with nothing written,
 /// and [`RunFault::Write`] with some tapes written whole, and of the one under way as many octets as it names. What a
 /// lock of the desk holds is known by its type alone, and what a worker sends by the type of its messages, so no
-/// contract excludes [`RunFault::Desk`] with `Unknown`, [`RunFault::Settle`], and [`CompileFault::Piece`] for a tape
-/// that isn't its record's; the desk refuses no order for what it says. With no workers or over 64 it returns
-/// [`RunFault::Compile`] with [`CompileFault::Workers`], before anything is read. Of sessions that met a fault of the
-/// desk, the least one's is returned, unless out of memory.
+/// contract excludes [`RunFault::Desk`] with `Unknown`, [`RunFault::Settle`], and of several workers
+/// [`CompileFault::Piece`] for a tape that isn't its record's; the desk refuses no order for what it says. With no
+/// workers or over 64 it returns [`RunFault::Compile`] with [`CompileFault::Workers`], before anything is read. Of
+/// sessions that met a fault of the desk, the least one's is returned, unless out of memory.
 pub fn live_stream<T: AllocGlobal + Threads + Wait + Sync, R: Read, W: Write, G: Gate>(
     rt: &T,
     source: &mut Source<R>,
@@ -64,6 +64,9 @@ pub fn live_stream<T: AllocGlobal + Threads + Wait + Sync, R: Read, W: Write, G:
     ensures workers { IsErrOf result (faults.Compile compile.Workers) ↔ (AreWorkers workers → ⊥) }
     ensures untried { IsErrOf result (faults.Compile compile.Workers)
         → (source.new ≡ source.old) × (sink.new ≡ sink.old) }
+
+    // One worker sends no pages, so no tape of its is another record's.
+    ensures no_piece { workers ≡ 1 → IfErr result (λ fault. IsPieceFault fault → ⊥) }
 
     // At any reader and any writer.
     ensures any_ends { AreWorkers workers
@@ -109,12 +112,17 @@ pub fn live_from<T: AllocGlobal + Threads + Wait + Sync, R: Read, W: Write, G: G
     ensures untried { IsErrOf result (faults.Compile compile.Workers)
         → (source.new ≡ source.old) × (sink.new ≡ sink.old) }
 
+    // One worker sends no pages, so no tape of its is another record's.
+    ensures no_piece { workers ≡ 1 → IfErr result (λ fault. IsPieceFault fault → ⊥) }
+
     // At any reader and any writer.
     ensures any_ends { AreWorkers workers
         → IsRunAtEnds result W.contents source.old source.new sink.old sink.new }
 {
-    // A handset is shown what the book means, whatever the cells answered, and whichever session came first.
+    // A handset is shown what the book means, whatever the cells answered, and whichever session came first; and each
+    // cell keeps the guarantee.
     book_runs::session_laws();
+    bsc_table::legal_histories();
     let Some(workers) = Workers::new(workers) else {
         return Err(RunFault::Compile(CompileFault::Workers));
     };

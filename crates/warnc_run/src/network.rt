@@ -59,7 +59,8 @@ pub enum NetworkFault {
 ///
 /// [`NetworkFault::Network`] with the fault of the network book and nothing written, [`NetworkFault::Group`] with the
 /// first group that has no part, after those before it are written, and [`NetworkFault::WriteFailed`] with a front of
-/// the parts.
+/// the parts of the first groups, and not all of them. The fault of a group is one that the run of its book by one
+/// worker has, or `Refused`.
 pub fn network_stream<T: AllocGlobal + Threads + Wait + Sync, R: Read, W: Write>(
     rt: &T,
     source: &mut Source<R>,

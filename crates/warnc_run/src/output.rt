@@ -2,7 +2,7 @@
 
 ghost use Rattle.std.specs.Prelude.{◌≡◌, false, true, IfErr, OnOk};
 ghost use Rattle.device_ends.specs.Sink.{sink_failed, writer_of};
-ghost use Rattle.warnc_run.specs.Compiled.{IsWriteFault};
+ghost use Rattle.warnc_run.specs.Compiled.{IsPieceFault, IsWriteFault};
 ghost use Rattle.warnc_run.specs.RunSteps.{HasWritten, IsSomeBook, StopsAtTape};
 
 use crate::counts::{Sessions, Workers};
@@ -36,6 +36,7 @@ fn write_by_one<T: AllocGlobal + Threads + Wait + Sync, W: Write, G: Gate>(
         (W.contents (writer_of sink.new))) }
     ensures err { IfErr result (StopsAtTape book slots sessions.number (W.contents (writer_of sink.old))
         (W.contents (writer_of sink.new))) }
+    ensures no_piece { IfErr result (λ fault. IsPieceFault fault → ⊥) }
     ensures not_failed { OnOk result (sink_failed sink.new ≡ false) }
     ensures untouched { IfErr result (λ fault. (IsWriteFault fault → ⊥) → sink.new ≡ sink.old) }
     ensures write { IfErr result (λ fault. IsWriteFault fault → sink_failed sink.new ≡ true) }
@@ -96,6 +97,7 @@ pub(crate) fn write_run<T: AllocGlobal + Threads + Wait + Sync, W: Write, G: Gat
         (W.contents (writer_of sink.new))) }
     ensures err { IfErr result (StopsAtTape book slots sessions.number (W.contents (writer_of sink.old))
         (W.contents (writer_of sink.new))) }
+    ensures no_piece { workers.number ≡ 1 → IfErr result (λ fault. IsPieceFault fault → ⊥) }
     ensures not_failed { OnOk result (sink_failed sink.new ≡ false) }
     ensures untouched { IfErr result (λ fault. (IsWriteFault fault → ⊥) → sink.new ≡ sink.old) }
     ensures write { IfErr result (λ fault. IsWriteFault fault → sink_failed sink.new ≡ true) }

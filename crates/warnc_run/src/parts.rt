@@ -1,13 +1,14 @@
 //! The parts of a network's groups: made side by side, and written in order.
 
-ghost use Rattle.std.specs.Prelude.{◌≡◌, ◌+◌, ◌<◌, ◌≤◌, false, true, is_err, length, vec_len, All, IfErr, IfOk, OnErr};
-ghost use Rattle.std.specs.Prelude.{OnOk};
+ghost use Rattle.std.specs.Prelude.{◌≡◌, ◌+◌, ◌-◌, ◌<◌, ◌≤◌, false, true, is_err, length, min, vec_len, All, IfErr};
+ghost use Rattle.std.specs.Prelude.{IfOk, OnErr, OnOk};
 ghost use Rattle.std.specs.Io.KnownBytes.{Appends};
 ghost use Rattle.device_ends.specs.Sink.{sink_failed, writer_of};
 ghost use Rattle.alert_book.specs.Network.{HasGroups, IsGroupBook};
 ghost use Rattle.warnc_run.specs.Network.{joined_parts, HasNoPart, IsPartOf};
-ghost use Rattle.warnc_run.specs.NetworkSteps.{is_of_writer, octets_of_part, AreMadeFrom, HasNoEmptyTape, IsMadeOf};
-ghost use Rattle.warnc_run.specs.NetworkSteps.{IsWritten, StopsAt, StopsParts, WritesFrontOf, WritesParts};
+ghost use Rattle.warnc_run.specs.NetworkSteps.{groups_together, is_of_writer, octets_of_part, AreMadeFrom};
+ghost use Rattle.warnc_run.specs.NetworkSteps.{HasNoEmptyTape, IsMadeOf, IsWritten, StopsAt, StopsParts};
+ghost use Rattle.warnc_run.specs.NetworkSteps.{WritesFrontOf, WritesParts};
 ghost use Rattle.warnc_run.specs.declared.fault.RunFault.TheVariants as faults;
 
 use crate::counts::Workers;
@@ -48,7 +49,8 @@ enum Part {
 impl Part {
     /// Writes it.
     fn write<W: Write>(&self, sink: &mut Sink<W>) -> Result<(), Failed>
-        requires { HasNoEmptyTape self.now }
+        requires some { HasNoEmptyTape self.now }
+        requires open { sink_failed sink.old ≡ false }
         ensures ok { OnOk result (Appends (W.contents (writer_of sink.old))
             (W.contents (writer_of sink.new)) (octets_of_part self.now)) }
         ensures err { OnErr result (WritesFrontOf (octets_of_part self.now) (W.contents (writer_of sink.old))
@@ -57,14 +59,29 @@ impl Part {
     {
         match self {
             Part::Tapes(tapes) => write_all_tapes(tapes, sink),
-            Part::Report(text) => write_all(sink, text),
+            Part::Report(text) => write_text(text, sink),
         }
     }
 }
 
+/// Writes the text of a report. That of a later group in which no cell was asked anything is empty, and is not written.
+fn write_text<W: Write>(text: &[u8], sink: &mut Sink<W>) -> Result<(), Failed>
+    requires open { sink_failed sink.old ≡ false }
+    ensures ok { OnOk result (Appends (W.contents (writer_of sink.old)) (W.contents (writer_of sink.new)) text.now) }
+    ensures err { OnErr result (WritesFrontOf text.now (W.contents (writer_of sink.old))
+        (W.contents (writer_of sink.new))) }
+    ensures failed { sink_failed sink.new ≡ is_err result }
+{
+    if text.is_empty() {
+        return Ok(());
+    }
+    write_all(sink, text)
+}
+
 /// Writes tapes, one after the other.
 fn write_all_tapes<W: Write>(tapes: &[Tape], sink: &mut Sink<W>) -> Result<(), Failed>
-    requires { All (λ tape. 0 < length tape) tapes.now }
+    requires some { All (λ tape. 0 < length tape) tapes.now }
+    requires open { sink_failed sink.old ≡ false }
     ensures ok { OnOk result (Appends (W.contents (writer_of sink.old))
         (W.contents (writer_of sink.new)) (joined_parts tapes.now)) }
     ensures err { OnErr result (WritesFrontOf (joined_parts tapes.now) (W.contents (writer_of sink.old))
@@ -114,8 +131,10 @@ impl Network<'_> {
         requires counted { HasGroups 0 self.now.octets.now self.now.groups }
         ensures { IsMadeOf Product.Tapes self.now.slots group self.now.octets.now result }
     {
-        // A handset is shown what the book means, and a run of one session is a run of the book.
+        // A handset is shown what the book means, a run of one session is a run of the book, and each cell keeps the
+        // guarantee.
         book_runs::session_laws();
+        bsc_table::legal_histories();
         let book = self.book(rt, group)?;
         let tapes = tapes_by_one(rt, book, self.slots)?;
         Ok(Part::Tapes(tapes))
@@ -204,6 +223,7 @@ impl Network<'_> {
         workers: Workers,
         sink: &mut Sink<W>,
     ) -> Result<(), NetworkFault>
+        requires as_many { count ≡ min (self.now.groups - first) (groups_together made workers.number) }
         requires some { 0 < count }
         requires few { first + count ≤ self.now.groups }
         requires counted { HasGroups 0 self.now.octets.now self.now.groups }
@@ -244,7 +264,7 @@ fn none_yet(alloc: Global, count: u16) -> Result<Vec<Result<Part, RunFault>>, Al
 /// How many groups are run before their parts are written: some for each worker, so that one whose groups are soon done
 /// seldom waits for the others, but one for each of tapes, which take much memory.
 fn groups_at_once(made: Product, workers: Workers) -> u16
-    ensures { 0 < result }
+    ensures { result ≡ groups_together made workers.number }
 {
     let each = workers.number as u16;
     match made {

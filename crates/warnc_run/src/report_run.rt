@@ -227,14 +227,14 @@ fn rows_by<T: AllocGlobal + Threads + Wait + Sync>(
     Ok(rows)
 }
 
-/// Appends the rows of some records, by what handsets read of their tapes.
+/// Appends the rows of no more records than there are workers, by what handsets read of their tapes.
 fn push_rows<T: AllocGlobal + Threads + Wait + Sync>(
     rt: &T,
     records: &[CellRecord],
     workers: Workers,
     rows: &mut Vec<Row>,
 ) -> Result<(), ReportRunFault>
-    requires few { length records.now ≤ 64 }
+    requires at_once { length records.now ≤ workers.number }
     requires tapes { All (λ r. IsTape (tape_of_record r) (reading_of_record r)) records.now }
     ensures ok { OnOk result (rows.new.items ≡ rows.old.items ++ own_rows records.now) }
     ensures err { IfErr result IsOfReport }
@@ -272,14 +272,14 @@ fn readings_by<T: AllocGlobal + Threads + Wait + Sync>(
     Ok(readings)
 }
 
-/// Makes the tapes of some records, and appends what handsets read of them.
+/// Makes the tapes of no more records than there are workers, and appends what handsets read of them.
 fn read_group<T: AllocGlobal + Threads + Sync>(
     rt: &T,
     records: &[CellRecord],
     workers: Workers,
     readings: &mut Vec<Reading>,
 ) -> Result<(), ReportRunFault>
-    requires few { length records.now ≤ 64 }
+    requires at_once { length records.now ≤ workers.number }
     requires tapes { All (λ r. IsTape (tape_of_record r) (reading_of_record r)) records.now }
     ensures ok { OnOk result (readings_of readings.new.items
         ≡ readings_of readings.old.items ++ map reading_of_record records.now) }

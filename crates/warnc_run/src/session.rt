@@ -1,7 +1,8 @@
 //! A session of a book at a desk: its orders, and the replies to them.
 
 ghost use Rattle.std.specs.Prelude.{◌<◌, ℕ, IfErr, List};
-ghost use Rattle.warnc_run.specs.RunSteps.{IsOfRun, IsSomeBook};
+ghost use Rattle.warnc_run.specs.Compiled.{IsOfRun};
+ghost use Rattle.warnc_run.specs.RunSteps.{IsSomeBook};
 
 use crate::fault::RunFault;
 use alert_book::{Book, Session};

@@ -1,7 +1,8 @@
 //! The sessions of a book's parts, side by side.
 
 ghost use Rattle.std.specs.Prelude.{◌≡◌, ◌⊎◌, ◌<◌, ℕ, map, vec_len, All, IfErr, IfOk, List};
-ghost use Rattle.warnc_run.specs.RunSteps.{IsFirstUserFault, IsOfRun, IsSomeBook};
+ghost use Rattle.warnc_run.specs.Compiled.{IsOfRun};
+ghost use Rattle.warnc_run.specs.RunSteps.{IsFirstUserFault, IsSomeBook};
 ghost use Rattle.warnc_run.specs.declared.fault.RunFault.TheVariants as faults;
 
 use crate::counts::Sessions;

@@ -2,7 +2,8 @@
 
 ghost use Rattle.std.specs.Prelude.{◌≡◌, ◌≤◌, ℕ, List, length, IfErr, IfOk};
 ghost use Rattle.book_runs.specs.Live.{IsLiveRun};
-ghost use Rattle.warnc_run.specs.RunSteps.{HaveRunLive, IsOfBook, IsSomeBook};
+ghost use Rattle.warnc_run.specs.Compiled.{IsOfBook};
+ghost use Rattle.warnc_run.specs.RunSteps.{HaveRunLive, IsSomeBook};
 
 use crate::counts::Sessions;
 use crate::fault::RunFault;

@@ -2,7 +2,8 @@
 
 ghost use Rattle.std.specs.Prelude.{◌≡◌, ℕ, List, IfErr, IfOk, map};
 ghost use Rattle.cbch_blocks.specs.RecordBlocks.{tape_of_record};
-ghost use Rattle.warnc_run.specs.RunSteps.{AreTapesOf, HaveRunLive, IsOfBook, IsOfTapes, IsSomeBook};
+ghost use Rattle.warnc_run.specs.Compiled.{IsOfBook};
+ghost use Rattle.warnc_run.specs.RunSteps.{AreTapesOf, HaveRunLive, IsOfTapes, IsSomeBook};
 
 use crate::counts::{Sessions, Workers};
 use crate::fault::RunFault;
@@ -76,7 +77,7 @@ pub(crate) fn tapes_by_one<T: AllocGlobal + Threads + Wait + Sync>(
 ) -> Result<Vec<Tape>, RunFault>
     requires book { IsSomeBook book }
     ensures ok { IfOk result (λ tapes. AreTapesOf book slots 1 tapes.items) }
-    ensures err { IfErr result (IsOfTapes book slots 1) }
+    ensures err { IfErr result (IsOfBook book slots 1) }
 {
     let records = records_of_book(rt, &book, slots, Workers { number: 1 })?;
     // what the book holds is free for the tapes

@@ -2,7 +2,7 @@
 
 ghost use Rattle.std.specs.Prelude.{◌≡◌, ◌<◌, ◌≤◌, length, All, IfErr, IfOk};
 ghost use Rattle.tickets.specs.Draws.{first_seat, IsSeatOf};
-ghost use Rattle.warnc_run.specs.RunSteps.{IsOfRun};
+ghost use Rattle.warnc_run.specs.Compiled.{IsOfRun};
 
 use crate::counts::Workers;
 use crate::fault::RunFault;

@@ -15,8 +15,9 @@ returns-clause-ok g c =
       output = joined wrote.tapes;
       read = read.consumed;
       ended = read.ended;
-      meant = made_live c.session_laws.ensures.shown c.session_laws.ensures.accepted c.args.origin read.input
-          c.in_ok-book.book c.args.slots c.args.sessions wrote.tapes few read.meant wrote.are;
+      meant = made_live c.session_laws.ensures.shown c.session_laws.ensures.accepted
+          c.legal_histories.ensures.legal_histories_are_served c.args.origin read.input c.in_ok-book.book c.args.slots
+          c.args.sessions wrote.tapes few read.meant wrote.are;
       appended = wrote.taken;
     }
 
@@ -31,9 +32,10 @@ returns-in_err-write_run-clause-err g c =
       ended = read.ended;
       is_book = read.meant;
     } in
-    let fault = fault_of_writing c.session_laws.ensures.shown c.session_laws.ensures.accepted c.args.origin c.args.slots
-    c.args.sessions _ _ _ _ c.in_ok-book.book c.in_err-write_run.field-0.0 few whole refl
-    c.in_err-write_run.ensures.err (λ other. rw (c.in_err-write_run.ensures.untouched other) (Keeps-refl _)) in
+    let fault = fault_of_writing c.session_laws.ensures.shown c.session_laws.ensures.accepted
+    c.legal_histories.ensures.legal_histories_are_served c.args.origin c.args.slots c.args.sessions _ _ _ _
+    c.in_ok-book.book c.in_err-write_run.field-0.0 few whole refl c.in_err-write_run.ensures.err
+    (λ other. rw (c.in_err-write_run.ensures.untouched other) (Keeps-refl _)) in
     let is : c.from_residual-in_err-write_run.result ≡ Err c.in_err-write_run.field-0.0 = search
     (rules, c.from_residual-in_err-write_run.ensures) in
     where_it_is _ c.from_residual-in_err-write_run.result c.in_err-write_run.field-0.0 is fault

@@ -14,7 +14,8 @@ returns g c =
     let input = c.args.self.now.octets.now in
     let from = origin.Group c.args.group in (
       made_by_one c.session_laws.ensures.one from slots input _
-          (made_live c.session_laws.ensures.shown c.session_laws.ensures.accepted from input c.in_ok-book.book slots 1
+          (made_live c.session_laws.ensures.shown c.session_laws.ensures.accepted
+          c.legal_histories.ensures.legal_histories_are_served from input c.in_ok-book.book slots 1
           c.in_ok-tapes.tapes.items c.args.self.now.few_slots c.in_ok-book.ensures.ok are),
       tapes_have_octets c.in_ok-tapes.tapes.items are.records are.made,
     )
