@@ -1,11 +1,12 @@
--- What `verify` refuses: a fault of status 1 is one of the input.
-use Rattle.std.proofs.Common.{◌≡◌, ◌≢◌, ◌⊎◌, ℕ, ◌≤◌, List, Option, None, Some, IfSome, take}
-use Rattle.std.proofs.Common.{refl, zero, suc}
-use Rattle.std.proofs.Common.{true, false, Err, IsTrue}
+-- What `verify` writes and refuses, and what its statuses say of the ends.
+use Rattle.std.proofs.Common.{◌≡◌, ◌≢◌, ◌⊎◌, ◌↔◌, ℕ, ◌≤◌, List, [], Option, None, Some, IfSome}
+use Rattle.std.proofs.Common.{refl, zero, suc, ap}
+use Rattle.std.proofs.Common.{true, false, Ok, Err, Result, IsErrOf, IsTrue}
 use Rattle.std.proofs.Common.{sym, subst, arith, inl, inr, rules}
 use Rattle.std.specs.Io.KnownBytes.{Keeps}
 use Rattle.alert_book.specs.declared.network.Origin.{Origin}
 use Rattle.alert_book.specs.Book.{fault_at, unread}
+use Rattle.alert_book.specs.declared.fault.BookFault.{BookFault}
 use Rattle.alert_book.specs.declared.fault.BookFaultKind.{BookFaultKind}
 use Rattle.alert_book.specs.declared.fault.BookFaultKind.TheVariants as kinds
 use Rattle.cbs_page.specs.declared.paging.TextFault.TheVariants as text
@@ -21,40 +22,129 @@ use Rattle.order_desk.specs.declared.settle.SettleFault.TheVariants as settle
 use Rattle.parallel_compile.specs.declared.fault.CompileFault.TheVariants as compile
 use Rattle.warnc_run.specs.declared.fault.RunFault.{RunFault}
 use Rattle.warnc_run.specs.declared.fault.RunFault.TheVariants as run
-use Rattle.warnc_verify.specs.Input.{IsInputFault, IsOfInput, IsRunInMemory, IsVerifyBetween}
-use Rattle.warnc_verify.specs.Verified.{IsDifference, HasWritten}
+use Rattle.warnc_run.specs.Records.{AreRecordsFrom}
+use Rattle.warnc_verify.specs.Verified.{DiffersBy, FindsAndWrites, HasDifferences, HasWritten, IsBookFault}
+use Rattle.warnc_verify.specs.Verified.{IsDifference, IsOfBookOrRun, IsVerified, IsVerifyFault, Readers}
 use Rattle.warnc_verify.specs.declared.fault.VerifyFault.{VerifyFault}
 use Rattle.warnc_verify.specs.declared.fault.VerifyFault.TheVariants as fault
+use Rattle.warnc_verify.proofs.Inputs.{some_table, whole, whole_if_known}
 use Rattle.warnc_cli.proofs.NoRun.{no_records}
 use Rattle.warnc_cli.specs.RunSteps.{status_of_desk_fault, status_of_run_fault}
 use Rattle.warnc_cli.specs.RunSteps.{status_of_settle_fault, status_of_verify_fault, IsVerifyRunBetween}
-use Rattle.warnc_cli.specs.Status.{IsNotVerified, OneHasFailed, status_of_book_fault}
+use Rattle.warnc_cli.specs.Status.{AnyHasFailed, IsNotVerified, WritesOutputOfBoth, WritesSome}
+use Rattle.warnc_cli.specs.Status.{status_of_book_fault}
 
-refused_here : (from : Origin) (slots count : ℕ) (input : List ℕ) (old new : Option (List ℕ)) (why : VerifyFault)
-    → IsInputFault from slots count input old new why
-    → status_of_verify_fault why ≡ 1
-    → IsNotVerified from slots count input
-refused_here from slots count input old new (fault.Run f) told is =
-    inr (inl (no_records from slots (take count input) told.0 f told.1 is))
-refused_here from slots count input old new fault.ShortBook told is = inl told.0
-refused_here from slots count input old new (fault.Tapes tape.Short) told is = inr (inr (inl (inl told.0.3)))
-refused_here from slots count input old new (fault.Tapes tape.Long) told is = inr (inr (inl (inr told.0.3)))
-refused_here from slots count input old new (fault.Tapes tape.ReadFailed) told is = absurd (omega (arith, is))
-refused_here from slots count input old new (fault.Tapes tape.Refused) told is = absurd (omega (arith, is))
-refused_here from slots count input old new (fault.Differences n) told is =
-    inr (inr (inr (told.0, told.2.0, omega (arith, told.3, told.4))))
-refused_here from slots count input old new fault.Refused told is = absurd (omega (arith, is))
-refused_here from slots count input old new fault.WriteFailed told is = absurd (omega (arith, is))
+-- the table without a difference that was written is that of the book and of the tapes
+pub table_written : (from : Origin) (slots : ℕ) (ends : Readers) (old new : Option (List ℕ))
+    → FindsAndWrites from slots ends old new []
+    → WritesOutputOfBoth (IsVerified from slots) ends.book_first ends.tapes_first old new
+table_written from slots ends old new wrote =
+    let finds = wrote.0 in record {
+      book_octets = finds.book;
+      tapes_octets = finds.tapes;
+      output = _;
+      of_book = whole_if_known finds.book ends.book_first ends.book_last finds.book_read finds.book_ended;
+      of_tapes = finds.tapes_read;
+      is_output = (finds.differ, refl);
+      appended = wrote.1;
+    }
 
--- a fault of `verify` with status 1 says why the input isn't verified
-pub refused_verification : (left : Option (List ℕ)) (from : Origin) (slots count : ℕ) (old new : Option (List ℕ))
+-- and it isn't empty
+pub some_written : (from : Origin) (slots : ℕ) (ends : Readers) (old new : Option (List ℕ))
+    → FindsAndWrites from slots ends old new []
+    → WritesSome old new
+some_written from slots ends old new wrote =
+    let finds = wrote.0 in
+    (_, some_table from slots finds.book finds.tapes _ (finds.differ, refl), wrote.1)
+
+-- so is the table of the differences that were found
+pub differences_written : (from : Origin) (slots : ℕ) (ends : Readers) (old new : Option (List ℕ)) (why : VerifyFault)
+    → IsVerifyFault from slots ends old new why
+    → IsDifference why
+    → WritesOutputOfBoth (HasDifferences from slots) ends.book_first ends.tapes_first old new
+differences_written from slots ends old new (fault.Differences n) why is =
+    let finds = why.1.0 in record {
+      book_octets = finds.book;
+      tapes_octets = finds.tapes;
+      output = _;
+      of_book = whole_if_known finds.book ends.book_first ends.book_last finds.book_read finds.book_ended;
+      of_tapes = finds.tapes_read;
+      is_output = (why.0, (finds.differ, refl), omega (arith, why.2, why.3));
+      appended = why.1.1;
+    }
+differences_written from slots ends old new (fault.Run f) why is = absurd is
+differences_written from slots ends old new (fault.Tapes f) why is = absurd is
+differences_written from slots ends old new fault.Refused why is = absurd is
+differences_written from slots ends old new fault.WriteFailed why is = absurd is
+
+-- readers of known octets
+abbrev known_readers : (book tapes : List ℕ) (book_last tapes_last : Option (List ℕ)) → Readers
+known_readers book tapes book_last tapes_last = record {
+  book_first = Some book;
+  book_last = book_last;
+  tapes_first = Some tapes;
+  tapes_last = tapes_last;
+}
+
+refused_here : (from : Origin) (slots : ℕ) (book tapes : List ℕ) (book_last tapes_last old new : Option (List ℕ))
     (why : VerifyFault)
-    → IfSome left (λ input. IsInputFault from slots count input old new why)
+    → IsVerifyFault from slots (known_readers book tapes book_last tapes_last) old new why
     → status_of_verify_fault why ≡ 1
-    → IfSome left (IsNotVerified from slots count)
-refused_verification None from slots count old new why told is = tt
-refused_verification (Some input) from slots count old new why told is =
-    refused_here from slots count input old new why told is
+    → IsNotVerified from slots book tapes
+refused_here from slots book tapes book_last tapes_last old new (fault.Run f) told is =
+    inl (no_records from slots book book_last f told is)
+refused_here from slots book tapes book_last tapes_last old new (fault.Tapes tape.Short) told is =
+    let run = told.1 in
+    inr (inl (
+      (
+        told.0,
+        subst (λ (octets : List ℕ). AreRecordsFrom from slots octets told.0)
+            (whole book run.input book_last run.read run.ended) run.made,
+      ),
+      inl told.2,
+    ))
+refused_here from slots book tapes book_last tapes_last old new (fault.Tapes tape.Long) told is =
+    let run = told.1 in
+    inr (inl (
+      (
+        told.0,
+        subst (λ (octets : List ℕ). AreRecordsFrom from slots octets told.0)
+            (whole book run.input book_last run.read run.ended) run.made,
+      ),
+      inr told.2,
+    ))
+refused_here from slots book tapes book_last tapes_last old new (fault.Tapes tape.ReadFailed) told is =
+    absurd (omega (arith, is))
+refused_here from slots book tapes book_last tapes_last old new (fault.Tapes tape.Refused) told is =
+    absurd (omega (arith, is))
+refused_here from slots book tapes book_last tapes_last old new (fault.Differences n) told is =
+    let finds = told.1.0 in
+    inr (inr (
+      told.0,
+      subst (λ (octets : List ℕ). DiffersBy from slots told.0 octets tapes)
+          (whole book finds.book book_last finds.book_read finds.book_ended)
+          (subst (λ (octets : List ℕ). DiffersBy from slots told.0 finds.book octets) (sym finds.tapes_read)
+          finds.differ),
+      omega (arith, told.2, told.3),
+    ))
+refused_here from slots book tapes book_last tapes_last old new fault.Refused told is = absurd (omega (arith, is))
+refused_here from slots book tapes book_last tapes_last old new fault.WriteFailed told is = absurd (omega (arith, is))
+
+-- a fault of `verify` with status 1 says why the tapes don't keep the book
+pub refused_verification : (from : Origin) (slots : ℕ) (book tapes book_last tapes_last old new : Option (List ℕ))
+    (why : VerifyFault)
+    → IsVerifyFault from slots (record {
+      book_first = book;
+      book_last = book_last;
+      tapes_first = tapes;
+      tapes_last = tapes_last;
+    }) old new why
+    → status_of_verify_fault why ≡ 1
+    → IfSome book (λ octets. IfSome tapes (IsNotVerified from slots octets))
+refused_verification from slots None tapes book_last tapes_last old new why told is = tt
+refused_verification from slots (Some book) None book_last tapes_last old new why told is = tt
+refused_verification from slots (Some book) (Some tapes) book_last tapes_last old new why told is =
+    refused_here from slots book tapes book_last tapes_last old new why told is
 
 -- with status 1 the differences were written, or nothing was
 pub kept_or_differs : (Kept Differ : Type 0) (why : VerifyFault) → ((HasWritten why → ⊥) → Kept)
@@ -62,7 +152,6 @@ pub kept_or_differs : (Kept Differ : Type 0) (why : VerifyFault) → ((HasWritte
     → status_of_verify_fault why ≡ 1
     → Kept ⊎ Differ
 kept_or_differs Kept Differ (fault.Run f) kept differs is = inl (kept (λ w. w))
-kept_or_differs Kept Differ fault.ShortBook kept differs is = inl (kept (λ w. w))
 kept_or_differs Kept Differ (fault.Tapes f) kept differs is = inl (kept (λ w. w))
 kept_or_differs Kept Differ (fault.Differences n) kept differs is = inr (differs tt)
 kept_or_differs Kept Differ fault.Refused kept differs is = inl (kept (λ w. w))
@@ -72,14 +161,14 @@ kept_or_differs Kept Differ fault.WriteFailed kept differs is = absurd (omega (a
 abbrev OneOrFour : ℕ → Type 0
 OneOrFour status = (status ≡ 1) ⊎ (status ≡ 4)
 
-book_status : (row : ℕ) (kind : BookFaultKind) → fault_at row kind ≢ unread
-    → OneOrFour (status_of_book_fault (fault_at row kind))
-book_status zero kinds.ReadFailed other = absurd (other refl)
-book_status (suc row) kinds.ReadFailed other = inl (search rules)
-book_status row kinds.Refused other = inr refl
-book_status row (kinds.Text text.Refused) other = inr refl
-book_status row (kinds.Text fault) other = inl refl
-book_status row kind other = inl refl
+book_status : (row : ℕ) (kind : BookFaultKind)
+    → (fault_at row kind ≡ unread) ⊎ OneOrFour (status_of_book_fault (fault_at row kind))
+book_status zero kinds.ReadFailed = inl refl
+book_status (suc row) kinds.ReadFailed = inr (inl (search rules))
+book_status row kinds.Refused = inr (inr refl)
+book_status row (kinds.Text text.Refused) = inr (inr refl)
+book_status row (kinds.Text fault) = inr (inl refl)
+book_status row kind = inr (inl refl)
 
 desk_status : (f : DeskFault) → OneOrFour (status_of_desk_fault f)
 desk_status (desk.Memory done) = inr refl
@@ -89,107 +178,211 @@ settle_status : (f : SettleFault) → OneOrFour (status_of_settle_fault f)
 settle_status settle.Refused = inr refl
 settle_status other = inl refl
 
-run_status : (f : RunFault) → IsRunInMemory f → OneOrFour (status_of_run_fault f)
-run_status (run.Book f) is = book_status f.row f.kind is
-run_status (run.NoGroup groups) is = inl refl
-run_status (run.Desk f) is = desk_status f
-run_status (run.Settle f) is = settle_status f
-run_status (run.Compile compile.Refused) is = inr refl
-run_status (run.Compile compile.Workers) is = inl refl
-run_status (run.Compile (compile.Piece index)) is = inl refl
-run_status (run.Write failed) is = absurd is
-run_status run.Refused is = inr refl
+-- a fault of the run is that of a book that wasn't read, or has one of these statuses
+run_status : (from : Origin) (slots : ℕ) (first last : Option (List ℕ)) (f : RunFault)
+    → IsBookFault from slots first last f
+    → (f ≡ run.Book unread) ⊎ OneOrFour (status_of_run_fault f)
+run_status from slots first last (run.Book f) is = by_book (book_status f.row f.kind)
+  where
+    by_book : (f ≡ unread) ⊎ OneOrFour (status_of_book_fault f)
+        → (run.Book f ≡ run.Book unread) ⊎ OneOrFour (status_of_run_fault (run.Book f))
+    by_book (inl same) = inl (ap (λ (b : BookFault). run.Book b) same)
+    by_book (inr other) = inr other
+run_status from slots first last (run.NoGroup groups) is = inr (inl refl)
+run_status from slots first last (run.Desk f) is = inr (desk_status f)
+run_status from slots first last (run.Settle f) is = inr (settle_status f)
+run_status from slots first last (run.Compile compile.Refused) is = inr (inr refl)
+run_status from slots first last (run.Compile compile.Workers) is = inr (inl refl)
+run_status from slots first last (run.Compile (compile.Piece index)) is = inr (inl refl)
+run_status from slots first last (run.Write failed) is = absurd is.1
+run_status from slots first last run.Refused is = inr (inr refl)
 
--- neither end failed, and nothing was written
-quiet : {R W : Type 0} (status : ℕ) (last : Source R) (old new : Sink W) (before after : Option (List ℕ))
-    → OneOrFour status
-    → (IsTrue (source_failed last) → ⊥)
+-- what the engine says of the ends with a fault
+pub record AreEnds {B R W : Type 0} (why : VerifyFault) (first_book last_book : Source B) (first last : Source R)
+    (old new : Sink W) : Type 0 where
+  pub book_failed : IsErrOf {T = Unit {0}} (Err why) (fault.Run (run.Book unread)) ↔ IsTrue (source_failed last_book)
+  pub book_first : IsOfBookOrRun why → last ≡ first
+  pub tapes_failed : source_failed first ≡ false
+      → (IsErrOf {T = Unit {0}} (Err why) (fault.Tapes tape.ReadFailed) ↔ IsTrue (source_failed last))
+  pub tapes_told : IsErrOf {T = Unit {0}} (Err why) (fault.Tapes tape.ReadFailed) → source_failed last ≡ true
+  pub tapes_judged : HasWritten why → source_failed last ≡ false
+  pub write_failed : IsErrOf {T = Unit {0}} (Err why) fault.WriteFailed → sink_failed new ≡ true
+  pub written : IsDifference why → sink_failed new ≡ false
+  pub untouched : (HasWritten why → ⊥) → new ≡ old
+
+-- the status that a result's fault has
+abbrev status_in : Result (Unit {0}) VerifyFault → ℕ
+status_in (Ok done) = 0
+status_in (Err why) = status_of_verify_fault why
+
+-- a fault of another status than 3 leaves the book's end sound, and the tapes', if it was, and they were judged
+book_sound : {B R W : Type 0} (why : VerifyFault) (first_book last_book : Source B) (first last : Source R)
+    (old new : Sink W)
+    → AreEnds why first_book last_book first last old new
+    → status_of_verify_fault why ≢ 3
+    → source_failed last_book ≡ true
+    → ⊥
+book_sound why first_book last_book first last old new ends other failed =
+    other (ap status_in (ends.book_failed.1 failed))
+
+tapes_sound : {B R W : Type 0} (why : VerifyFault) (first_book last_book : Source B) (first last : Source R)
+    (old new : Sink W)
+    → AreEnds why first_book last_book first last old new
+    → status_of_verify_fault why ≢ 3
+    → source_failed first ≡ false
+    → source_failed last ≡ true
+    → ⊥
+tapes_sound why first_book last_book first last old new ends other sound failed =
+    other (ap status_in ((ends.tapes_failed sound).1 failed))
+
+-- no end failed, and nothing was written
+quiet : {B R W : Type 0} (why : VerifyFault) (first_book last_book : Source B) (first last : Source R)
+    (old new : Sink W) (before after : Option (List ℕ))
+    → AreEnds why first_book last_book first last old new
+    → OneOrFour (status_of_verify_fault why)
+    → (source_failed first ≡ false → source_failed last ≡ true → ⊥)
     → new ≡ old
     → (new ≡ old → Keeps before after)
-    → IsVerifyRunBetween status last old new before after
-quiet {W = W} status last old new before after one_or_four read same kept = record {
+    → IsVerifyRunBetween (status_of_verify_fault why) first_book last_book first last old new before after
+quiet {W = W} why first_book last_book first last old new before after ends one_or_four tapes same kept = record {
   statuses = bound one_or_four;
   nothing_written = λ _ _ _. kept same;
   untouched = λ _ _ _. same;
-  understood = λ is. search (rules, arith, is, one_or_four);
-  device = λ is. search (rules, arith, is, one_or_four);
-  failed = λ sound failed. absurd (neither sound failed);
+  understood = λ is. other one_or_four is;
+  device = λ is. absurd (three one_or_four is);
+  failed = λ sound sink failed. absurd (neither sound sink failed);
 }
   where
-    bound : OneOrFour status → status ≤ 4
+    bound : OneOrFour (status_of_verify_fault why) → status_of_verify_fault why ≤ 4
     bound (inl is) = omega (arith, is)
     bound (inr is) = omega (arith, is)
 
-    neither : sink_failed old ≡ false → OneHasFailed last new → ⊥
-    neither sound (inl failed) = read (search (rules, failed))
-    neither sound (inr failed) =
+    other : OneOrFour (status_of_verify_fault why) → status_of_verify_fault why ≡ 2 → ⊥
+    other (inl is) two = omega (arith, is, two)
+    other (inr is) two = omega (arith, is, two)
+
+    three : OneOrFour (status_of_verify_fault why) → status_of_verify_fault why ≡ 3 → ⊥
+    three (inl is) so = omega (arith, is, so)
+    three (inr is) so = omega (arith, is, so)
+
+    neither : source_failed first ≡ false → sink_failed old ≡ false → AnyHasFailed last_book last new → ⊥
+    neither sound sink (inl failed) =
+        book_sound why first_book last_book first last old new ends (three one_or_four) failed
+    neither sound sink (inr (inl failed)) = tapes sound failed
+    neither sound sink (inr (inr failed)) =
         let now : sink_failed old ≡ true = subst (λ (s : Sink W). sink_failed s ≡ true) same failed in
-        search (rules, now, sound)
+        search (rules, now, sink)
 
 -- an end failed
-failing : {R W : Type 0} (status : ℕ) (last : Source R) (old new : Sink W) (before after : Option (List ℕ))
+failing : {B R W : Type 0} (status : ℕ) (first_book last_book : Source B) (first last : Source R)
+    (old new : Sink W) (before after : Option (List ℕ))
     → status ≡ 3
-    → OneHasFailed last new
-    → IsVerifyRunBetween status last old new before after
-failing status last old new before after is failed = record {
+    → AnyHasFailed last_book last new
+    → IsVerifyRunBetween status first_book last_book first last old new before after
+failing status first_book last_book first last old new before after is failed = record {
   statuses = omega (arith, is);
   nothing_written = λ _ _ other. absurd (other is);
   untouched = λ _ _ other. absurd (other is);
   understood = λ two. omega (arith, is, two);
   device = λ _. failed;
-  failed = λ _ _. is;
+  failed = λ _ _ _. is;
 }
 
 -- the differences were written
-written : {R W : Type 0} (status : ℕ) (last : Source R) (old new : Sink W) (before after : Option (List ℕ))
-    → status ≡ 1
-    → (IsTrue (source_failed last) → ⊥)
-    → sink_failed new ≡ false
-    → IsVerifyRunBetween status last old new before after
-written status last old new before after is read sound = record {
-  statuses = omega (arith, is);
-  nothing_written = λ _ other _. absurd (other is);
-  untouched = λ _ other _. absurd (other is);
-  understood = λ two. omega (arith, is, two);
-  device = λ three. absurd (omega (arith, is, three));
-  failed = λ _ failed. absurd (neither failed);
+written : {B R W : Type 0} (n : ℕ) (first_book last_book : Source B) (first last : Source R)
+    (old new : Sink W) (before after : Option (List ℕ))
+    → AreEnds (fault.Differences n) first_book last_book first last old new
+    → IsVerifyRunBetween 1 first_book last_book first last old new before after
+written n first_book last_book first last old new before after ends = record {
+  statuses = omega arith;
+  nothing_written = λ _ other _. absurd (other refl);
+  untouched = λ _ other _. absurd (other refl);
+  understood = λ two. omega (arith, two);
+  device = λ three. absurd (omega (arith, three));
+  failed = λ _ _ failed. absurd (neither failed);
 }
   where
-    neither : OneHasFailed last new → ⊥
-    neither (inl failed) = read (search (rules, failed))
-    neither (inr failed) = search (rules, failed, sound)
+    neither : AnyHasFailed last_book last new → ⊥
+    neither (inl failed) =
+        book_sound (fault.Differences n) first_book last_book first last old new ends (λ three. omega (arith, three))
+        failed
+    neither (inr (inl failed)) =
+        let sound = ends.tapes_judged tt in
+        search (rules, failed, sound)
+    neither (inr (inr failed)) =
+        let sound = ends.written tt in
+        search (rules, failed, sound)
 
--- what is so between the ends of `verify` is so of its status
-pub between : {R W : Type 0} (why : VerifyFault) (status : ℕ) (first last : Source R) (old new : Sink W)
-    (before after : Option (List ℕ))
-    → status ≡ status_of_verify_fault why
-    → IsOfInput why
-    → IsVerifyBetween (Err why) first last old new
+-- a fault of a book's run
+of_run : {B R W : Type 0} (f : RunFault) (first_book last_book : Source B) (first last : Source R)
+    (old new : Sink W) (before after : Option (List ℕ))
+    → (f ≡ run.Book unread) ⊎ OneOrFour (status_of_run_fault f)
+    → AreEnds (fault.Run f) first_book last_book first last old new
     → (new ≡ old → Keeps before after)
-    → IsVerifyRunBetween status last old new before after
-between (fault.Run f) status first last old new before after is of b kept =
-    quiet status last old new before after (subst OneOrFour (sym is) (run_status f of))
-    (λ failed. let never = b.read.1 failed in search (rules, never)) (b.untouched (λ w. w)) kept
-between fault.ShortBook status first last old new before after is of b kept =
-    quiet status last old new before after (inl is)
-    (λ failed. let never = b.read.1 failed in search (rules, never)) (b.untouched (λ w. w)) kept
-between (fault.Tapes tape.Short) status first last old new before after is of b kept =
-    quiet status last old new before after (inl is)
-    (λ failed. let never = b.read.1 failed in search (rules, never)) (b.untouched (λ w. w)) kept
-between (fault.Tapes tape.Long) status first last old new before after is of b kept =
-    quiet status last old new before after (inl is)
-    (λ failed. let never = b.read.1 failed in search (rules, never)) (b.untouched (λ w. w)) kept
-between (fault.Tapes tape.ReadFailed) status first last old new before after is of b kept =
-    let failed = b.read.0 refl in
-    failing status last old new before after is (inl (search (rules, failed)))
-between (fault.Tapes tape.Refused) status first last old new before after is of b kept =
-    quiet status last old new before after (inr is)
-    (λ failed. let never = b.read.1 failed in search (rules, never)) (b.untouched (λ w. w)) kept
-between (fault.Differences n) status first last old new before after is of b kept =
-    written status last old new before after is
-    (λ failed. let never = b.read.1 failed in search (rules, never)) (b.written tt)
-between fault.Refused status first last old new before after is of b kept =
-    quiet status last old new before after (inr is)
-    (λ failed. let never = b.read.1 failed in search (rules, never)) (b.untouched (λ w. w)) kept
-between fault.WriteFailed status first last old new before after is of b kept =
-    failing status last old new before after is (inr (b.write refl))
+    → IsVerifyRunBetween (status_of_run_fault f) first_book last_book first last old new before after
+of_run f first_book last_book first last old new before after (inl same) ends kept =
+    failing (status_of_run_fault f) first_book last_book first last old new before after (ap status_of_run_fault same)
+    (inl (ends.book_failed.0 (ap (λ (g : RunFault). Err (fault.Run g)) same)))
+of_run {R = R} f first_book last_book first last old new before after (inr other) ends kept =
+    quiet (fault.Run f) first_book last_book first last old new before after ends other
+    (λ sound failed.
+    let was : source_failed first ≡ true =
+    subst (λ (s : Source R). source_failed s ≡ true) (ends.book_first tt) failed in
+    search (rules, was, sound))
+    (ends.untouched (λ w. w)) kept
+
+-- what the engine says of the ends with a fault is what the fault's status says of them
+told : {B R W : Type 0} (from : Origin) (slots : ℕ) (readers : Readers) (held_old held_new : Option (List ℕ))
+    (why : VerifyFault) (first_book last_book : Source B) (first last : Source R)
+    (old new : Sink W) (before after : Option (List ℕ))
+    → IsVerifyFault from slots readers held_old held_new why
+    → AreEnds why first_book last_book first last old new
+    → (new ≡ old → Keeps before after)
+    → IsVerifyRunBetween (status_of_verify_fault why) first_book last_book first last old new before after
+told from slots readers held_old held_new (fault.Run f) first_book last_book first last old new before after is ends
+    kept =
+    of_run f first_book last_book first last old new before after
+    (run_status from slots readers.book_first readers.book_last f is) ends kept
+told from slots readers held_old held_new (fault.Tapes tape.Short) first_book last_book first last old new before after
+    is ends kept =
+    quiet (fault.Tapes tape.Short) first_book last_book first last old new before after ends (inl refl)
+    (tapes_sound _ first_book last_book first last old new ends (λ three. omega (arith, three)))
+    (ends.untouched (λ w. w)) kept
+told from slots readers held_old held_new (fault.Tapes tape.Long) first_book last_book first last old new before after
+    is ends kept =
+    quiet (fault.Tapes tape.Long) first_book last_book first last old new before after ends (inl refl)
+    (tapes_sound _ first_book last_book first last old new ends (λ three. omega (arith, three)))
+    (ends.untouched (λ w. w)) kept
+told from slots readers held_old held_new (fault.Tapes tape.ReadFailed) first_book last_book first last old new before
+    after is ends kept =
+    failing 3 first_book last_book first last old new before after refl (inr (inl (ends.tapes_told refl)))
+told from slots readers held_old held_new (fault.Tapes tape.Refused) first_book last_book first last old new before
+    after is ends kept =
+    quiet (fault.Tapes tape.Refused) first_book last_book first last old new before after ends (inr refl)
+    (tapes_sound _ first_book last_book first last old new ends (λ three. omega (arith, three)))
+    (ends.untouched (λ w. w)) kept
+told from slots readers held_old held_new (fault.Differences n) first_book last_book first last old new before after is
+    ends kept =
+    written n first_book last_book first last old new before after ends
+told from slots readers held_old held_new fault.Refused first_book last_book first last old new before after is ends
+    kept =
+    quiet fault.Refused first_book last_book first last old new before after ends (inr refl)
+    (tapes_sound _ first_book last_book first last old new ends (λ three. omega (arith, three)))
+    (ends.untouched (λ w. w)) kept
+told from slots readers held_old held_new fault.WriteFailed first_book last_book first last old new before after is ends
+    kept =
+    failing 3 first_book last_book first last old new before after refl (inr (inr (ends.write_failed refl)))
+
+-- the same of a status that is the fault's
+pub between : {B R W : Type 0} (from : Origin) (slots : ℕ) (readers : Readers) (held_old held_new : Option (List ℕ))
+    (why : VerifyFault) (status : ℕ) (first_book last_book : Source B) (first last : Source R)
+    (old new : Sink W) (before after : Option (List ℕ))
+    → status ≡ status_of_verify_fault why
+    → IsVerifyFault from slots readers held_old held_new why
+    → AreEnds why first_book last_book first last old new
+    → (new ≡ old → Keeps before after)
+    → IsVerifyRunBetween status first_book last_book first last old new before after
+between from slots readers held_old held_new why status first_book last_book first last old new before after same is
+    ends kept =
+    subst (λ (s : ℕ). IsVerifyRunBetween s first_book last_book first last old new before after) (sym same)
+    (told from slots readers held_old held_new why first_book last_book first last old new before after is ends kept)

@@ -186,13 +186,15 @@ pub record AsksForChart (words : List (List ℕ)) (slots : ℕ) (wanted : Option
   pub wanted_given : GivesWanted words wanted
   pub workers_given : GivesThreads words (codes "--workers") workers
 
--- the words ask for `verify` of a book or a group, with this number of slots, of octets of the book, and of workers
-pub record AsksForVerify (words : List (List ℕ)) (from : Origin) (slots octets workers : ℕ) : Type 0 where
-  pub command : slice_get words 1 ≡ Some (codes "verify")
-  pub origin_given : GivesOrigin words from
-  pub slots_given : GivesSlots words slots
-  pub book_given : GivesNumber words (codes "--book-octets") octets
-  pub workers_given : GivesThreads words (codes "--workers") workers
+-- the words ask for `verify` of the book, or the group's, in the file of this name, with this number of slots and of
+-- workers
+pub record AsksForVerify (words : List (List ℕ)) (from : Origin) (slots : ℕ) (file : List ℕ) (workers : ℕ) : Type 0
+  where
+    pub command : slice_get words 1 ≡ Some (codes "verify")
+    pub origin_given : GivesOrigin words from
+    pub slots_given : GivesSlots words slots
+    pub book_given : GivesValue words (codes "--book") file
+    pub workers_given : GivesThreads words (codes "--workers") workers
 
 -- the words ask for `live` of a book or a group, with this number of slots, of sessions and of workers
 pub record AsksForLive (words : List (List ℕ)) (from : Origin) (slots sessions workers : ℕ) : Type 0 where

@@ -3,12 +3,13 @@
 use Rattle.std.specs.Prelude.{◌≡◌, ◌≢◌, ℕ, ◌≤◌, false, List, Option}
 use Rattle.std.specs.Io.KnownBytes.{Keeps}
 use Rattle.device_ends.specs.Sink.{sink_failed}
+use Rattle.device_ends.specs.Source.{source_failed}
 use Rattle.device_ends.specs.declared.reading.Source.{Source}
 use Rattle.device_ends.specs.declared.writing.Sink.{Sink}
 use Rattle.warnc_cli.specs.CommandLine.{AsksForChart, AsksForCompile, AsksForGroups, AsksForLive, AsksForNetwork}
 use Rattle.warnc_cli.specs.CommandLine.{AsksForPage, AsksForPcap, AsksForRead, AsksForReport, AsksForTape}
 use Rattle.warnc_cli.specs.CommandLine.{AsksForVerify}
-use Rattle.warnc_cli.specs.Status.{OneHasFailed, status_of_book_fault}
+use Rattle.warnc_cli.specs.Status.{AnyHasFailed, OneHasFailed, status_of_book_fault}
 use Rattle.warnc_cli.specs.declared.command.Task.{Task}
 use Rattle.warnc_cli.specs.declared.command.Task.TheVariants.{Chart, Compile, Groups, Live, Network, Page, Pcap, Read}
 use Rattle.warnc_cli.specs.declared.command.Task.TheVariants.{Report, Tape, Verify}
@@ -47,7 +48,7 @@ IsTaskOf words (Pcap settings) = AsksForPcap words settings
 IsTaskOf words (Tape wanted) = AsksForTape words wanted
 IsTaskOf words (Compile from slots workers) = AsksForCompile words from slots workers.number
 IsTaskOf words (Report from slots workers) = AsksForReport words from slots workers.number
-IsTaskOf words (Verify from slots octets workers) = AsksForVerify words from slots octets workers.number
+IsTaskOf words (Verify from slots book workers) = AsksForVerify words from slots book.now workers.number
 IsTaskOf words (Chart slots wanted workers) = AsksForChart words slots wanted workers.number
 IsTaskOf words (Live from slots sessions workers) =
     AsksForLive words from slots sessions.number workers.number
@@ -129,7 +130,6 @@ status_of_tapes_fault tapes.Refused = 4
 -- the status of a fault of `verify`: that of the run's or of the tapes' fault, and 1 if there are differences
 abbrev pub status_of_verify_fault : VerifyFault → ℕ
 status_of_verify_fault (verify.Run f) = status_of_run_fault f
-status_of_verify_fault verify.ShortBook = 1
 status_of_verify_fault (verify.Tapes f) = status_of_tapes_fault f
 status_of_verify_fault (verify.Differences count) = 1
 status_of_verify_fault verify.Refused = 4
@@ -156,18 +156,20 @@ pub record IsRunBetween {R W : Type 0} (status : ℕ) (source : Source R) (old n
   -- and always if one has, if the sink had not failed before
   pub failed : sink_failed old ≡ false → OneHasFailed source new → status ≡ 3
 
--- the same of `verify`, which writes the differences with status 1
-pub record IsVerifyRunBetween {R W : Type 0} (status : ℕ) (source : Source R) (old new : Sink W)
-    (before after : Option (List ℕ)) : Type 0 where
+-- the same of `verify`, which reads a book, too, and writes the differences with status 1
+pub record IsVerifyRunBetween {B R W : Type 0} (status : ℕ) (first_book last_book : Source B)
+    (first last : Source R)
+    (old new : Sink W) (before after : Option (List ℕ)) : Type 0 where
   pub statuses : status ≤ 4
   -- with 2 and 4 nothing was written, and the sink is as it was
   pub nothing_written : status ≢ 0 → status ≢ 1 → status ≢ 3 → Keeps before after
   pub untouched : status ≢ 0 → status ≢ 1 → status ≢ 3 → new ≡ old
   -- it is no mistake of the words
   pub understood : status ≢ 2
-  -- it is 3 exactly if one of the ends has failed
-  pub device : status ≡ 3 → OneHasFailed source new
-  pub failed : sink_failed old ≡ false → OneHasFailed source new → status ≡ 3
+  -- it is 3 only if one of the ends has failed
+  pub device : status ≡ 3 → AnyHasFailed last_book last new
+  -- and always if one has, if neither the tapes' nor the sink had failed before
+  pub failed : source_failed first ≡ false → sink_failed old ≡ false → AnyHasFailed last_book last new → status ≡ 3
 
 -- the same of a network's run, which has written the first groups with 1 and 4
 pub record IsNetworkRunBetween {R W : Type 0} (status : ℕ) (source : Source R) (old new : Sink W) : Type 0 where

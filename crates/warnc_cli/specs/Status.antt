@@ -1,6 +1,6 @@
 -- The program's statuses. Own.
 use Rattle.std.specs.Prelude.{◌≡◌, ◌≢◌, ℕ, ◌<◌, ◌==◌, ◌≤◌, ◌⊎◌, false, true, if◌then◌else◌, List, length, Option}
-use Rattle.std.specs.Prelude.{codes, drop, slice_get, take, IfSome, Some}
+use Rattle.std.specs.Prelude.{codes, slice_get, IfSome, Some}
 use Rattle.std.specs.Io.KnownBytes.{Appends, Keeps}
 use Rattle.device_ends.specs.Moves.{WritesOutput}
 use Rattle.device_ends.specs.Sink.{sink_failed, writer_of}
@@ -26,7 +26,7 @@ use Rattle.warnc_cli.specs.CommandLine.{asks_for_text, is_given, AsksForChart, A
 use Rattle.warnc_cli.specs.CommandLine.{AsksForLive, AsksForNetwork, AsksForPage}
 use Rattle.warnc_cli.specs.CommandLine.{AsksForPcap, AsksForRead, AsksForReport, AsksForTape, AsksForVerify}
 use Rattle.warnc_run.specs.declared.fault.RunFault.{RunFault}
-use Rattle.warnc_verify.specs.Input.{Differs, HasDifferences, IsVerified}
+use Rattle.warnc_verify.specs.Verified.{Differs, HasDifferences, HasRun, IsVerified}
 use Rattle.cbsp_wire.specs.declared.message.Cell.{Cell}
 use Rattle.warnc_run.specs.Charted.{IsCharted}
 use Rattle.warnc_run.specs.Compiled.{IsCompiledFrom, StopsRun}
@@ -97,11 +97,11 @@ abbrev pub IsNoNetworkRun : (slots : ℕ) (input : List ℕ) → Type 0
 IsNoNetworkRun slots input = IsNoNetwork 0 input ⊎ ((group : ℕ) × (book : Contents) × IsGroupBook group input book
     × ((fault : RunFault) × StopsRun book slots 1 fault))
 
--- the input has no tapes that keep its book: it is shorter than the book is said to be, or the book is none or has no
--- run, or what follows it is no whole tapes, or there is a difference
-abbrev pub IsNotVerified : (from : Origin) (slots octets : ℕ) (input : List ℕ) → Type 0
-IsNotVerified from slots octets input = (length input < octets) ⊎ (IsNoRun from slots 1 (take octets input)
-    ⊎ (IsNoTapes (drop octets input) ⊎ Differs from slots octets input))
+-- these tapes don't keep this book: it is none or has no run; or it has one, and the tapes are no whole ones; or there
+-- is a difference
+abbrev pub IsNotVerified : (from : Origin) (slots : ℕ) (book tapes : List ℕ) → Type 0
+IsNotVerified from slots book tapes = IsNoRun from slots 1 book
+    ⊎ ((HasRun from slots book × IsNoTapes tapes) ⊎ Differs from slots book tapes)
 
 -- the input is refused: it is too long for a capture, or no capture file that has a tape
 abbrev pub IsNoAir : Wanted → (input : List ℕ) → Type 0
@@ -119,14 +119,27 @@ WritesSomeUnlessTapes words old new = slice_get words 1 ≢ Some (codes "compile
     → (slice_get words 1 ≡ Some (codes "report") → is_given words (codes "--group") ≡ false)
     → WritesSome old new
 
--- what was written is so by what the reader had left
-abbrev pub ByInput : {R W : Type 0} → (left : R → Option (List ℕ)) → (held : W → Option (List ℕ))
-    → ((input old new : Option (List ℕ)) → Type 0) → Source R → (old new : Sink W) → Type 0
-ByInput left held Wrote first old new =
-    Wrote (left (reader_of first)) (held (writer_of old)) (held (writer_of new))
+-- what was written is so by what the readers of a book and of the input had left
+abbrev pub ByInputs : {B R W : Type 0} → (book_left : B → Option (List ℕ)) → (left : R → Option (List ℕ))
+    → (held : W → Option (List ℕ)) → ((book input old new : Option (List ℕ)) → Type 0)
+    → (book : Source B) → (first : Source R) → (old new : Sink W) → Type 0
+ByInputs book_left left held Wrote book first old new =
+    Wrote (book_left (reader_of book)) (left (reader_of first)) (held (writer_of old)) (held (writer_of new))
 
--- What status 0 says: `input` is what the reader had left, if that is known, and `old` and `new` are what the writer
--- held before and after.
+-- a writer was given the output of a book and of tapes: of those that the readers had left, if they are known, and else
+-- of some
+pub record WritesOutputOfBoth (IsOutput : (book tapes output : List ℕ) → Type 0)
+    (book tapes old new : Option (List ℕ)) : Type 0 where
+  pub book_octets : List ℕ
+  pub tapes_octets : List ℕ
+  pub output : List ℕ
+  pub of_book : IfSome book (λ input. input ≡ book_octets)
+  pub of_tapes : IfSome tapes (λ input. input ≡ tapes_octets)
+  pub is_output : IsOutput book_octets tapes_octets output
+  pub appended : Appends old new output
+
+-- What status 0 says: `book` and `input` are what the readers had left, if that is known, and `old` and `new` are what
+-- the writer held before and after.
 
 -- the words ask for help or for the version, and something was written
 pub record WroteText (words : List (List ℕ)) (old new : Option (List ℕ)) : Type 0 where
@@ -196,15 +209,14 @@ pub record WroteChart (words : List (List ℕ)) (input old new : Option (List �
   pub asked : AsksForChart words slots wanted workers
   pub wrote : WritesOutput (IsCharted slots wanted) input old new
 
--- the words ask for `verify`, and what was written is the table without a difference, of a book of as many octets as
--- the words say and of the tapes after it
-pub record WroteVerified (words : List (List ℕ)) (input old new : Option (List ℕ)) : Type 0 where
+-- the words ask for `verify`, and what was written is the table without a difference, of the book and of the tapes
+pub record WroteVerified (words : List (List ℕ)) (book input old new : Option (List ℕ)) : Type 0 where
   pub from : Origin
   pub slots : ℕ
-  pub octets : ℕ
+  pub file : List ℕ
   pub workers : ℕ
-  pub asked : AsksForVerify words from slots octets workers
-  pub wrote : WritesOutput (IsVerified from slots octets) input old new
+  pub asked : AsksForVerify words from slots file workers
+  pub wrote : WritesOutputOfBoth (IsVerified from slots) book input old new
 
 -- the words ask for `groups`, and what was written is the number of the network book's groups
 pub record WroteGroups (words : List (List ℕ)) (input old new : Option (List ℕ)) : Type 0 where
@@ -220,14 +232,14 @@ pub record WroteNetwork (words : List (List ℕ)) (input old new : Option (List 
   pub asked : AsksForNetwork words made slots workers
   pub wrote : WritesOutput (IsOfNetwork made slots) input old new
 
-abbrev pub WroteWhatIsAsked : (words : List (List ℕ)) (input old new : Option (List ℕ)) → Type 0
-WroteWhatIsAsked words input old new = WroteText words old new ⊎
+abbrev pub WroteWhatIsAsked : (words : List (List ℕ)) (book input old new : Option (List ℕ)) → Type 0
+WroteWhatIsAsked words book input old new = WroteText words old new ⊎
     (WrotePages words input old new
     ⊎ ((WroteTable words input old new ⊎ (WroteGroups words input old new ⊎ WroteNetwork words input old new))
     ⊎ (WroteCapture words input old new
     ⊎ (WroteTape words input old new ⊎ (WroteTapes words input old new
     ⊎ (WroteLiveTapes words input old new ⊎ (WroteReport words input old new
-    ⊎ (WroteChart words input old new ⊎ WroteVerified words input old new))))))))
+    ⊎ (WroteChart words input old new ⊎ WroteVerified words book input old new))))))))
 
 -- What status 1 says: the command that the words ask for refuses the input.
 
@@ -289,14 +301,14 @@ pub record RefusesChartedAlerts (words : List (List ℕ)) (input : Option (List 
   pub asked : AsksForChart words slots wanted workers
   pub refused : IfSome input (IsNoRun origin.Book slots 1)
 
--- the words ask for `verify`, and the input has a fault or a difference
-pub record RefusesVerified (words : List (List ℕ)) (input : Option (List ℕ)) : Type 0 where
+-- the words ask for `verify`, and the tapes don't keep the book
+pub record RefusesVerified (words : List (List ℕ)) (book input : Option (List ℕ)) : Type 0 where
   pub from : Origin
   pub slots : ℕ
-  pub octets : ℕ
+  pub file : List ℕ
   pub workers : ℕ
-  pub asked : AsksForVerify words from slots octets workers
-  pub refused : IfSome input (IsNotVerified from slots octets)
+  pub asked : AsksForVerify words from slots file workers
+  pub refused : IfSome book (λ octets. IfSome input (IsNotVerified from slots octets))
 
 -- the words ask for `groups`, and the input is no network book
 pub record RefusesGroups (words : List (List ℕ)) (input : Option (List ℕ)) : Type 0 where
@@ -311,13 +323,13 @@ pub record RefusesNetworkBook (words : List (List ℕ)) (input : Option (List �
   pub asked : AsksForNetwork words made slots workers
   pub refused : IfSome input (IsNoNetworkRun slots)
 
-abbrev pub RefusesInput : (words : List (List ℕ)) (input : Option (List ℕ)) → Type 0
-RefusesInput words input =
+abbrev pub RefusesInput : (words : List (List ℕ)) (book input : Option (List ℕ)) → Type 0
+RefusesInput words book input =
     RefusesText words input
     ⊎ ((RefusesTapes words input ⊎ (RefusesGroups words input ⊎ RefusesNetworkBook words input))
     ⊎ (RefusesCapture words input ⊎ (RefusesAir words input
     ⊎ (RefusesAlerts words input ⊎ (RefusesLiveAlerts words input ⊎ (RefusesReportedAlerts words input
-    ⊎ (RefusesChartedAlerts words input ⊎ RefusesVerified words input)))))))
+    ⊎ (RefusesChartedAlerts words input ⊎ RefusesVerified words book input)))))))
 
 -- What may be written with a status.
 
@@ -329,13 +341,13 @@ MayWrite words status = (status ≡ 0) ⊎ ((status ≡ 3)
     ⊎ (((status ≡ 1) ⊎ (status ≡ 4)) × (is_given words (codes "--network") ≡ true))))
 
 -- the words ask for `verify`, and what was written is the table of the differences, of which there is one at least
-pub record WroteDifferences (words : List (List ℕ)) (input old new : Option (List ℕ)) : Type 0 where
+pub record WroteDifferences (words : List (List ℕ)) (book input old new : Option (List ℕ)) : Type 0 where
   pub from : Origin
   pub slots : ℕ
-  pub octets : ℕ
+  pub file : List ℕ
   pub workers : ℕ
-  pub asked : AsksForVerify words from slots octets workers
-  pub wrote : WritesOutput (HasDifferences from slots octets) input old new
+  pub asked : AsksForVerify words from slots file workers
+  pub wrote : WritesOutputOfBoth (HasDifferences from slots) book input old new
 
 -- the words ask for `compile` or `report` of a network, and what was written is the parts of some first groups
 pub record WroteFirstGroups (words : List (List ℕ)) (input old new : Option (List ℕ)) : Type 0 where
@@ -347,14 +359,18 @@ pub record WroteFirstGroups (words : List (List ℕ)) (input old new : Option (L
   pub wrote : WritesOutput (AreFirstParts made slots count) input old new
 
 -- what was written with status 1: nothing, or the differences, or the first groups of a network
-abbrev pub WroteOfRefused : (words : List (List ℕ)) (input old new : Option (List ℕ)) → Type 0
-WroteOfRefused words input old new =
-    Keeps old new ⊎ (WroteDifferences words input old new ⊎ WroteFirstGroups words input old new)
+abbrev pub WroteOfRefused : (words : List (List ℕ)) (book input old new : Option (List ℕ)) → Type 0
+WroteOfRefused words book input old new =
+    Keeps old new ⊎ (WroteDifferences words book input old new ⊎ WroteFirstGroups words input old new)
 
 -- and with status 4: nothing, or the first groups of a network
-abbrev pub WroteWithoutMemory : (words : List (List ℕ)) (input old new : Option (List ℕ)) → Type 0
-WroteWithoutMemory words input old new = Keeps old new ⊎ WroteFirstGroups words input old new
+abbrev pub WroteWithoutMemory : (words : List (List ℕ)) (book input old new : Option (List ℕ)) → Type 0
+WroteWithoutMemory words book input old new = Keeps old new ⊎ WroteFirstGroups words input old new
 
 -- one of the two ends has failed
 abbrev pub OneHasFailed : {R W : Type 0} → Source R → Sink W → Type 0
 OneHasFailed source sink = (source_failed source ≡ true) ⊎ (sink_failed sink ≡ true)
+
+-- or the book's end has
+abbrev pub AnyHasFailed : {B R W : Type 0} → (book : Source B) → Source R → Sink W → Type 0
+AnyHasFailed book source sink = (source_failed book ≡ true) ⊎ OneHasFailed source sink

@@ -1,6 +1,7 @@
 //! The command line: which words are taken, and what they mean.
 
-ghost use Rattle.std.specs.Prelude.{◌≡◌, ◌<◌, ◌∷◌, ◌++◌, ◌⊎◌, false, true, IfOk, IfSome, Some, codes, map, slice_get};
+ghost use Rattle.std.specs.Prelude.{◌≡◌, ◌<◌, ◌∷◌, ◌++◌, ◌⊎◌, false, true, IfOk, IfSome, OnSome, Some, codes, map};
+ghost use Rattle.std.specs.Prelude.{slice_get};
 ghost use Rattle.warnc_cli.specs.CommandLine.{asks_for_text, begins_with, is_given, is_text_word, GivesNumber};
 ghost use Rattle.warnc_cli.specs.CommandLine.{GivesChannel, GivesSlots, GivesThreads, GivesValue, AsksForPage};
 ghost use Rattle.warnc_cli.specs.CommandLine.{GivesCell, GivesFrom, GivesWanted, IsAddress, IsCell, IsNumber};
@@ -28,7 +29,7 @@ pub struct PageOptions<'a> {
 }
 
 /// The version of the program, and on a line of its own what `rt version` says of the toolchain that proved it.
-const VERSION: &str = "0.1.0\nrattle-kit-13f logic dac8208d650f15bf";
+const VERSION: &str = "1.0.0\nrattle-kit-13f logic dac8208d650f15bf";
 
 /// What the words ask for.
 #[derive(Clone, Copy, Debug, PartialEq, Eq)]
@@ -76,8 +77,8 @@ pub enum Task<'a> {
         origin: Origin,
         /// How many slots each cell's run has, at least 1.
         slots: u16,
-        /// How many octets of the input are the book.
-        book_octets: u32,
+        /// The name of the book's file.
+        file: &'a str,
         /// How many workers play the cells.
         workers: Workers,
     },
@@ -105,7 +106,7 @@ pub enum Task<'a> {
 
 /// What the words ask for. clap judges the words; what they give is then looked up in the words themselves, since the
 /// contracts of clap don't reach into a subcommand. None comes of words that clap takes only where a cell isn't two
-/// numbers or an address isn't four: clap judges each of the numbers.
+/// numbers or an address isn't four octets, which clap doesn't judge.
 ///
 /// # Errors
 ///
@@ -144,7 +145,7 @@ fn task_in<'a, S: AsStr>(words: &'a [S]) -> Option<Task<'a>>
         "verify" => Some(Task::Verify {
             origin: origin_in(words)?,
             slots: slots_in(words)?,
-            book_octets: book_octets_in(words)?,
+            file: value_of(words, "--book")?,
             workers: workers_in(words)?,
         }),
         "chart" => Some(Task::Chart {
@@ -347,11 +348,16 @@ fn slots_in<S: AsStr>(words: &[S]) -> Option<u16>
     Some(slots)
 }
 
-/// The number of octets of the book that the words give.
-fn book_octets_in<S: AsStr>(words: &[S]) -> Option<u32>
-    ensures { IfSome result (GivesNumber (map S.text words.now) (codes "--book-octets")) }
+/// The name of the file that has the book for `verify`; none if the words ask for another command or name no file. It
+/// is that which `verify` names in its faults, if clap takes the words.
+pub fn book_file<'a, S: AsStr>(words: &'a [S]) -> Option<&'a str>
+    ensures file { IfSome result (λ file. GivesValue (map S.text words.now) (codes "--book") file.now) }
+    ensures command { OnSome result (slice_get (map S.text words.now) 1 ≡ Some (codes "verify")) }
 {
-    value_of(words, "--book-octets")?.parse().ok()
+    match words.get(1)?.as_str() {
+        "verify" => value_of(words, "--book"),
+        _ => None,
+    }
 }
 
 /// The number of workers that the words give, 1 if they give none.
@@ -445,119 +451,45 @@ fn is_text_word(word: &str) -> bool
     matches!(word, "help" | "--help" | "-h" | "--version" | "-V")
 }
 
-/// The program's command line.
+/// The columns of a book, at the end of the program's help. docs/formats.md says all of it.
+const COLUMNS: &str = concat!(
+    "A book is CSV, a row for each cell and then one for each order:\n",
+    "  cell,LAC,CI\n",
+    "  write,AT,NAME,ID,SCOPE,CODE,LANG,CATEGORY,PERIOD,BROADCASTS,CELLS,TEXT\n",
+    "  update,AT,NAME,LANG,CATEGORY,PERIOD,BROADCASTS,CELLS,TEXT\n",
+    "  stop,AT,NAME,CELLS\n",
+    "LAC, CI, AT (a slot), ID, BROADCASTS (0: until it is stopped) 0 to 65535\n",
+    "SCOPE 0 to 3, CODE 0 to 1023, PERIOD (in slots) 1 to 1024\n",
+    "CATEGORY 0 high, 1 background, 2 normal; LANG as page's --lang\n",
+    "CELLS * for all cells so far, or names as 1-1 1-2",
+);
+
+/// The program's command line. Its commands are listed in this order.
 fn warnc<'a>(alloc: Global) -> Result<Command<'a>, AllocError> {
     Command::new(alloc, "warnc")
         .about(
-            "Compiles cell broadcast warnings to the blocks that cells send, and reads them as handsets do",
+            "Compiles cell broadcast warnings to the blocks that cells send,\nand reads them as handsets do",
         )
+        .after_help(COLUMNS)
         .version(VERSION)
         .subcommand_required(true)
         .arg_required_else_help(true)
-        .subcommand(chart(alloc)?)?
-        .subcommand(page(alloc)?)?
         .subcommand(compile(alloc)?)?
-        .subcommand(groups(alloc))?
+        .subcommand(report(alloc)?)?
+        .subcommand(chart(alloc)?)?
+        .subcommand(read(alloc))?
+        .subcommand(verify(alloc)?)?
+        .subcommand(page(alloc)?)?
         .subcommand(live(alloc)?)?
         .subcommand(pcap(alloc)?)?
-        .subcommand(read(alloc))?
-        .subcommand(report(alloc)?)?
         .subcommand(tape(alloc)?)?
-        .subcommand(verify(alloc)?)
-}
-
-/// The command line of `read`.
-fn read<'a>(alloc: Global) -> Command<'a> {
-    Command::new(alloc, "read")
-        .about("Reads tapes of blocks and writes a table of what a handset shows of them, as CSV")
-        .after_help("Example: warnc read < tapes")
-}
-
-/// The command line of `groups`.
-fn groups<'a>(alloc: Global) -> Command<'a> {
-    Command::new(alloc, "groups")
-        .about("Reads a network book, and writes how many groups of 64 cells it has")
-        .after_help("Example: warnc groups < network.csv")
-}
-
-/// The command line of `pcap`.
-fn pcap<'a>(alloc: Global) -> Result<Command<'a>, AllocError> {
-    Command::new(alloc, "pcap")
-        .about(
-            "Reads tapes of blocks and writes them as a capture file, a GSMTAP packet for each block",
-        )
-        .after_help("Example: warnc pcap --used < tapes > air.pcap")
-        .arg(used(alloc))?
-        .arg(channel(alloc))
-}
-
-/// The command line of `tape`.
-fn tape<'a>(alloc: Global) -> Result<Command<'a>, AllocError> {
-    Command::new(alloc, "tape")
-        .about(
-            "Reads a capture file of GSMTAP packets, also of another program's making, and writes a tape of it",
-        )
-        .after_help("Example: warnc tape --cell 1-1 --slots 4096 < air.pcap > tape")
-        .arg(cell(alloc))?
-        .arg(tape_slots(alloc))?
-        .arg(from(alloc))
-}
-
-/// The option of the cell that a tape names.
-fn cell<'a>(alloc: Global) -> Arg<'a> {
-    option(
-        alloc,
-        "cell",
-        "LAC-CI",
-        "The cell that the tape names: its location area code and its cell identity, 0-0 to 65535-65535",
-    )
-    .value_parser(value_parser!(u16))
-    .value_delimiter('-')
-}
-
-/// The option of the number of a tape's slots.
-fn tape_slots<'a>(alloc: Global) -> Arg<'a> {
-    option(
-        alloc,
-        "slots",
-        "SLOTS",
-        "How many slots the tape has, 1 to 65535, each 1.883 s",
-    )
-    .value_parser(value_parser!(u16).range(1..=65535))
-}
-
-/// The option of the address that packets come from.
-fn from<'a>(alloc: Global) -> Arg<'a> {
-    optional(
-        alloc,
-        "from",
-        "IPV4",
-        "Takes the packets from this IPv4 address alone, as 127.0.0.1; all if it isn't given",
-    )
-    .value_parser(value_parser!(u8))
-    .value_delimiter('.')
-}
-
-/// The option that leaves idle slots out of a capture.
-fn used<'a>(alloc: Global) -> Arg<'a> {
-    flag(alloc, "used", "Leaves out slots in which no page is sent")
-}
-
-/// The option of the channel that a capture names.
-fn channel<'a>(alloc: Global) -> Arg<'a> {
-    optional(
-        alloc,
-        "channel",
-        "CHANNEL",
-        "The CBCH that the packets name: 51 for that beside SDCCH/4, 52 for that beside SDCCH/8; 51 if it isn't given",
-    )
-    .value_parser(value_parser!(u16).range(51..=52))
+        .subcommand(groups(alloc))
 }
 
 /// The command line of `compile`.
 fn compile<'a>(alloc: Global) -> Result<Command<'a>, AllocError> {
     Command::new(alloc, "compile")
-        .about("Reads a book of alerts, as CSV, and writes the tapes of its cells' runs")
+        .about("Reads a book of alerts, as CSV, and writes the tapes of its cells")
         .after_help("Example: warnc compile --slots 4096 --workers 4 < book.csv > tapes")
         .arg(slots(alloc))?
         .arg(group(alloc))?
@@ -569,7 +501,7 @@ fn compile<'a>(alloc: Global) -> Result<Command<'a>, AllocError> {
 fn report<'a>(alloc: Global) -> Result<Command<'a>, AllocError> {
     Command::new(alloc, "report")
         .about(
-            "Reads a book of alerts, as CSV, and writes what became of each order in each cell, as CSV",
+            "Reads a book of alerts, as CSV, and writes what became of each order\nin each cell, as CSV",
         )
         .after_help("Example: warnc report --slots 4096 < book.csv")
         .arg(slots(alloc))?
@@ -582,7 +514,7 @@ fn report<'a>(alloc: Global) -> Result<Command<'a>, AllocError> {
 fn chart<'a>(alloc: Global) -> Result<Command<'a>, AllocError> {
     Command::new(alloc, "chart")
         .about(
-            "Reads a book of alerts, as CSV, and writes what became of them in each cell as a page to look at",
+            "Reads a book of alerts, as CSV, and writes what became of them in\neach cell as a page to look at",
         )
         .after_help("Example: warnc chart --slots 4096 < book.csv > chart.html")
         .arg(slots(alloc))?
@@ -590,55 +522,96 @@ fn chart<'a>(alloc: Global) -> Result<Command<'a>, AllocError> {
         .arg(workers(alloc))
 }
 
-/// The option of the one cell that is drawn.
-fn charted_cell<'a>(alloc: Global) -> Arg<'a> {
-    optional(
-        alloc,
-        "cell",
-        "LAC-CI",
-        "Draws this cell alone; all if it isn't given",
-    )
-    .value_parser(value_parser!(u16))
-    .value_delimiter('-')
-}
-
-/// The command line of `live`.
-fn live<'a>(alloc: Global) -> Result<Command<'a>, AllocError> {
-    Command::new(alloc, "live")
-        .about(
-            "Does what compile does, with the book's alerts shared by sessions that order side by side",
-        )
-        .after_help("Example: warnc live --slots 4096 --sessions 4 --workers 4 < book.csv > tapes")
-        .arg(slots(alloc))?
-        .arg(group(alloc))?
-        .arg(sessions(alloc))?
-        .arg(workers(alloc))
+/// The command line of `read`.
+fn read<'a>(alloc: Global) -> Command<'a> {
+    Command::new(alloc, "read")
+        .about("Reads tapes of blocks and writes a table of what a handset shows of\nthem, as CSV")
+        .after_help("Example: warnc read < tapes")
 }
 
 /// The command line of `verify`.
 fn verify<'a>(alloc: Global) -> Result<Command<'a>, AllocError> {
     Command::new(alloc, "verify")
         .about(
-            "Reads a book of alerts and then tapes, also of another sender's, and writes what these have otherwise, as CSV",
+            "Reads tapes, also of another sender's, and writes what they have\notherwise than a book of alerts asks, as CSV",
         )
-        .after_help(
-            "Example: cat book.csv tapes | warnc verify --slots 4096 --book-octets $(wc -c < book.csv)",
-        )
+        .after_help("Example: warnc verify --slots 4096 --book book.csv < tapes")
+        .arg(book(alloc))?
         .arg(slots(alloc))?
         .arg(group(alloc))?
-        .arg(book_octets(alloc))?
         .arg(workers(alloc))
 }
 
-/// The option of the number of octets of the book.
-fn book_octets<'a>(alloc: Global) -> Arg<'a> {
+/// The command line of `page`.
+fn page<'a>(alloc: Global) -> Result<Command<'a>, AllocError> {
+    Command::new(alloc, "page")
+        .about(
+            "Reads a text and writes the blocks of its pages, then what a handset\nshows of them",
+        )
+        .after_help(
+            "Example: echo 'Move now' |\n  warnc page --lang en --id 4370 --scope 0 --code 1 --update 0",
+        )
+        .arg(language(alloc))?
+        .arg(id(alloc))?
+        .arg(scope(alloc))?
+        .arg(code(alloc))?
+        .arg(update(alloc))
+}
+
+/// The command line of `live`.
+fn live<'a>(alloc: Global) -> Result<Command<'a>, AllocError> {
+    Command::new(alloc, "live")
+        .about(
+            "Does what compile does, with the book's alerts shared by sessions\nthat order side by side",
+        )
+        .after_help(
+            "Example:\n  warnc live --slots 4096 --sessions 4 --workers 4 < book.csv > tapes",
+        )
+        .arg(slots(alloc))?
+        .arg(group(alloc))?
+        .arg(sessions(alloc))?
+        .arg(workers(alloc))
+}
+
+/// The command line of `pcap`.
+fn pcap<'a>(alloc: Global) -> Result<Command<'a>, AllocError> {
+    Command::new(alloc, "pcap")
+        .about(
+            "Reads tapes of blocks and writes them as a capture file, a GSMTAP\npacket for each block",
+        )
+        .after_help("Example: warnc pcap --used < tapes > air.pcap")
+        .arg(used(alloc))?
+        .arg(channel(alloc))
+}
+
+/// The command line of `tape`.
+fn tape<'a>(alloc: Global) -> Result<Command<'a>, AllocError> {
+    Command::new(alloc, "tape")
+        .about(
+            "Reads a capture file of GSMTAP packets, also of another program's\nmaking, and writes a tape of it",
+        )
+        .after_help("Example: warnc tape --cell 1-1 --slots 4096 < air.pcap > tape")
+        .arg(cell(alloc))?
+        .arg(tape_slots(alloc))?
+        .arg(from(alloc))
+}
+
+/// The command line of `groups`.
+fn groups<'a>(alloc: Global) -> Command<'a> {
+    Command::new(alloc, "groups")
+        .about("Reads a network book, and writes how many groups of 64 cells it has")
+        .after_help("Example: warnc groups < network.csv")
+}
+
+/// The option of the number of slots.
+fn slots<'a>(alloc: Global) -> Arg<'a> {
     option(
         alloc,
-        "book-octets",
-        "OCTETS",
-        "How many octets of the input are the book, 0 to 67108864; the tapes follow them",
+        "slots",
+        "SLOTS",
+        "How many slots each cell's run has, 1 to 65535,\neach 1.883 s",
     )
-    .value_parser(value_parser!(u32).range(0..=67108864))
+    .value_parser(value_parser!(u16).range(1..=65535))
 }
 
 /// The option of the group of a network book.
@@ -647,7 +620,7 @@ fn group<'a>(alloc: Global) -> Arg<'a> {
         alloc,
         "group",
         "GROUP",
-        "Takes the input for a network book, and of it the group of this number, from 0; a book if it isn't given",
+        "Takes the book for a network book, and of it the\ngroup of this number, from 0",
     )
     .value_parser(value_parser!(u16))
 }
@@ -657,19 +630,9 @@ fn network<'a>(alloc: Global) -> Result<Arg<'a>, AllocError> {
     flag(
         alloc,
         "network",
-        "Takes the input for a network book, and writes what --group writes of each of its groups, in order",
+        "Takes the book for a network book, and writes what\n--group writes of each of its groups, in order",
     )
     .conflicts_with("group")
-}
-
-/// The option of the number of sessions.
-fn sessions<'a>(alloc: Global) -> Arg<'a> {
-    threads(
-        alloc,
-        "sessions",
-        "SESSIONS",
-        "How many sessions order side by side, 1 to 64; 1 if it isn't given",
-    )
 }
 
 /// The option of the number of workers.
@@ -678,32 +641,38 @@ fn workers<'a>(alloc: Global) -> Arg<'a> {
         alloc,
         "workers",
         "WORKERS",
-        "How many workers play cells and make tapes, or run groups, side by side, 1 to 64; 1 if it isn't given",
+        "How many workers play cells and make tapes, or run\ngroups, side by side, 1 to 64 [1]",
     )
 }
 
-/// An option `--name` of a number of threads, which needn't be given.
-fn threads<'a>(alloc: Global, name: &'a str, value: &'a str, help: &'a str) -> Arg<'a> {
-    optional(alloc, name, value, help).value_parser(value_parser!(u16).range(1..=64))
+/// The option of the number of sessions.
+fn sessions<'a>(alloc: Global) -> Arg<'a> {
+    threads(
+        alloc,
+        "sessions",
+        "SESSIONS",
+        "How many sessions order side by side, 1 to 64 [1]",
+    )
 }
 
-/// An option `--name` that needn't be given.
-fn optional<'a>(alloc: Global, name: &'a str, value: &'a str, help: &'a str) -> Arg<'a> {
-    Arg::new(alloc, name)
-        .long(name)
-        .value_name(value)
-        .help(help)
+/// The option of the one cell that is drawn.
+fn charted_cell<'a>(alloc: Global) -> Arg<'a> {
+    optional(
+        alloc,
+        "cell",
+        "LAC-CI",
+        "Draws this cell alone, as 1-2; all if it isn't given",
+    )
 }
 
-/// The option of the number of slots.
-fn slots<'a>(alloc: Global) -> Arg<'a> {
+/// The option of the file of a book.
+fn book<'a>(alloc: Global) -> Arg<'a> {
     option(
         alloc,
-        "slots",
-        "SLOTS",
-        "How many slots each cell's run has, 1 to 65535, each 1.883 s",
+        "book",
+        "FILE",
+        "The file of the book; the tapes are the input",
     )
-    .value_parser(value_parser!(u16).range(1..=65535))
 }
 
 /// The option of the text's language.
@@ -712,7 +681,7 @@ fn language<'a>(alloc: Global) -> Arg<'a> {
         alloc,
         "lang",
         "LANGUAGE",
-        "The text's language: de, en, it, fr, es, nl, sv, da, pt, fi, no, el, tr, hu, pl, und, cs, he, ar, ru or is",
+        "The text's language: de, en, it, fr, es, nl, sv, da,\npt, fi, no, el, tr, hu, pl, und, cs, he, ar, ru or is",
     )
 }
 
@@ -742,18 +711,51 @@ fn update<'a>(alloc: Global) -> Arg<'a> {
     ).range(0..=15))
 }
 
-/// The command line of `page`.
-fn page<'a>(alloc: Global) -> Result<Command<'a>, AllocError> {
-    Command::new(alloc, "page")
-        .about("Reads a text and writes the blocks of its pages, then what a handset shows of them")
-        .after_help(
-            "Example: echo 'Move now' | warnc page --lang en --id 4370 --scope 0 --code 1 --update 0",
-        )
-        .arg(language(alloc))?
-        .arg(id(alloc))?
-        .arg(scope(alloc))?
-        .arg(code(alloc))?
-        .arg(update(alloc))
+/// The option that leaves idle slots out of a capture.
+fn used<'a>(alloc: Global) -> Arg<'a> {
+    flag(alloc, "used", "Leaves out slots in which no page is sent")
+}
+
+/// The option of the channel that a capture names.
+fn channel<'a>(alloc: Global) -> Arg<'a> {
+    optional(
+        alloc,
+        "channel",
+        "CHANNEL",
+        "The CBCH that the packets name: 51 for that beside\nSDCCH/4, 52 for that beside SDCCH/8 [51]",
+    )
+    .value_parser(value_parser!(u16).range(51..=52))
+}
+
+/// The option of the cell that a tape names.
+fn cell<'a>(alloc: Global) -> Arg<'a> {
+    option(
+        alloc,
+        "cell",
+        "LAC-CI",
+        "The cell that the tape names, as 1-2: its location\narea code and its cell identity, 0 to 65535 each",
+    )
+}
+
+/// The option of the number of a tape's slots.
+fn tape_slots<'a>(alloc: Global) -> Arg<'a> {
+    option(
+        alloc,
+        "slots",
+        "SLOTS",
+        "How many slots the tape has, 1 to 65535, each 1.883 s",
+    )
+    .value_parser(value_parser!(u16).range(1..=65535))
+}
+
+/// The option of the address that packets come from.
+fn from<'a>(alloc: Global) -> Arg<'a> {
+    optional(
+        alloc,
+        "from",
+        "IPV4",
+        "Takes the packets from this IPv4 address alone, as\n127.0.0.1; all if it isn't given",
+    )
 }
 
 /// An option `--name` without a value.
@@ -767,4 +769,17 @@ fn flag<'a>(alloc: Global, name: &'a str, help: &'a str) -> Arg<'a> {
 /// A required option `--name`.
 fn option<'a>(alloc: Global, name: &'a str, value: &'a str, help: &'a str) -> Arg<'a> {
     optional(alloc, name, value, help).required(true)
+}
+
+/// An option `--name` that needn't be given.
+fn optional<'a>(alloc: Global, name: &'a str, value: &'a str, help: &'a str) -> Arg<'a> {
+    Arg::new(alloc, name)
+        .long(name)
+        .value_name(value)
+        .help(help)
+}
+
+/// An option `--name` of a number of threads, which needn't be given.
+fn threads<'a>(alloc: Global, name: &'a str, value: &'a str, help: &'a str) -> Arg<'a> {
+    optional(alloc, name, value, help).value_parser(value_parser!(u16).range(1..=64))
 }

@@ -5,3 +5,6 @@
 mod command;
 pub mod run;
 pub mod status;
+mod unreadable;
+
+pub use command::book_file;

@@ -1,6 +1,7 @@
 //! One run of the program: words in, a status out.
 
-ghost use Rattle.std.specs.Prelude.{◌≡◌, ◌≢◌, ◌<◌, ◌≤◌, ◌⊎◌, ℕ, List, Some, codes, false, true, map, slice_get, IfSome};
+ghost use Rattle.std.specs.Prelude.{◌≡◌, ◌≢◌, ◌<◌, ◌≤◌, ◌⊎◌, ℕ, List, None, Some, codes, false, true, map, slice_get};
+ghost use Rattle.std.specs.Prelude.{IfSome};
 ghost use Rattle.std.specs.Io.KnownBytes.{Appends, Keeps};
 ghost use Rattle.device_ends.specs.Moves.{WritesOutput};
 ghost use Rattle.device_ends.specs.Sink.{sink_failed, writer_of};
@@ -15,16 +16,18 @@ ghost use Rattle.gsmtap.specs.Capture.{IsCapture};
 ghost use Rattle.gsmtap.specs.TapeOfCapture.{IsTapeOfCapture};
 ghost use Rattle.warnc_inspect.specs.PageOutput.{IsPageOutput};
 ghost use Rattle.warnc_inspect.specs.ReadOutput.{IsReadOutput};
-ghost use Rattle.warnc_verify.specs.Input.{HasDifferences, IsVerified};
+ghost use Rattle.warnc_verify.specs.Verified.{HasDifferences, IsVerified};
 ghost use Rattle.warnc_cli.specs.RunSteps.{IsNetworkRunBetween, IsRunBetween, IsStatusOfSink, IsVerifyRunBetween};
 ghost use Rattle.warnc_cli.specs.Status.{IsNoAir, IsNoNetwork, IsNoNetworkRun, IsNoRun, IsNoTapes, IsRefused};
-ghost use Rattle.warnc_cli.specs.Status.{OneHasFailed, RefusesInput};
+ghost use Rattle.warnc_cli.specs.Status.{AnyHasFailed, RefusesInput};
 ghost use Rattle.warnc_cli.specs.Status.{IsNotVerified, MayWrite, WritesSome, WroteOfRefused};
-ghost use Rattle.warnc_cli.specs.Status.{ByInput, WritesSomeUnlessTapes, WroteWhatIsAsked, WroteWithoutMemory};
+ghost use Rattle.warnc_cli.specs.Status.{ByInputs, WritesOutputOfBoth, WritesSomeUnlessTapes, WroteWhatIsAsked};
+ghost use Rattle.warnc_cli.specs.Status.{WroteWithoutMemory};
 ghost use Rattle.device_ends.specs.Stream.{Writes};
 
 use crate::command::{PageOptions, Task, asks_for_text, task_of};
-use crate::status::{DEVICE, DONE, MEMORY, REFUSED_INPUT, USAGE, failed};
+use crate::status::{DEVICE, DONE, MEMORY, REFUSED_INPUT, USAGE, failed, failed_with_book};
+use crate::unreadable::Unreadable;
 use alert_book::Origin;
 use cbsp_wire::Cell;
 use clap::Error;
@@ -45,13 +48,13 @@ use warnc_run::{
     Product, ReportRunFault, Sessions, Workers, chart_stream, compile_from, groups_stream,
     live_from, network_stream, report_from,
 };
-use warnc_verify::verify_input;
+use warnc_verify::verify_stream;
 
 /// Runs the command that the words ask for (the first is the program's name), from a reader to a writer, and returns
 /// the status: 0 done, 1 refused input, 2 command line, 3 device, 4 memory. A fault is one line for `faults`, `warnc: `
 /// and the text, or the text that clap has; what `faults` doesn't take changes no status. Help goes to the writer.
 ///
-/// This wraps both ends, and is `run_between` on them: whose contract says what is written.
+/// `verify` asks for a book beside the reader, and ends with 3 here, as with a book that can't be read.
 pub fn run<T: AllocGlobal + Threads + Wait + Sync, S: AsStr, R: Read, W: Write, F: Write>(
     rt: &T,
     words: &[S],
@@ -59,42 +62,72 @@ pub fn run<T: AllocGlobal + Threads + Wait + Sync, S: AsStr, R: Read, W: Write, 
     writer: &mut W,
     faults: &mut F,
 ) -> u8
-    ensures refused { result ≡ REFUSED_INPUT → RefusesInput (map S.text words.now) (R.remaining reader.old) }
+    ensures refused { result ≡ REFUSED_INPUT → RefusesInput (map S.text words.now) None (R.remaining reader.old) }
     ensures statuses { result ≤ 4 }
 {
-    let mut source = Source::new(reader);
-    let mut sink = Sink::new(writer);
-    run_between(rt, words, &mut source, &mut sink, faults)
+    run_with_book(rt, words, &mut Unreadable, reader, writer, faults)
 }
 
-/// The same, between two ends. With status 0 what the words ask for is written, with 2 and 4 nothing is, and with 1 the
+/// The same with a book for `verify`: the octets of the file that the words name
+/// ([`book_file`](crate::book_file)). Other commands don't read it.
+///
+/// This wraps the three ends, and is `run_between` on them: whose contract says what is written.
+pub fn run_with_book<
+    T: AllocGlobal + Threads + Wait + Sync,
+    S: AsStr,
+    B: Read,
+    R: Read,
+    W: Write,
+    F: Write,
+>(rt: &T, words: &[S], book: &mut B, reader: &mut R, writer: &mut W, faults: &mut F) -> u8
+    ensures refused { result ≡ REFUSED_INPUT
+        → RefusesInput (map S.text words.now) (B.remaining book.old) (R.remaining reader.old) }
+    ensures statuses { result ≤ 4 }
+{
+    let mut book = Source::new(book);
+    let mut source = Source::new(reader);
+    let mut sink = Sink::new(writer);
+    run_between(rt, words, &mut book, &mut source, &mut sink, faults)
+}
+
+/// The same, between the ends. With status 0 what the words ask for is written, with 2 and 4 nothing is, and with 1 the
 /// differences, if the words ask for `verify` and there are some, and else nothing. That is one octet at least, but for
 /// `compile` and `live`, since a book without cells has no tapes, and for the report of a group. Of a network whose run
 /// ends early the first groups are written with 1 and with 4.
-pub fn run_between<T: AllocGlobal + Threads + Wait + Sync, S: AsStr, R: Read, W: Write, F: Write>(
+pub fn run_between<
+    T: AllocGlobal + Threads + Wait + Sync,
+    S: AsStr,
+    B: Read,
+    R: Read,
+    W: Write,
+    F: Write,
+>(
     rt: &T,
     words: &[S],
+    book: &mut Source<B>,
     source: &mut Source<R>,
     sink: &mut Sink<W>,
     faults: &mut F,
 ) -> u8
-    ensures done { result ≡ DONE → ByInput R.remaining W.contents
-        (WroteWhatIsAsked (map S.text words.now)) source.old sink.old sink.new }
+    ensures done { result ≡ DONE → ByInputs B.remaining R.remaining W.contents
+        (WroteWhatIsAsked (map S.text words.now)) book.old source.old sink.old sink.new }
     ensures wrote { result ≡ DONE → Writes W.contents (WritesSomeUnlessTapes (map S.text words.now))
         sink.old sink.new }
     ensures nothing_written { (MayWrite (map S.text words.now) result → ⊥)
         → Keeps (W.contents (writer_of sink.old)) (W.contents (writer_of sink.new)) }
     ensures untouched { (MayWrite (map S.text words.now) result → ⊥) → sink.new ≡ sink.old }
-    ensures differences { result ≡ REFUSED_INPUT → ByInput R.remaining W.contents
-        (WroteOfRefused (map S.text words.now)) source.old sink.old sink.new }
-    ensures memory { result ≡ MEMORY → ByInput R.remaining W.contents
-        (WroteWithoutMemory (map S.text words.now)) source.old sink.old sink.new }
-    ensures refused { result ≡ REFUSED_INPUT
-        → RefusesInput (map S.text words.now) (R.remaining (reader_of source.old)) }
-    ensures device { result ≡ DEVICE → OneHasFailed source.new sink.new }
+    ensures differences { result ≡ REFUSED_INPUT → ByInputs B.remaining R.remaining W.contents
+        (WroteOfRefused (map S.text words.now)) book.old source.old sink.old sink.new }
+    ensures memory { result ≡ MEMORY → ByInputs B.remaining R.remaining W.contents
+        (WroteWithoutMemory (map S.text words.now)) book.old source.old sink.old sink.new }
+    ensures refused { result ≡ REFUSED_INPUT → RefusesInput (map S.text words.now)
+        (B.remaining (reader_of book.old)) (R.remaining (reader_of source.old)) }
+    ensures device { result ≡ DEVICE → AnyHasFailed book.new source.new sink.new }
     ensures not_read { result ≡ USAGE → source.new ≡ source.old }
-    ensures failed { (source_failed source.old ≡ false) → (sink_failed sink.old ≡ false)
-        → OneHasFailed source.new sink.new → result ≡ DEVICE }
+    ensures no_book { result ≡ USAGE ⊎ (slice_get (map S.text words.now) 1 ≢ Some (codes "verify"))
+        → book.new ≡ book.old }
+    ensures failed { (source_failed book.old ≡ false) → (source_failed source.old ≡ false)
+        → (sink_failed sink.old ≡ false) → AnyHasFailed book.new source.new sink.new → result ≡ DEVICE }
     ensures statuses { result ≤ 4 }
 {
     let alloc = rt.alloc();
@@ -123,18 +156,9 @@ pub fn run_between<T: AllocGlobal + Threads + Wait + Sync, S: AsStr, R: Read, W:
             Task::Verify {
                 origin,
                 slots,
-                book_octets,
+                file,
                 workers,
-            } => run_verify(
-                rt,
-                origin,
-                slots,
-                book_octets,
-                workers,
-                source,
-                sink,
-                faults,
-            ),
+            } => run_verify(rt, origin, slots, file, workers, book, source, sink, faults),
             Task::Chart {
                 slots,
                 wanted,
@@ -148,7 +172,10 @@ pub fn run_between<T: AllocGlobal + Threads + Wait + Sync, S: AsStr, R: Read, W:
             } => run_live(rt, origin, slots, sessions, workers, source, sink, faults),
         },
         Ok(None) => {
-            let _ = writeln!(faults, "warnc: no such cell or address");
+            let _ = writeln!(
+                faults,
+                "warnc: no such cell or address: --cell is as 1-2, --from as 127.0.0.1"
+            );
             USAGE
         }
         Err(error) => run_text(alloc, &error, asks_for_text(words), sink, faults),
@@ -401,31 +428,34 @@ fn run_chart<T: AllocGlobal + Threads + Wait + Sync, R: Read, W: Write, F: Write
     }
 }
 
-/// Runs `verify`, and returns the status.
-fn run_verify<T: AllocGlobal + Threads + Wait + Sync, R: Read, W: Write, F: Write>(
+/// Runs `verify` with the book of this file, and returns the status.
+fn run_verify<T: AllocGlobal + Threads + Wait + Sync, B: Read, R: Read, W: Write, F: Write>(
     rt: &T,
     origin: Origin,
     slots: u16,
-    book_octets: u32,
+    file: &str,
     workers: Workers,
-    source: &mut Source<R>,
+    book: &mut Source<B>,
+    tapes: &mut Source<R>,
     sink: &mut Sink<W>,
     faults: &mut F,
 ) -> u8
-    ensures done { result ≡ DONE → WritesOutput (IsVerified origin slots book_octets)
-        (R.remaining (reader_of source.old)) (W.contents (writer_of sink.old)) (W.contents (writer_of sink.new)) }
-    ensures any_ends { IsVerifyRunBetween result source.new sink.old sink.new
+    ensures done { result ≡ DONE → WritesOutputOfBoth (IsVerified origin slots)
+        (B.remaining (reader_of book.old)) (R.remaining (reader_of tapes.old))
+        (W.contents (writer_of sink.old)) (W.contents (writer_of sink.new)) }
+    ensures any_ends { IsVerifyRunBetween result book.old book.new tapes.old tapes.new sink.old sink.new
         (W.contents (writer_of sink.old)) (W.contents (writer_of sink.new)) }
     ensures wrote { result ≡ DONE → WritesSome (W.contents (writer_of sink.old)) (W.contents (writer_of sink.new)) }
-    ensures refused { result ≡ REFUSED_INPUT → IfSome (R.remaining (reader_of source.old))
-        (IsNotVerified origin slots book_octets) }
+    ensures refused { result ≡ REFUSED_INPUT → IfSome (B.remaining (reader_of book.old)) (λ octets.
+        IfSome (R.remaining (reader_of tapes.old)) (IsNotVerified origin slots octets)) }
     ensures differences { result ≡ REFUSED_INPUT → Keeps (W.contents (writer_of sink.old))
-        (W.contents (writer_of sink.new)) ⊎ WritesOutput (HasDifferences origin slots book_octets)
-        (R.remaining (reader_of source.old)) (W.contents (writer_of sink.old)) (W.contents (writer_of sink.new)) }
+        (W.contents (writer_of sink.new)) ⊎ WritesOutputOfBoth (HasDifferences origin slots)
+        (B.remaining (reader_of book.old)) (R.remaining (reader_of tapes.old))
+        (W.contents (writer_of sink.old)) (W.contents (writer_of sink.new)) }
 {
-    match verify_input(rt, source, sink, book_octets, origin, slots, workers) {
+    match verify_stream(rt, book, tapes, sink, origin, slots, workers) {
         Ok(()) => DONE,
-        Err(fault) => failed(&fault, faults),
+        Err(fault) => failed_with_book(&fault, file, faults),
     }
 }
 

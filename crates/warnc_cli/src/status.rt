@@ -56,6 +56,26 @@ pub(crate) fn failed<E: Fault, F: Write>(fault: &E, faults: &mut F) -> u8
     fault.status()
 }
 
+/// The same of `verify`: a book that couldn't be read is named by its file, since the tapes are another input.
+pub(crate) fn failed_with_book<F: Write>(fault: &VerifyFault, file: &str, faults: &mut F) -> u8
+    ensures { result ≡ status_of_verify_fault fault.now }
+{
+    match *fault {
+        VerifyFault::Run(
+            RunFault::Book(
+                BookFault {
+                    row: 0,
+                    kind: BookFaultKind::ReadFailed,
+                },
+            ),
+        ) => {
+            let _ = writeln!(faults, "warnc: {file}: {fault}");
+            DEVICE
+        }
+        _ => failed(fault, faults),
+    }
+}
+
 impl Fault for PageFault {
     ghost status_of = { status_of_page_fault };
 
@@ -164,7 +184,7 @@ impl Fault for VerifyFault {
         match *self {
             VerifyFault::Run(fault) => fault.status(),
             VerifyFault::Tapes(fault) => fault.status(),
-            VerifyFault::ShortBook | VerifyFault::Differences(_) => REFUSED_INPUT,
+            VerifyFault::Differences(_) => REFUSED_INPUT,
             VerifyFault::Refused => MEMORY,
             VerifyFault::WriteFailed => DEVICE,
         }

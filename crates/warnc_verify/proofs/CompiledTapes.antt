@@ -4,9 +4,8 @@ use Rattle.std.proofs.Common.{subst, arith}
 use Rattle.std.proofs.Common.{leb-true}
 use Rattle.std.specs.Prelude.{nat_le}
 use Rattle.std.specs.List.{AllByRecursion, flat_map}
-use Rattle.std.proofs.Math.Seq.{drop-append_seam, take-append_seam}
 use Rattle.std.proofs.lemmas.Bool.{and_parts}
-use Rattle.std.proofs.lemmas.List.{length-append, length-map}
+use Rattle.std.proofs.lemmas.List.{length-map}
 use Rattle.std.proofs.lemmas.List.Concat.{flat_map-cons}
 use Rattle.std.proofs.lemmas.List.Elements.{recursion_from_All}
 use Rattle.std.proofs.lemmas.List.Sorted.{IsPermutation-refl}
@@ -20,7 +19,6 @@ use Rattle.handset.specs.Recording.{AreJoinedRecordings, AreRecordings, HoldsRec
 use Rattle.verification_laws.specs.OwnTapes.{AreOwnTapes, OwnTapesHaveNoRows, recording_of}
 use Rattle.verification_laws.specs.Recorded.{RecordsAreRecorded}
 use Rattle.warnc_run.specs.Compiled.{IsCompiledFrom}
-use Rattle.warnc_run.specs.Records.{AreRecordsFrom}
 use Rattle.warnc_verify.specs.Laws.{CompiledDiffersNowhere}
 
 -- the tapes of records are their recordings, one after another
@@ -84,20 +82,17 @@ recordings from slots input output compiled few valid recorded =
 pub compiled-differs-nowhere : CellsAreValid → RecordsAreRecorded → OwnTapesHaveNoRows → CompiledDiffersNowhere
 compiled-differs-nowhere valid recorded rows from slots input output few compiled = (
   record {
-    long = omega (arith, length-append input output);
     records = compiled.records;
-    run = subst (λ octets. AreRecordsFrom from slots octets compiled.records) (sym (take-append_seam input output))
-        (record {
-          book = compiled.book;
-          is_book = compiled.is_book;
-          exchanges = compiled.exchanges;
-          run = compiled.run;
-          meant = compiled.meant;
-          accepted = compiled.accepted;
-        });
-    tapes = map recording_of compiled.records;
-    tapes_are = subst (λ octets. AreRecordings octets (map recording_of compiled.records))
-        (sym (drop-append_seam input output)) (recordings from slots input output compiled few valid recorded);
+    run = record {
+      book = compiled.book;
+      is_book = compiled.is_book;
+      exchanges = compiled.exchanges;
+      run = compiled.run;
+      meant = compiled.meant;
+      accepted = compiled.accepted;
+    };
+    recordings = map recording_of compiled.records;
+    recordings_are = recordings from slots input output compiled few valid recorded;
     rows_are = rows compiled.records (map recording_of compiled.records)
         (own-tapes from slots input output compiled valid);
   },

@@ -1,4 +1,4 @@
 pub mod Tables
 pub mod Inputs
-pub mod Memory
 pub mod CompiledTapes
+pub mod OneTable

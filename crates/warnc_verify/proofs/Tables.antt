@@ -18,7 +18,6 @@ pub table_fault : (from : Origin) (slots : ℕ) (ends : Readers) (old new : Opti
     → IsTableFault old new shown fault
     → IsVerifyFault from slots ends old new fault
 table_fault from slots ends old new rows shown (faults.Run f) is finds why = absurd why
-table_fault from slots ends old new rows shown faults.ShortBook is finds why = absurd why
 table_fault from slots ends old new rows shown (faults.Tapes f) is finds why = absurd why
 table_fault from slots ends old new rows shown (faults.Differences count) is finds why = absurd why
 table_fault from slots ends old new rows shown faults.Refused is finds why = tt

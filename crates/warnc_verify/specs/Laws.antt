@@ -1,13 +1,28 @@
--- What `compile` writes has no difference. Own.
-use Rattle.std.specs.Prelude.{ℕ, ◌≤◌, List, [], ◌++◌, length}
+-- What is so of a book and of tapes whoever judges them. Own.
+use Rattle.std.specs.Prelude.{◌≡◌, ℕ, ◌≤◌, List, []}
 use Rattle.alert_book.specs.declared.network.Origin.{Origin}
 use Rattle.verification.specs.RowText.{rows_text}
+use Rattle.verification.specs.declared.row.Row.{Row}
 use Rattle.warnc_run.specs.Compiled.{IsCompiledFrom}
-use Rattle.warnc_verify.specs.Input.{IsVerified}
+use Rattle.warnc_verify.specs.Verified.{HasDifferences, IsTableOf, IsVerified}
 
--- a book and the tapes that are compiled of it, read one after the other: there is no row
+-- the differences of tapes from a book are one list of rows, and one table
+abbrev pub VerifiedIsOne : Type 0
+VerifiedIsOne = (from : Origin) (slots : ℕ) (rows others : List Row) (book tapes output other : List ℕ)
+    → IsTableOf from slots rows book tapes output
+    → IsTableOf from slots others book tapes other
+    → (rows ≡ others) × (output ≡ other)
+
+-- so tapes that a book verifies have no difference from it
+abbrev pub VerdictsExclude : Type 0
+VerdictsExclude = (from : Origin) (slots : ℕ) (book tapes output other : List ℕ)
+    → IsVerified from slots book tapes output
+    → HasDifferences from slots book tapes other
+    → ⊥
+
+-- the tapes that are compiled of a book have no difference from it
 abbrev pub CompiledDiffersNowhere : Type 0
-CompiledDiffersNowhere = (from : Origin) (slots : ℕ) (input output : List ℕ)
+CompiledDiffersNowhere = (from : Origin) (slots : ℕ) (book tapes : List ℕ)
     → slots ≤ 65535
-    → IsCompiledFrom from slots input output
-    → IsVerified from slots (length input) (input ++ output) (rows_text [])
+    → IsCompiledFrom from slots book tapes
+    → IsVerified from slots book tapes (rows_text [])

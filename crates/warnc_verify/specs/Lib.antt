@@ -1,5 +1,3 @@
 pub mod Verified
 pub mod VerifySteps
-pub mod Input
-pub mod InputSteps
 pub mod Laws

@@ -14,9 +14,6 @@ pub enum VerifyFault {
     /// The book can't be read or is refused, or its run didn't come to its end.
     #[error("{0}")]
     Run(RunFault),
-    /// The input ends before as many octets as the book is said to have.
-    #[error("book is short")]
-    ShortBook,
     /// The tapes can't be read, or aren't tapes.
     #[error("{0}")]
     Tapes(TapeFault),

@@ -7,12 +7,10 @@
 #![tactic(auto)]
 
 pub mod fault;
-pub mod input;
 mod judge;
 mod laws;
 pub mod verify;
 
 pub use fault::VerifyFault;
-pub use input::verify_input;
 pub use laws::verify_laws;
 pub use verify::verify_stream;

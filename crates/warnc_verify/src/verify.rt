@@ -28,10 +28,9 @@ use verification::{Findings, Row, text_of};
 use warnc_run::{Workers, run_book};
 
 /// Reads a book, or a network book for a group, has its cells carry out what its one session orders, in runs of `slots`
-/// slots, as
-/// [`compile_from`](warnc_run::compile_from) does, reads tapes up to their end, and writes a row for each difference
-/// between what the cells were asked and what the tapes send, and for each cell without a tape and tape without a cell
-/// (`AreRows`). Nothing is written before all is known. `workers` workers play the cells.
+/// slots, as [`compile_from`](warnc_run::compile_from) does, reads tapes up to their end, and writes a row for each
+/// difference between what the cells were asked and what the tapes send, and for each cell without a tape and tape
+/// without a cell (`AreRows`). Nothing is written before all is known. `workers` workers play the cells.
 ///
 /// # Errors
 ///
@@ -58,6 +57,9 @@ pub fn verify_stream<T: AllocGlobal + Threads + Wait + Sync, B: Read, R: Read, W
     ensures book_first { IfErr result (λ fault. IsOfBookOrRun fault → tapes.new ≡ tapes.old) }
     ensures tapes_failed { source_failed tapes.old ≡ false
         → (IsErrOf result (faults.Tapes tape.ReadFailed) ↔ IsTrue (source_failed tapes.new)) }
+    ensures tapes_told { IsErrOf result (faults.Tapes tape.ReadFailed) → source_failed tapes.new ≡ true }
+    ensures tapes_read { OnOk result (source_failed tapes.new ≡ false) }
+    ensures tapes_judged { IfErr result (λ fault. HasWritten fault → source_failed tapes.new ≡ false) }
     ensures write_failed { IsErrOf result faults.WriteFailed → sink_failed sink.new ≡ true }
     ensures written { OnOk result (sink_failed sink.new ≡ false) }
     ensures differences_written { IfErr result (λ fault. IsDifference fault → sink_failed sink.new ≡ false) }
@@ -92,6 +94,7 @@ fn rows_of<T: AllocGlobal + Threads + Wait + Sync, B: Read, R: Read>(
     ensures tapes_failed { source_failed tapes.old ≡ false
         → (IsErrOf result (faults.Tapes tape.ReadFailed) ↔ IsTrue (source_failed tapes.new)) }
     ensures failed { IsErrOf result (faults.Tapes tape.ReadFailed) → source_failed tapes.new ≡ true }
+    ensures tapes_read { OnOk result (source_failed tapes.new ≡ false) }
     ensures book_stays { source_failed book.old ≡ true → book.new ≡ book.old }
     ensures tapes_stay { source_failed tapes.old ≡ true → tapes.new ≡ tapes.old }
 {

@@ -1,8 +1,13 @@
 use Rattle.warnc_verify.proofs.CompiledTapes.{compiled-differs-nowhere}
+use Rattle.warnc_verify.proofs.OneTable.{verdicts-exclude, verified-is-one}
 use Rattle.warnc_verify.proofs.laws.verify_laws.Goals as goal
 
 pub returns : goal.returns
-returns c = record {
-  compiled_differs_nowhere = compiled-differs-nowhere c.book_laws.ensures.cells
-      c.verification_laws.ensures.records_are_recorded c.verification_laws.ensures.own_tapes_have_no_rows;
-}
+returns c =
+    let one = verified-is-one c.one_run_law.ensures c.recording_laws.ensures.one
+    c.verification_laws.ensures.tapes_have_one_list_of_rows in record {
+      verified_is_one = one;
+      verdicts_exclude = verdicts-exclude one;
+      compiled_differs_nowhere = compiled-differs-nowhere c.book_laws.ensures.cells
+          c.verification_laws.ensures.records_are_recorded c.verification_laws.ensures.own_tapes_have_no_rows;
+    }

@@ -1,18 +1,29 @@
-use Rattle.std.proofs.Common.{[]}
+use Rattle.handset.specs.Recording.{AreRecordings}
+use Rattle.std.proofs.Common.{[], List, ℕ}
 use Rattle.verification.specs.Found.{HasTaken}
+use Rattle.warnc_verify.proofs.Inputs.{octets_of}
 use Rattle.warnc_verify.proofs.verify.rows_of.Goals as goal
 
 pub returns-clause-ok : goal.returns-clause-ok
 returns-clause-ok g c =
     let records = c.in_ok-records.records.items in
+    let run = c.in_ok-records.ensures.ok in
     let recorded = c.in_ok-record_each.ensures.ok in
     let taken : HasTaken records c.record_each.new.taker.findings recorded.recordings =
-    recorded.taken records [] c.in_ok-new.ensures in record {
-      records = records;
-      run = c.in_ok-records.ensures.ok;
-      tapes = recorded.recordings;
-      of_input = recorded.of_input;
-      of_some = recorded.of_some;
-      ended = c.in_ok-record_each.ensures.whole;
-      rows_are = c.in_ok-rows.ensures records recorded.recordings taken;
+    recorded.taken records [] c.in_ok-new.ensures in
+    let tapes = octets_of (λ (octets : List ℕ). AreRecordings octets recorded.recordings) _ recorded.of_input
+    recorded.of_some in record {
+      book = run.input;
+      book_read = run.read;
+      book_ended = run.ended;
+      tapes = tapes.0;
+      tapes_read = tapes.1;
+      tapes_ended = c.in_ok-record_each.ensures.whole;
+      differ = record {
+        records = records;
+        run = run.made;
+        recordings = recorded.recordings;
+        recordings_are = tapes.2;
+        rows_are = c.in_ok-rows.ensures records recorded.recordings taken;
+      };
     }
