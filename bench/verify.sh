@@ -14,15 +14,10 @@ program, work = sys.argv[1:]
 
 
 for kind in ("typical", "full", "background"):
-    book, tapes, both = (os.path.join(work, kind + end) for end in ("", ".tapes", ".both"))
+    book, tapes = (os.path.join(work, kind + end) for end in ("", ".tapes"))
     compiled, _ = best_of_five([program, "compile", "--slots", "4096"], book, tapes)
     shown, _ = best_of_five([program, "read"], tapes, os.devnull)
-    with open(both, "wb") as it:
-        for part in (book, tapes):
-            with open(part, "rb") as octets:
-                it.write(octets.read())
-    command = [program, "verify", "--slots", "4096", "--book-octets", str(os.path.getsize(book))]
-    verified, peak = best_of_five(command, both, os.devnull)
+    verified, peak = best_of_five([program, "verify", "--slots", "4096", "--book", book], tapes, os.devnull)
     print(f"{kind:10} compile {compiled:.3f} s, read {shown:.3f} s, verify {verified:.3f} s, "
           f"{verified / (compiled + shown):.2f} times both; peak {peak / 1e6:.1f} MB, "
           f"{peak / (os.path.getsize(tapes) / 64):.1f} times a tape")
