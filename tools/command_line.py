@@ -3,6 +3,7 @@
 
 Usage: command_line.py              compares them with crates/warnc_cli/src/command.rt, which describes them to clap
        command_line.py PROGRAM      compares with that description also what the --help of a built program lists
+       command_line.py --help       prints this
 """
 import os
 import re
@@ -62,13 +63,13 @@ def of_program(program):
 
     listed = re.search(r"^Commands:\n((?: +.*\n)+)", said("--help"), re.M)[1]
     commands = [it for it in re.findall(r"^  (\w+)", listed, re.M) if it != "help"]
-    options = r"^ +(?:-\w, )?--(\w+)"
+    options = r"^ +(?:-\w, )?--([\w-]+)"
     return {"help": set(), **{it: set(re.findall(options, said(it, "--help"), re.M)) - {"help"} for it in commands}}
 
 
 def plain(text):
-    """Returns the words of a text, with one space between them."""
-    return " ".join(re.sub(r"\bor\b|,", " ", text).split())
+    """Returns the words of a text, with one space between them. A line of the source may end a line by `\\n`."""
+    return " ".join(re.sub(r"\bor\b|,|\\n", " ", text).split())
 
 
 def differences(path, commands, languages):
@@ -99,6 +100,12 @@ def between(path, named, commands):
 
 
 def main(words):
+    if words in (["-h"], ["--help"]):
+        print(__doc__)
+        return 0
+    if len(words) > 1 or words and not os.path.isfile(words[0]):
+        print(f"tools/command_line.py: unknown words: {' '.join(words)}\n\n{__doc__}", file=sys.stderr)
+        return 2
     commands, languages = of_source()
     found = [it for path in TEXTS for it in differences(path, commands, languages)]
     for program in words:

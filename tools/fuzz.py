@@ -113,7 +113,7 @@ ROW_FAULT = (r"row 0: too many rows|row [1-9]\d*: (?:columns|verb|number|unknown
 TAPE_FAULT = "tape is short|tape is long"
 FAULTS = {"page": TEXT_FAULT + "|text is not UTF-8|text is too long", "read": TAPE_FAULT, "pcap": TAPE_FAULT,
           "tape": r"not a capture file|unknown link type|packet [1-9]\d*: (?:capture is short|block differs|steps back)",
-          "verify": rf"{ROW_FAULT}|{TAPE_FAULT}|book is short|differences: [1-9]\d*", **dict.fromkeys(OF_BOOKS, ROW_FAULT)}
+          "verify": rf"{ROW_FAULT}|{TAPE_FAULT}|differences: [1-9]\d*", **dict.fromkeys(OF_BOOKS, ROW_FAULT)}
 DIFFERENCE = re.compile(
     rb"\d+,\d+,(?:,,,(?:no tape|other slots|second tape|unknown cell)|\d+,[0-9a-f]{4},\d+,(?:page (?:[1-9]|1[0-5]) reads otherwise"
     rb"|before its start|after its stop|after its last broadcast|broadcast \d+ not whole|not ordered))")
@@ -141,9 +141,17 @@ class Run:
     faults: str = "pipe"
     # octets of a piece, or those that the writer takes
     size: int = 0
+    # how many of the first octets are the book of `verify`, which is a file beside the input
+    book: int = 0
 
     def command(self):
         return self.words[0] if self.words and self.words[0] in COMMANDS else ""
+
+    def parts(self):
+        """Returns the octets of a book, or None, and those of the input."""
+        if self.command() != "verify":
+            return None, self.data
+        return self.data[:self.book], self.data[self.book:]
 
     def number(self, name, otherwise):
         """Returns the number that the words give an option."""
@@ -202,22 +210,27 @@ def reader_of(run):
         return os.open(TOP, os.O_RDONLY), None
     if run.reader == "pieces":
         return os.pipe()
+    return file_of(run.parts()[1]), None
+
+
+def file_of(octets):
+    """Returns a descriptor of a file that has these octets."""
     end = os.memfd_create("input")
-    left = memoryview(run.data)
+    left = memoryview(octets)
     while left:
         left = left[os.write(end, left):]
     os.lseek(end, 0, os.SEEK_SET)
-    return end, None
+    return end
 
 
 def feed(run, child, source, pipe, deadline):
     """Writes the input in pieces into a pipe, each once the program has read the one before. Closes both ends."""
-    first = 0
-    while first < len(run.data) and child.poll() is None and time.monotonic() < deadline:
+    first, data = 0, run.parts()[1]
+    while first < len(data) and child.poll() is None and time.monotonic() < deadline:
         if int.from_bytes(fcntl.ioctl(source, termios.FIONREAD, b"\0" * 4), sys.byteorder):
             time.sleep(0.0002)
         else:
-            first += os.write(pipe, run.data[first:first + run.size])
+            first += os.write(pipe, data[first:first + run.size])
     os.close(source)
     os.close(pipe)
 
@@ -279,10 +292,12 @@ class Bench:
         """Starts the program. Returns its process, and the descriptors from which its two outputs are read, or None."""
         (source, pipe), (sink, back) = reader_of(run), writer_of(run)
         said, faults = (None, os.open("/dev/full", os.O_WRONLY)) if run.faults == "full" else os.pipe()
-        memory = self.memory(run)
-        child = subprocess.Popen([self.program, *run.words], stdin=source, stdout=sink, stderr=faults,
-                                 preexec_fn=lambda: prepare(memory, run))
-        for end in (sink, faults):
+        memory, book = self.memory(run), run.parts()[0]
+        files = [] if book is None else [file_of(book)]
+        words = [word for end in files for word in ("--book", f"/dev/fd/{end}")]
+        child = subprocess.Popen([self.program, *run.words, *words], stdin=source, stdout=sink, stderr=faults,
+                                 preexec_fn=lambda: prepare(memory, run), pass_fds=files)
+        for end in (sink, faults, *files):
             os.close(end)
         if pipe is None:
             os.close(source)
@@ -436,7 +451,8 @@ def statuses_of(run):
     """Returns the statuses that a run may have."""
     found = {"usage": {2}, "text": {0}, "run": {0, 1}}[run.wanted]
     if run.reader in ("folder", "shut") and run.wanted == "run":
-        found = {3}
+        # the book of `verify` is read before its input
+        found = {1, 3} if run.command() == "verify" else {3}
     elif run.writer != "pipe" and run.wanted != "usage":
         found = found | {3}
     return found | ({4} if run.spare is not None else set())
@@ -445,7 +461,7 @@ def statuses_of(run):
 def line_fault(run, ran):
     """Returns what is wrong with standard error, or None."""
     if ran.status == 2:
-        fronts = b"error: ", b"warnc: words are not UTF-8\n", b"warnc: no such cell or address\n"
+        fronts = b"error: ", b"warnc: words are not UTF-8\n", b"warnc: no such cell or address: "
         right = ran.err.startswith(fronts) or not run.words and ran.err
     else:
         reader = "read failed" if run.reader in ("folder", "shut") else "write failed"
@@ -597,8 +613,7 @@ def check_verify(checked, case):
     chance = random.Random(case.number)
     each = tapes_of(tapes.out)
     chance.shuffle(each)
-    words = "--book-octets", str(len(book)), "--workers", str(case.size)
-    own = plain(case.run, "verify", *words).but(data=book + joined(each))
+    own = plain(case.run, "verify", "--workers", str(case.size)).but(data=book + joined(each), book=len(book))
     ran = checked.run(own)
     checked.expect(ran.status == 0, own, ran, f"verify finds differences in a book's own tapes: {ran.said()}")
     spoilt = joined(change_tapes(chance, each))
@@ -1125,8 +1140,6 @@ def book_options(chance, command, book):
         options["--sessions"] = threads_word(chance)
     if command == "chart" and chance.random() < 0.3:
         options["--cell"] = cell_word(chance)
-    if command == "verify":
-        options["--book-octets"] = str(chance.choice((len(book), len(book), len(book) // 2, len(book) + 1, 0)))
     return options
 
 
@@ -1163,7 +1176,7 @@ def good_options(chance, command, data):
 def spoilt_words(chance, command, options):
     """Returns words that clap refuses."""
     limits = {"--id": 65536, "--scope": 4, "--code": 1024, "--update": 16, "--slots": 65536, "--workers": 65,
-              "--sessions": 65, "--book-octets": 67108865, "--channel": 53, "--cell": "1-65536", "--from": "1.2.3.256"}
+              "--sessions": 65, "--channel": 53, "--cell": "1-65536", "--from": "1.2.3.256"}
     kind = chance.randrange(6)
     numbers = [name for name in options if name in limits]
     if kind == 0 and numbers:
@@ -1228,6 +1241,7 @@ def case_of(chance, number, kind, data):
     shares = SHARES[next(it for it, commands in COMMANDS_OF.items() if command in commands)]
     check = chance.choices(list(shares), list(shares.values()))[0]
     run = Run([command, *words_of(chance, good_options(chance, command, data))], data)
+    run = run.but(book=chance.choice((len(data), len(data), len(data) // 2, 0)))
     spares = [chance.choice(SPARES) * chance.randint(512, 1024) for _ in range(2)] if check == "tight" else []
     return Case(number, check, run, chance.choice(SIZES.get(check, (1,))), spares)
 

@@ -12,6 +12,7 @@ import random
 import struct
 import subprocess
 import sys
+import tempfile
 
 import malformed
 
@@ -243,7 +244,10 @@ def differs(program, seed):
     else:
         rng.shuffle(tapes)
     table = table_of(cells, asked_of(report.stdout.decode(), orders, slots), tapes, slots)
-    said = run(program, ["verify", "--slots", str(slots), "--book-octets", str(len(octets))], octets + octets_of(tapes))
+    with tempfile.NamedTemporaryFile() as file:
+        file.write(octets)
+        file.flush()
+        said = run(program, ["verify", "--slots", str(slots), "--book", file.name], octets_of(tapes))
     count = table.count("\n") - 1
     status, faults = (1, f"warnc: differences: {count}\n") if count else (0, "")
     if (said.stdout.decode(), said.stderr.decode(), said.returncode) == (table, faults, status) and (seed % 3 or not count):

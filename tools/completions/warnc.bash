@@ -23,6 +23,11 @@ _warnc() {
         --network)
             words="--slots --workers -h --help"
             ;;
+        --book)
+            COMPREPLY=($(compgen -f -- "$word"))
+            compopt -o filenames
+            return
+            ;;
         --*)
             # any other option takes a number, which nobody can guess
             ;;
@@ -36,7 +41,7 @@ _warnc() {
             report) words="--slots --group --network --workers -h --help" ;;
             groups) words="-h --help" ;;
             chart) words="--slots --cell --workers -h --help" ;;
-            verify) words="--slots --group --book-octets --workers -h --help" ;;
+            verify) words="--slots --group --book --workers -h --help" ;;
             page) words="--lang --id --scope --code --update -h --help" ;;
             help) words="compile live read pcap tape report groups chart verify page" ;;
             esac

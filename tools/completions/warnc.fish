@@ -41,7 +41,7 @@ complete -c warnc -n '__fish_seen_subcommand_from chart' -x -l cell -d 'Cell tha
 complete -c warnc -n '__fish_seen_subcommand_from chart' -x -l workers -d 'How many workers play cells, 1 to 64'
 complete -c warnc -n '__fish_seen_subcommand_from verify' -x -l slots -d 'How many slots each run has, 1 to 65535'
 complete -c warnc -n '__fish_seen_subcommand_from verify' -x -l group -d 'Group of a network book, from 0'
-complete -c warnc -n '__fish_seen_subcommand_from verify' -x -l book-octets -d 'Octets of the book, 0 to 67108864'
+complete -c warnc -n '__fish_seen_subcommand_from verify' -r -F -l book -d 'File of the book; the tapes are the input'
 complete -c warnc -n '__fish_seen_subcommand_from verify' -x -l workers -d 'How many workers play cells, 1 to 64'
 complete -c warnc -n '__fish_seen_subcommand_from page' -x -l lang -d 'Language of the text' \
     -a 'de en it fr es nl sv da pt fi no el tr hu pl und cs he ar ru is'

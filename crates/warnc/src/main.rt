@@ -6,13 +6,16 @@ ghost use Rattle.std.specs.Prelude.{◌≡◌, ◌≤◌, ◌⊎◌, IfErr};
 use progress::{CountedReader, CountedWriter, EndingWriter, Progress, watched};
 use std::alloc::AllocGlobal;
 use std::convert::AsStr;
+use std::fs::File;
 use std::io::{IsTerminal, Read, Write};
 use std::process::ExitCode;
+use std::rt::Files;
 use std::sync::Wait;
 use std::thread::Threads;
 use std::time::Clock;
 use std::{env, io};
-use warnc_cli::run::run;
+use warnc_cli::book_file;
+use warnc_cli::run::{run, run_with_book};
 use warnc_cli::status::{MEMORY, USAGE};
 
 fn main(rt: HostRuntime) -> ExitCode {
@@ -29,7 +32,7 @@ fn main(rt: HostRuntime) -> ExitCode {
                 run_watched(&rt, words, &progress, rt.stdin(), &mut writer, &mut faults)
             }
         }
-        Ok(words) => run(
+        Ok(words) => run_opened(
             &rt,
             words.as_slice(),
             &mut rt.stdin(),
@@ -46,10 +49,30 @@ fn shows_progress(rt: &HostRuntime) -> bool {
     rt.stderr().is_terminal() && !rt.stdin().is_terminal()
 }
 
-/// Does what [`run`] does, while a thread of its own draws the progress.
+/// Opens the file of the book that the words name, if they name one, and does what [`run_with_book`] does. Without a
+/// file, or if it can't be opened, that is what [`run`] does.
+fn run_opened<
+    S: AsStr,
+    T: AllocGlobal + Threads + Wait + Files + Sync,
+    R: Read,
+    W: Write,
+    F: Write,
+>(rt: &T, words: &[S], reader: &mut R, writer: &mut W, faults: &mut F) -> u8
+    ensures { result ≤ 4 }
+{
+    let Some(file) = book_file(words) else {
+        return run(rt, words, reader, writer, faults);
+    };
+    match File::open(rt, file) {
+        Ok(mut book) => run_with_book(rt, words, &mut book, reader, writer, faults),
+        Err(_) => run(rt, words, reader, writer, faults),
+    }
+}
+
+/// Does what [`run_opened`] does, while a thread of its own draws the progress.
 fn run_watched<
     S: AsStr,
-    T: AllocGlobal + Threads + Wait + Clock + Sync,
+    T: AllocGlobal + Threads + Wait + Files + Clock + Sync,
     E: Write + Send,
     R: Read + Drop,
     W: Write,
@@ -58,7 +81,9 @@ fn run_watched<
     ensures { result ≤ 4 }
 {
     let mut reader = CountedReader::new(progress, reader);
-    watched(rt, progress, || run(rt, words, &mut reader, writer, faults))
+    watched(rt, progress, || {
+        run_opened(rt, words, &mut reader, writer, faults)
+    })
 }
 
 /// The words of the process, or the status if they can't be had.

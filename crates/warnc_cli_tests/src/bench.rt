@@ -7,7 +7,7 @@ use std::sync::Wait;
 use std::test::Fail;
 use std::thread::Threads;
 use test_support::Words;
-use warnc_cli::run::run;
+use warnc_cli::run::{run, run_with_book};
 
 /// How many octets a device moves a call, and after how many calls it fails.
 #[derive(Clone, Copy)]
@@ -31,7 +31,11 @@ pub struct Bench<'a> {
     pub input: Sheet,
     /// How many octets of the input the next run gets at most.
     pub front: usize,
+    pub book: Sheet,
+    /// Whether the next run of `verify` gets no book.
+    pub is_bookless: bool,
     pub worked: Sheet,
+    pub book_reader: Pace,
     pub reader: Pace,
     pub writer: Pace,
     pub faults_writer: Pace,
@@ -46,7 +50,10 @@ impl<'a> Bench<'a> {
             args: "",
             input: Sheet::new(alloc),
             front: usize::MAX,
+            book: Sheet::new(alloc),
+            is_bookless: false,
             worked: Sheet::new(alloc),
+            book_reader: steady(7),
             reader: steady(7),
             writer: steady(11),
             faults_writer: steady(64),
@@ -71,31 +78,38 @@ impl<'a> Bench<'a> {
         Ok(words)
     }
 
-    /// Has steady devices again, and a new input and worked octets if lines name some.
+    /// Has steady devices again, and a new book, input and worked octets if lines name some.
     pub fn renew(&mut self) {
         self.front = usize::MAX;
+        self.is_bookless = false;
+        self.book_reader = steady(7);
         self.reader = steady(7);
         self.writer = steady(11);
         self.faults_writer = steady(64);
+        self.book.is_used = true;
         self.input.is_used = true;
         self.worked.is_used = true;
     }
 }
 
-/// Runs the program, and returns the status.
+/// A reader of this pace.
+fn reader_of<'a>(octets: &'a [u8], pace: Pace) -> MemoryReader<'a> {
+    MemoryReader::new(octets, pace.octets.max(1), pace.calls)
+}
+
+/// Runs the program, and returns the status. `verify` gets a book.
 fn run_on<T: AllocGlobal + Threads + Wait + Sync>(rt: &T, words: &[&str], bench: &mut Bench) -> u8 {
     let length = bench.front.min(bench.input.octets.len());
-    let input = &bench.input.octets[..length];
-    let mut reader = MemoryReader::new(input, bench.reader.octets.max(1), bench.reader.calls);
+    let mut reader = reader_of(&bench.input.octets[..length], bench.reader);
     bench.output = Written::new(rt.alloc(), bench.writer);
     bench.faults = Written::new(rt.alloc(), bench.faults_writer);
-    run(
-        rt,
-        words,
-        &mut reader,
-        &mut bench.output.writer,
-        &mut bench.faults.writer,
-    )
+    let writer = &mut bench.output.writer;
+    let faults = &mut bench.faults.writer;
+    if bench.is_bookless || !bench.args.starts_with("verify") {
+        return run(rt, words, &mut reader, writer, faults);
+    }
+    let mut book = reader_of(&bench.book.octets, bench.book_reader);
+    run_with_book(rt, words, &mut book, &mut reader, writer, faults)
 }
 
 /// What a run comes to: its status; after `fails` also the line of faults, which is all that it wrote; after `usage`
@@ -116,8 +130,16 @@ fn told(alloc: Global, bench: &mut Bench, verb: &str, status: u8) -> Result<Stri
     Ok(format!(in alloc; "{status} {faults}")?)
 }
 
-/// Runs the program as a line says: `fronts` and `reads` for each of two numbers and those between, other verbs once.
-/// Returns what the runs come to, if that is the same for each.
+/// The pace of a reader of an octet a call that fails after so many calls.
+fn failing(calls: u16) -> Pace {
+    Pace {
+        octets: 1,
+        calls: Some(usize::from(calls)),
+    }
+}
+
+/// Runs the program as a line says: `fronts`, `reads` and `book-reads` for each of two numbers and those between, other
+/// verbs once. Returns what the runs come to, if that is the same for each.
 pub fn runs<T: AllocGlobal + Threads + Wait + Sync>(
     rt: &T,
     bench: &mut Bench,
@@ -129,12 +151,8 @@ pub fn runs<T: AllocGlobal + Threads + Wait + Sync>(
     for number in numbers.0..=numbers.1 {
         match verb {
             "fronts" => bench.front = usize::from(number),
-            "reads" => {
-                bench.reader = Pace {
-                    octets: 1,
-                    calls: Some(usize::from(number)),
-                }
-            }
+            "reads" => bench.reader = failing(number),
+            "book-reads" => bench.book_reader = failing(number),
             _ => {}
         }
         let status = run_on(rt, &words, bench);

@@ -165,15 +165,15 @@ usage -> 2 error:
 args tape --cell 1-1 --slots 0
 usage -> 2 error:
 args tape --cell 1-65536 --slots 2
-usage -> 2 error:
+fails -> 2 warnc: no such cell or address: --cell is as 1-2, --from as 127.0.0.1
 args tape --cell 1 --slots 2
-fails -> 2 warnc: no such cell or address
+fails -> 2 warnc: no such cell or address: --cell is as 1-2, --from as 127.0.0.1
 args tape --cell 1-2-3 --slots 2
-fails -> 2 warnc: no such cell or address
+fails -> 2 warnc: no such cell or address: --cell is as 1-2, --from as 127.0.0.1
 args tape --cell 1-1 --slots 2 --from 1.2.3
-fails -> 2 warnc: no such cell or address
+fails -> 2 warnc: no such cell or address: --cell is as 1-2, --from as 127.0.0.1
 args tape --cell 1-1 --slots 2 --from 1.2.3.256
-usage -> 2 error:
+fails -> 2 warnc: no such cell or address: --cell is as 1-2, --from as 127.0.0.1
 args tape --help
 run -> 0
 says --from <IPV4> -> yes

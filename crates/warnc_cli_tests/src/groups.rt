@@ -101,9 +101,9 @@ fails -> 1 warnc: row 1: columns
 args groups
 fails -> 1 warnc: row 1: columns
 
-# the network book has 679 octets, and the tape follows it
-in-cells 0 65
-in write,0,a,4370,0,1,en,2,2,1,1-0 1-64,@
+# a tape of the second group's cell
+book-cells 0 65
+book write,0,a,4370,0,1,en,2,2,1,1-0 1-64,@
 in-hex 0001 0040 00000002
 in-hex 200010111201118046a3d168341a8d46a3d168341a8d46
 in-hex 21a3d168341a8d46a3d168341a8d46a3d168341a8d46a3
@@ -111,16 +111,16 @@ in-hex 22d168341a8d46a3d168341a8d46a3d168341a8d46a3d1
 in-hex 3368341a8d46a3d168341a8d46a3d168341a8d46a3d100
 in-hex 2f2b2b2b2b2b2b2b2b2b2b2b2b2b2b2b2b2b2b2b2b2b2b 2f2b2b2b2b2b2b2b2b2b2b2b2b2b2b2b2b2b2b2b2b2b2b
 in-hex 2f2b2b2b2b2b2b2b2b2b2b2b2b2b2b2b2b2b2b2b2b2b2b 2f2b2b2b2b2b2b2b2b2b2b2b2b2b2b2b2b2b2b2b2b2b2b
-args verify --slots 2 --book-octets 679 --group 1
+args verify --slots 2 --book network.csv --group 1
 run -> 0
 out -> lac,ci,id,serial,slot,difference
-args verify --slots 2 --book-octets 679 --group 0
+args verify --slots 2 --book network.csv --group 0
 run -> 1
 out -> lac,ci,id,serial,slot,difference
 past 1,63,,,,no tape -> yes
 out -> 1,64,,,,unknown cell
 err -> warnc: differences: 65
-args verify --slots 2 --book-octets 679 --group 2
+args verify --slots 2 --book network.csv --group 2
 fails -> 1 warnc: no such group: the network has 2
 ";
 

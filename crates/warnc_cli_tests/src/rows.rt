@@ -6,6 +6,8 @@
 //! - `in TEXT`, `in-hex DIGITS ..`, `in-worked`: a line of input, octets of it, or the worked octets. The first after
 //!   a run begins a new input; `in-cells FROM END` is the lines of these cells of LAC 1, the last one left out;
 //! `in-none` is one of no octets, and `repeat N` has the input N times;
+//! - `book TEXT`, `book-cells FROM END`, `book-none`: the same of the book that `verify` gets beside its input;
+//!   `bookless`: the next run gets none;
 //! - `worked TEXT`, `worked-hex DIGITS ..`: worked octets, with which an output is compared;
 //! - `reader N CALLS`, `writer N CALLS`, `faults N CALLS`: the device moves N octets a call, and fails after so many
 //!   calls. At other runs none fails.
@@ -21,11 +23,12 @@
 //! - `usage -> STATUS WORD`: all that it writes is faults that begin with this word;
 //! - `fronts N M -> STATUS LINE`: it `fails` so on each front of the input that has N to M octets;
 //! - `reads N M -> STATUS LINE`: it `fails` so with a reader of an octet a call that fails after N to M calls;
+//!   `book-reads N M -> STATUS LINE`: with such a reader of the book;
 //! - `scarce -> STATUS OUTPUT`: it runs with more and more memory until that is enough. Without worked octets, the
 //!   status is all that is told.
 
 use crate::bench::{Bench, Pace, runs};
-use crate::octets::Written;
+use crate::octets::{Sheet, Written};
 use crate::scarce::scarce;
 use std::alloc::Global;
 use std::process::Abort;
@@ -52,11 +55,11 @@ fn pace_of(numbers: &str) -> Result<Pace, Fail> {
 }
 
 /// Adds lines that declare the cells of LAC 1 and of the CI from one number on up to another, without it.
-fn add_cells(alloc: Global, bench: &mut Bench, numbers: &str) -> Result<(), Fail> {
+fn add_cells(alloc: Global, sheet: &mut Sheet, numbers: &str) -> Result<(), Fail> {
     let (from, to) = numbers_of(numbers)?;
     for ci in from..to {
         let line = format!(in alloc; "cell,1,{ci}")?;
-        bench.input.add_line(&line)?;
+        sheet.add_line(&line)?;
     }
     Ok(())
 }
@@ -72,9 +75,13 @@ fn set<'a>(
         "args" => bench.args = rest,
         "in" => bench.input.add_line(rest)?,
         "in-hex" => bench.input.add_hex(alloc, rest)?,
-        "in-cells" => add_cells(alloc, bench, rest)?,
+        "in-cells" => add_cells(alloc, &mut bench.input, rest)?,
         "in-none" if rest.is_empty() => bench.input.add(b"")?,
         "in-worked" if rest.is_empty() => bench.input.add(&bench.worked.octets)?,
+        "book" => bench.book.add_line(rest)?,
+        "book-cells" => add_cells(alloc, &mut bench.book, rest)?,
+        "book-none" if rest.is_empty() => bench.book.add(b"")?,
+        "bookless" if rest.is_empty() => bench.is_bookless = true,
         "repeat" => bench.input.repeat(alloc, rest.parse::<u64>()?)?,
         "worked" => bench.worked.add_line(rest)?,
         "worked-hex" => bench.worked.add_hex(alloc, rest)?,
@@ -139,7 +146,7 @@ fn carried_out<'a, T: AllocGlobal + Threads + Wait + Sync>(
 ) -> Result<String, Fail> {
     let (verb, rest) = action.split_once(' ').unwrap_or((action, ""));
     match verb {
-        "run" | "fails" | "usage" | "fronts" | "reads" if bench.unseen() == 0 => {
+        "run" | "fails" | "usage" | "fronts" | "reads" | "book-reads" if bench.unseen() == 0 => {
             runs(rt, bench, verb, numbers_of(rest)?)
         }
         "scarce" if rest.is_empty() => scarce(rt, bench),

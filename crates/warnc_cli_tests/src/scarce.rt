@@ -9,7 +9,7 @@ use std::sync::Wait;
 use std::test::Fail;
 use std::thread::Threads;
 use test_support::take_all;
-use warnc_cli::run::run;
+use warnc_cli::run::run_with_book;
 
 /// How many octets each block of the memory has that is given back.
 const BLOCK: usize = 512;
@@ -55,12 +55,14 @@ impl Slate {
         &mut self,
         rt: &T,
         words: &[&str],
+        book: &[u8],
         input: &[u8],
     ) {
+        let mut book = MemoryReader::new(book, 100, None);
         let mut reader = MemoryReader::new(input, 100, None);
         let mut output = self.output.as_mut_slice();
         let mut faults = self.faults.as_mut_slice();
-        self.status = run(rt, words, &mut reader, &mut output, &mut faults);
+        self.status = run_with_book(rt, words, &mut book, &mut reader, &mut output, &mut faults);
         self.output_left = output.len();
         self.faults_left = faults.len();
     }
@@ -80,6 +82,7 @@ fn spare_blocks(alloc: Global) -> Result<Vec<Vec<u8>>, Fail> {
 fn refusals<T: AllocGlobal + Threads + Wait + Sync>(
     rt: &T,
     words: &[&str],
+    book: &[u8],
     input: &[u8],
     slate: &mut Slate,
 ) -> Result<u16, Fail> {
@@ -88,7 +91,7 @@ fn refusals<T: AllocGlobal + Threads + Wait + Sync>(
     take_all(rt.alloc(), &mut taken);
     let mut refused = 0_u16;
     for _ in 0..400 {
-        slate.run(rt, words, input);
+        slate.run(rt, words, book, input);
         if !slate.is_out_of_memory() {
             return Ok(refused);
         }
@@ -96,7 +99,7 @@ fn refusals<T: AllocGlobal + Threads + Wait + Sync>(
         let _ = spare.pop();
     }
     taken.clear();
-    slate.run(rt, words, input);
+    slate.run(rt, words, book, input);
     Ok(refused)
 }
 
@@ -109,7 +112,8 @@ pub fn scarce<T: AllocGlobal + Threads + Wait + Sync>(
     let alloc = rt.alloc();
     let words = bench.words(alloc)?;
     let mut slate = Slate::new();
-    let refused = refusals(rt, &words, &bench.input.octets, &mut slate)?;
+    let book = &bench.book.octets;
+    let refused = refusals(rt, &words, book, &bench.input.octets, &mut slate)?;
     bench.renew();
     if refused < 4 {
         return Ok(format!(in alloc; "{refused} refusals")?);
@@ -230,9 +234,9 @@ scarce -> 0
 ";
 
 const VERIFY: &str = "
-args verify --slots 1 --book-octets 41
-in cell,1,1
-in write,0,a,4370,0,1,en,2,2,1,*,@
+args verify --slots 1 --book book.csv
+book cell,1,1
+book write,0,a,4370,0,1,en,2,2,1,*,@
 in-hex 0001 0001 00000001
 in-hex 2f2b2b2b2b2b2b2b2b2b2b2b2b2b2b2b2b2b2b2b2b2b2b
 in-hex 2f2b2b2b2b2b2b2b2b2b2b2b2b2b2b2b2b2b2b2b2b2b2b

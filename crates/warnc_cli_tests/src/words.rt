@@ -112,6 +112,13 @@ lists compile -> yes
 args --help
 run -> 0
 lists groups -> yes
+# and the columns of a book
+args --help
+run -> 0
+says update,AT,NAME,LANG,CATEGORY,PERIOD,BROADCASTS,CELLS,TEXT -> yes
+args verify --help
+run -> 0
+says --book <FILE> -> yes
 args page --help
 run -> 0
 says --update <UPDATE> -> yes
@@ -125,11 +132,11 @@ says --workers <WORKERS> -> yes
 # the version names the toolchain
 args --version
 run -> 0
-out -> warnc 0.1.0
+out -> warnc 1.0.0
 starts rattle-kit- -> yes
 args -V
 run -> 0
-out -> warnc 0.1.0
+out -> warnc 1.0.0
 starts rattle-kit- -> yes
 
 # no device takes the text
