@@ -11,6 +11,7 @@ import os
 import re
 import subprocess
 import sys
+import tempfile
 
 TOP = os.path.dirname(os.path.dirname(os.path.realpath(__file__)))
 TABLES = "crates/warnc_cli_tests/src/*.rt"
@@ -18,7 +19,7 @@ TABLES = "crates/warnc_cli_tests/src/*.rt"
 SAID = ("out", "err", "starts", "past", "all", "says", "lists")
 # lines by which the next run has a device that fails, and runs that only the tests can have
 DEVICES = ("reader", "writer", "faults")
-NOT_HERE = ("reads", "scarce")
+NOT_HERE = ("reads", "book-reads", "scarce")
 SECONDS = 60
 
 
@@ -45,13 +46,21 @@ class Bench:
 
     def __init__(self, program):
         self.program, self.words = program, []
-        self.sheets = {"in": Sheet(), "worked": Sheet()}
+        self.sheets = {"in": Sheet(), "book": Sheet(), "worked": Sheet()}
+        self.has_book = True
         self.output = self.faults = b""
         # whether the next run, and the last one, is of those that aren't tried here
         self.is_left_out = self.was_left_out = False
 
     def process(self, octets):
-        done = subprocess.run([self.program, *self.words], input=octets, stdout=subprocess.PIPE, stderr=subprocess.PIPE, timeout=SECONDS, check=False)
+        """Runs the program in a folder of its own, with the file that the words name for a book, and returns the status."""
+        with tempfile.TemporaryDirectory(prefix="warnc-tables-") as folder:
+            named = re.search(r"--book[= ](\S+)", " ".join(self.words))
+            if named and self.has_book:
+                with open(os.path.join(folder, named[1]), "wb") as it:
+                    it.write(self.sheets["book"].octets)
+            done = subprocess.run([self.program, *self.words], input=octets, cwd=folder, stdout=subprocess.PIPE, stderr=subprocess.PIPE,
+                                  timeout=SECONDS, check=False)
         self.output, self.faults = done.stdout, done.stderr
         return str(done.returncode)
 
@@ -96,6 +105,7 @@ class Bench:
         return next((it for it in found if it != found[0]), found[0])
 
     def renew(self):
+        self.has_book = True
         self.was_left_out, self.is_left_out = self.is_left_out, False
         for it in self.sheets.values():
             it.is_used = True
@@ -121,16 +131,18 @@ class Bench:
             self.words = rest.split()
         elif verb == "repeat":
             self.sheets["in"].octets *= int(rest)
-        elif verb in ("in", "worked"):
+        elif verb == "bookless":
+            self.has_book = False
+        elif verb in self.sheets:
             self.sheets[verb].add(rest.encode() + b"\n")
         elif kind == "hex" and name in self.sheets:
             for word in rest.split():
                 self.sheets[name].add(bytes.fromhex(word))
-        elif verb == "in-cells":
+        elif kind == "cells" and name in self.sheets:
             for ci in range(*map(int, rest.split())):
-                self.sheets["in"].add(f"cell,1,{ci}\n".encode())
-        elif verb == "in-none":
-            self.sheets["in"].add(b"")
+                self.sheets[name].add(f"cell,1,{ci}\n".encode())
+        elif kind == "none" and name in self.sheets:
+            self.sheets[name].add(b"")
         elif verb == "in-worked":
             self.sheets["in"].add(self.sheets["worked"].octets)
         else:
@@ -174,8 +186,9 @@ def main(words):
     if len(words) != 1 or words[0].startswith("-"):
         print(__doc__, end="")
         return 0 if words in (["-h"], ["--help"]) else 2
+    program = os.path.realpath(words[0])
     paths = sorted(it for it in glob.glob(os.path.join(TOP, TABLES)) if "malformed" not in it)
-    counts = [check(words[0], table, os.path.relpath(it, TOP)) for it in paths for table in tables_of(it)]
+    counts = [check(program, table, os.path.relpath(it, TOP)) for it in paths for table in tables_of(it)]
     passed, failed, left = map(sum, zip(*counts))
     print(f"tables: {passed} rows as wanted, {failed} not, {left} left to the tests")
     return 1 if failed or not passed else 0
