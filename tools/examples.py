@@ -1,5 +1,5 @@
 #!/usr/bin/env python3
-"""Runs each command that README, docs/usage.md and the man page print, and compares what it writes with what they print after it.
+"""Runs each command that README, two pages of docs/ and the man page print, and compares what it writes with what they print after it.
 
 Usage: examples.py [PROGRAM]      PROGRAM is the warnc that is run; that of ./warnc, if it isn't given
 
@@ -16,7 +16,7 @@ import sys
 import tempfile
 
 TOP = os.path.dirname(os.path.dirname(os.path.realpath(__file__)))
-TEXTS = ("README.md", "docs/usage.md", "docs/warnc.1")
+TEXTS = ("README.md", "docs/planning.md", "docs/usage.md", "docs/warnc.1")
 # what not every machine has, and commands that run it
 NEEDS = {"tshark": "tshark", "xxd": "xxd", "cluster/parallel.sh": "parallel"}
 SECONDS = 100
