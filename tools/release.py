@@ -24,6 +24,8 @@ from build import PROGRAM, TOP, build, copy_checkout, crates_below
 
 DIST = os.path.join(TOP, "dist")
 RELEASED = os.path.join(DIST, "warnc-x86_64-linux")
+# a link to it, since the program names itself in its help
+LINK = os.path.join(DIST, "warnc")
 MANIFEST = os.path.join(DIST, "MANIFEST")
 PARTS = ("src", "specs", "proofs")
 COMMAND_LINE = os.path.join("crates", "warnc_cli", "src", "command.rt")
@@ -87,7 +89,7 @@ def faults():
     said = written_manifest()
     if not said:
         return ["dist/MANIFEST isn't there, or was changed: its last line isn't the sum of those above it"]
-    if not os.path.isfile(RELEASED) or sum_of(read(RELEASED)) != said["program"]:
+    if not os.path.isfile(RELEASED) or os.path.realpath(LINK) != os.path.realpath(RELEASED) or sum_of(read(RELEASED)) != said["program"]:
         return [f"{os.path.relpath(RELEASED, TOP)} isn't the program of dist/MANIFEST"]
     shown = subprocess.run([RELEASED, "--version"], stdout=subprocess.PIPE, text=True, check=False).stdout
     if shown != f"warnc {said['version']}\n{said['toolchain']}\n":
@@ -121,6 +123,8 @@ def write():
     with open(RELEASED, "wb") as it:
         it.write(program)
     os.chmod(RELEASED, 0o755)
+    if not os.path.islink(LINK):
+        os.symlink(os.path.basename(RELEASED), LINK)
     with open(MANIFEST, "w", encoding="utf-8") as it:
         it.write(manifest_of(TOP, program))
     print(f"{os.path.relpath(RELEASED)}: {len(program)} octets, {sum_of(program)}")

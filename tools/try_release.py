@@ -32,6 +32,7 @@ def copy_of(folder):
     for path in (*release.sources(TOP, crates), "warnc", "dist/MANIFEST", "dist/warnc-x86_64-linux", "examples/book.csv"):
         os.makedirs(os.path.join(folder, os.path.dirname(path)), exist_ok=True)
         shutil.copy2(os.path.join(TOP, path), os.path.join(folder, path))
+    os.symlink("warnc-x86_64-linux", os.path.join(folder, "dist", "warnc"))
     shutil.copytree(os.path.join(TOP, "tools"), os.path.join(folder, "tools"), ignore=shutil.ignore_patterns("__pycache__"))
     return folder
 

@@ -317,6 +317,7 @@ kept-total a read is =
     ∙ total-is a (pages_named (name_asked a) read) (λ page. page.number == 1) (is.numbers 1 (omega arith) is.some)
     is.right
 
+-- a message of which each page was read right is complete
 pub complete : (a : AskedMessage) (read : List PageView) → IsRead a (pages_named (name_asked a) read) →
     is_complete (name_asked a) read ≡ true
 unfolding complete-by
@@ -365,6 +366,7 @@ read-by a (first ∷ rest) right whole =
       some = omega (arith, total, some);
     }
 
+-- a message of which all pages that were read are right was read, if it is complete
 pub read-if : (a : AskedMessage) (read : List PageView) →
     AllByRecursion (λ page. is_right a page ≡ true) (pages_named (name_asked a) read) →
     is_complete (name_asked a) read ≡ true → IsRead a (pages_named (name_asked a) read)

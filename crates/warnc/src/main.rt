@@ -63,6 +63,9 @@ fn run_opened<
     let Some(file) = book_file(words) else {
         return run(rt, words, reader, writer, faults);
     };
+    // If standard input is closed, the next file that is opened takes its number. So a folder is, of which each read
+    // fails, and the tapes aren't read from the book.
+    let _place = File::open(rt, "/");
     match File::open(rt, file) {
         Ok(mut book) => run_with_book(rt, words, &mut book, reader, writer, faults),
         Err(_) => run(rt, words, reader, writer, faults),
