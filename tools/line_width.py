@@ -1,5 +1,5 @@
 #!/usr/bin/env python3
-"""Lists the lines over 120 columns in src/, specs/, proofs/, README.md and docs/ (rows of tables and lines that can't be broken aside).
+"""Lists the lines over 120 columns in src/, specs/, proofs/, each README.md and docs/ (rows of tables and lines that can't be broken aside).
 
 Usage: line_width.py            lists them, and fails if there is one
        line_width.py --wrap F.. breaks the long lines of these .antt and .rt files; check the crate and run `rt fmt` afterwards
@@ -108,7 +108,8 @@ def main():
     if sys.argv[1:]:
         print(__doc__, end="")
         return 0 if sys.argv[1:] in (["-h"], ["--help"]) else 2
-    paths = ["README.md"] + [p for pattern in ("docs/*.md", "crates/*/src/**/*.rt", "crates/*/specs/**/*.antt", "crates/*/proofs/**/*.antt")
+    paths = ["README.md"] + [p for pattern in ("docs/*.md", "crates/*/README.md", "crates/*/src/**/*.rt", "crates/*/specs/**/*.antt",
+                                             "crates/*/proofs/**/*.antt")
                              for p in sorted(glob.glob(pattern, recursive=True))]
     count = 0
     for path in paths:
