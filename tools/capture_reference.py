@@ -17,32 +17,14 @@ import struct
 import subprocess
 import sys
 
-IDLE = bytes([0x2F] + [0x2B] * 22)
+import gsm
+from gsm import Refused
+
 FRAMES = 51 * 26 * 2048
 SLOTS = FRAMES // 51 // 8
 CHANNELS = {51: 15, 52: 12}
 # in a multiframe, by the channel's number in GSMTAP
 FIRST_FRAMES = {15: 32, 12: 8}
-
-
-class Refused(Exception):
-    """An input that makes no output."""
-
-
-def tapes_of(octets):
-    """Yields each tape's location area, cell identity and blocks."""
-    place = 0
-    while place < len(octets):
-        if len(octets) - place < 8:
-            raise Refused("tape is short")
-        lac, cell, slots = struct.unpack_from(">HHI", octets, place)
-        place += 8
-        if slots > 65535:
-            raise Refused("tape is long")
-        if len(octets) - place < slots * 92:
-            raise Refused("tape is short")
-        yield lac, cell, [octets[place + 23 * it:place + 23 * it + 23] for it in range(4 * slots)]
-        place += 92 * slots
 
 
 def ones_sum(octets):
@@ -84,14 +66,11 @@ def packet_of_block(number, lac, cell, place, block, channel):
 
 
 def capture_of(octets, used=False, channel=15):
-    tapes = list(tapes_of(octets))
-    if len(tapes) > 64:
-        raise Refused("tape is long")
     out = [file_header()]
-    for number, (lac, cell, blocks) in enumerate(tapes):
+    for number, (lac, cell, blocks) in enumerate(gsm.tapes_of(octets)):
         for slot in range(len(blocks) // 4):
             four = blocks[4 * slot:4 * slot + 4]
-            if used and four == [IDLE] * 4:
+            if used and four == [gsm.IDLE] * 4:
                 continue
             out += [packet_of_block(number, lac, cell, 4 * slot + it, block, channel) for it, block in enumerate(four)]
     return b"".join(out)
@@ -176,14 +155,14 @@ def tape_of(octets, lac, cell, slots, source=None):
             last += step
         if last < slots and blocks.setdefault(4 * last + part, block) != block:
             raise Refused(f"packet {number}: block differs")
-    return struct.pack(">HHI", lac, cell, slots) + b"".join(blocks.get(it, IDLE) for it in range(4 * slots))
+    return gsm.tape_of(lac, cell, (blocks.get(it, gsm.IDLE) for it in range(4 * slots)))
 
 
 def random_tape(rng, slots):
-    blocks = b"".join(
-        rng.choice([IDLE * 4, rng.randbytes(92), rng.randbytes(46) + IDLE * 2]) if rng.random() < 0.3 else IDLE * 4
-        for _ in range(slots))
-    return struct.pack(">HHI", rng.randrange(65536), rng.randrange(65536), slots) + blocks
+    idle, half = gsm.IDLE_SLOT, gsm.IDLE * 2
+    made = [rng.choice([idle, rng.randbytes(92), rng.randbytes(46) + half]) if rng.random() < 0.3 else idle
+            for _ in range(slots)]
+    return gsm.tape_of(rng.randrange(65536), rng.randrange(65536), made)
 
 
 def foreign(rng):
@@ -303,8 +282,8 @@ def beside_tshark(program):
         print("tshark isn't installed: SKIPPED")
         return
     count = 0
-    for lac, cell, blocks in tapes_of(sys.stdin.buffer.read()):
-        tape = struct.pack(">HHI", lac, cell, len(blocks) // 4) + b"".join(blocks)
+    for lac, cell, blocks in gsm.tapes_of(sys.stdin.buffer.read()):
+        tape = gsm.tape_of(lac, cell, blocks)
         table = csv.reader(ran(program, ["read"], tape).decode().splitlines())
         read = {(int(number), int(serial, 16)): text for _, _, number, serial, text in list(table)[1:]}
         shown = shown_by_tshark(ran(program, ["pcap"], tape))

@@ -6,9 +6,10 @@ Usage: malformed.py messages|tapes|books              prints a table, as a modul
        malformed.py --check PROGRAM [--every N] [messages|tapes|books ..]
                                                       compares each answer, or each N-th, with a program's
 
-It is a plain reading of docs/formats.md, and for alphabets and phones of docs/definitions.md. It is not made from the
-crates, so a test that compares both has two sources. The tables stand in the tests, as `malformed_table.rt` of
-cbsp_wire_tests, warnc_cli_tests and alert_book_tests; `./test` checks that they are what is printed here.
+It is a plain reading of docs/formats.md, and for phones of docs/definitions.md; alphabets, pages and tapes are read by
+gsm.py, which is too. It is not made from the crates, so a test that compares both has two sources. The tables stand in
+the tests, as `malformed_table.rt` of cbsp_wire_tests, warnc_cli_tests and alert_book_tests; `./test` checks that they
+are what is printed here.
 
 A table has for each input a line `input NAME`, lines `and HEX` with its octets, then a line `PLACE DIGEST` for each
 place, then a line `cuts DIGEST`. Some inputs have lines for a few places alone, or for none.
@@ -38,6 +39,8 @@ import shlex
 import subprocess
 import sys
 import textwrap
+
+import gsm
 
 # --- Messages ---
 
@@ -122,7 +125,7 @@ def is_valid(number, bodies):
     if number == 0x06:
         return 1 <= value <= 1024
     if number == 0x0C:
-        return alphabet_of(value) is not None
+        return gsm.alphabet_of(value) is not None
     return value <= {0x05: 2, 0x12: 1}.get(number, 0xFFFF)
 
 
@@ -211,112 +214,19 @@ def said_item(number, item):
     return cell + rest[number]
 
 
-# --- Alphabets and pages ---
-
-WORDS = "de en it fr es nl sv da pt fi no el tr hu pl und cs he ar ru is".split()
-LANGUAGES = dict(zip(WORDS, [*range(0x10), *range(0x20, 0x25)], strict=True))
-ESCAPE, CR = 0x1B, 0x0D
-MAIN = (
-    "@£$¥èéùìòÇ\nØø\rÅåΔ_ΦΓΛΩΠΨΣΘΞ\x1bÆæßÉ !\"#¤%&'()*+,-./0123456789:;<=>?"
-    "¡ABCDEFGHIJKLMNOPQRSTUVWXYZÄÖÑÜ§¿abcdefghijklmnopqrstuvwxyzäöñüà"
-)
-EXTENSION = {0x14: "^", 0x28: "{", 0x29: "}", 0x2F: "\\", 0x3C: "[", 0x3D: "~", 0x3E: "]", 0x40: "|", 0x65: "€"}
-
-
-def alphabet_of(dcs):
-    """Returns `gsm`, `ucs2`, or None if a data coding has no alphabet."""
-    if dcs in LANGUAGES.values() or 0x40 <= dcs <= 0x43 or 0x50 <= dcs <= 0x53:
-        return "gsm"
-    return "ucs2" if 0x48 <= dcs <= 0x4B or 0x58 <= dcs <= 0x5B else None
-
-
-def septets_of(content):
-    """Returns the 93 septets of a content: bit 0 of the first octet is bit 0 of the first septet."""
-    bits = int.from_bytes(content, "little")
-    return [bits >> 7 * at & 0x7F for at in range(93)]
-
-
-def without_filling(codes):
-    while codes and codes[-1] == CR:
-        codes = codes[:-1]
-    return codes
-
-
-def text_of_septets(codes):
-    text, at = "", 0
-    while at < len(codes):
-        if codes[at] != ESCAPE:
-            text += MAIN[codes[at]]
-            at += 1
-            continue
-        # An escape at the end, or two of them, show a space; an unknown code shows the character of the main table.
-        code = codes[at + 1] if at + 1 < len(codes) else ESCAPE
-        text += " " if code == ESCAPE else EXTENSION.get(code, MAIN[code])
-        at += 2
-    return text
-
-
-def text_of_content(alphabet, content):
-    if alphabet == "gsm":
-        return text_of_septets(without_filling(septets_of(content)))
-    units = without_filling([number_of(content[at:at + 2]) for at in range(0, 82, 2)])
-    return "".join("\uFFFD" if 0xD800 <= it <= 0xDFFF else chr(it) for it in units)
+# --- Texts and tapes ---
 
 
 def fault_of_text(text, language):
     """Returns the fault of a text to be sent, or None."""
-    if language not in LANGUAGES:
+    if language not in gsm.LANGUAGES:
         return "unknown language"
     if text == "":
         return "text is empty"
     for place, sign in enumerate(text):
         if sign < " " and sign != "\n" or sign > "\uFFFF":
             return f"bad character at {place}"
-    return "too many pages" if pages_needed(text) > 15 else None
-
-
-def pages_needed(text):
-    """Returns how many pages a text takes, if each has as many characters as go into it."""
-    pairs = set(EXTENSION.values())
-    is_gsm = all(it in MAIN or it in pairs for it in text)
-    room, pages, left = (93 if is_gsm else 41), 0, 0
-    for sign in text:
-        cost = 2 if is_gsm and sign in pairs else 1
-        if cost > left:
-            pages, left = pages + 1, room
-        left -= cost
-    return pages
-
-
-# --- Tapes ---
-
-BLOCK, TYPES = 23, (0x20, 0x21, 0x22, 0x33)
-
-
-def tapes_of(octets):
-    """Returns LAC, CI and blocks of each tape."""
-    tapes, at = [], 0
-    while at < len(octets):
-        if len(tapes) == 64:
-            raise Fault("Ftape is long")
-        if len(octets) - at < 8:
-            raise Fault("Ftape is short")
-        lac, ci, slots = (number_of(octets[at + a:at + b]) for a, b in ((0, 2), (2, 4), (4, 8)))
-        if slots > 65535:
-            raise Fault("Ftape is long")
-        at += 8
-        if len(octets) - at < slots * 4 * BLOCK:
-            raise Fault("Ftape is short")
-        tapes.append((lac, ci, [octets[at + k * BLOCK:at + (k + 1) * BLOCK] for k in range(4 * slots)]))
-        at += slots * 4 * BLOCK
-    return tapes
-
-
-def pages_of(blocks):
-    """Yields the pages of 88 octets: four blocks of the right types, one after the other."""
-    for at in range(len(blocks) - 3):
-        if tuple(it[0] for it in blocks[at:at + 4]) == TYPES:
-            yield b"".join(it[1:] for it in blocks[at:at + 4])
+    return "too many pages" if len(gsm.pieces_of(text)[0]) > 15 else None
 
 
 def shown_by(blocks):
@@ -326,17 +236,13 @@ def shown_by(blocks):
     are passed over. Of each page number the first page counts. A message is shown when its last missing page comes.
     """
     messages, shown = {}, []
-    for page in pages_of(blocks):
-        serial, ident, dcs, content = number_of(page[:2]), number_of(page[2:4]), page[4], page[6:]
-        number, total = page[5] >> 4, page[5] & 0x0F
-        if number == 0 or total == 0:
-            number, total = 1, 1
-        if alphabet_of(dcs) is None or number > total:
+    for _, serial, ident, dcs, number, total, content in gsm.pages_in(blocks):
+        if gsm.alphabet_of(dcs) is None or number > total:
             continue
         first_dcs, first_total, texts = messages.setdefault((ident, serial), (dcs, total, {}))
         if (dcs, total) != (first_dcs, first_total) or number in texts:
             continue
-        texts[number] = text_of_content(alphabet_of(dcs), content)
+        texts[number] = gsm.text_of_content(gsm.alphabet_of(dcs), content)
         if len(texts) == total:
             shown.append((ident, serial, "".join(texts[it] for it in sorted(texts))))
     return shown
@@ -348,9 +254,9 @@ def quoted(field):
 
 def answer_to_tape(octets):
     try:
-        tapes = tapes_of(octets)
-    except Fault as fault:
-        return str(fault)
+        tapes = gsm.tapes_of(octets)
+    except gsm.Refused as fault:
+        return f"F{fault}"
     lines = ["Rlac,ci,id,serial,text\n"]
     for lac, ci, blocks in tapes:
         lines += [f"{lac},{ci},{ident},{serial:04x},{quoted(text)}\n" for ident, serial, text in shown_by(blocks)]
@@ -490,16 +396,6 @@ GSM_PAGE = bytes.fromhex("8046a3d168341a" + "8d46a3d168341a" * 10 + "8d46a3d100"
 RUSSIAN = 'Оставайтесь дома, закройте окна. "Шторм"\nидёт.'
 
 
-def units(text):
-    """Returns a content of 41 units, filled with CR."""
-    return text.encode("utf-16-be").ljust(82, b"\0") if len(text) == 41 else units(text + "\r")
-
-
-def blocks_of_page(serial, ident, dcs, parameter, content):
-    page = serial.to_bytes(2, "big") + ident.to_bytes(2, "big") + bytes([dcs, parameter]) + content
-    return b"".join(bytes([kind]) + page[22 * at:22 * at + 22] for at, kind in enumerate(TYPES))
-
-
 def message(kind, rest):
     octets = bytes.fromhex(rest)
     return bytes([kind]) + len(octets).to_bytes(3, "big") + octets
@@ -531,12 +427,11 @@ def messages():
 
 def tapes():
     """The worked tape; a tape of no slots, then one of pages 2, 1 and a second 2 of another text; 65 of no slots."""
-    idle = (b"\x2F" + b"\x2B" * 22) * 4
-    page = blocks_of_page(0x0010, 4370, 0x01, 0x11, GSM_PAGE)
-    yield "worked", bytes.fromhex("0001000100000002") + page + idle, None
-    first = blocks_of_page(0x0010, 4370, 0x48, 0x12, units(RUSSIAN[:41]))
-    second = blocks_of_page(0x0010, 4370, 0x48, 0x22, units(RUSSIAN[41:]))
-    repeat = blocks_of_page(0x0010, 4370, 0x48, 0x22, units("!"))
+    page = gsm.slot_of(0x0010, 4370, 0x01, 0x11, GSM_PAGE)
+    yield "worked", bytes.fromhex("0001000100000002") + page + gsm.IDLE_SLOT, None
+    first = gsm.slot_of(0x0010, 4370, gsm.UCS2, 0x12, gsm.content_of(RUSSIAN[:41], False))
+    second = gsm.slot_of(0x0010, 4370, gsm.UCS2, 0x22, gsm.content_of(RUSSIAN[41:], False))
+    repeat = gsm.slot_of(0x0010, 4370, gsm.UCS2, 0x22, gsm.content_of("!", False))
     # The places: the numbers of slots, the types of the first blocks, the heads of two pages with their first units,
     # the text's last unit and the filling after it, a quotation mark, and the line feed that ends a page.
     places = [*range(4, 8), *range(12, 16), *range(16, 200, 23), *range(17, 25), *range(109, 117)]

@@ -12,6 +12,8 @@ import random
 import subprocess
 import sys
 
+import gsm
+
 SLOTS = 64
 GROUP = 64
 HALF = 32
@@ -100,7 +102,7 @@ def wanted(reference, rows, cells):
     """Returns the report and the tapes of all cells, by plain books."""
     report, tapes = b"lac,ci,id,serial,start,end,completed,shown\n", b""
     spare = f"{SPARE[0]},{SPARE[1]},".encode()
-    size = 8 + 92 * SLOTS
+    size = gsm.size_of_tape(SLOTS)
     for first in range(0, len(cells), HALF):
         own = cells[first:first + HALF]
         book = plain_text(rows, own)

@@ -9,34 +9,14 @@ Usage: verify_reference.py PROGRAM [RUNS]    random books, whose tapes are left 
 import csv
 import io
 import random
-import struct
 import subprocess
 import sys
 import tempfile
 
-import malformed
+import gsm
 
-LANGUAGES = "de en it fr es nl sv da pt fi no el tr hu pl und".split()
-TYPES = (0x20, 0x21, 0x22, 0x33)
-IDLE = bytes([0x2F] + [0x2B] * 22)
+LANGUAGES = [it for it, dcs in gsm.LANGUAGES.items() if dcs < 0x10]
 TEXTS = ("Stay in!", "{fire} at 3€", "Go up to the roof " * 8, "Вода", "a" * 93 + "{", "Вода поднимается, идите наверх. " * 3, "@", "x" * 186)
-
-
-def pages_of(text):
-    """Returns the pieces of a text that its pages hold, and whether it is GSM 7-bit."""
-    pairs = set(malformed.EXTENSION.values())
-    alphabet = set(malformed.MAIN) | pairs
-    plain = all(it in alphabet for it in text)
-    room = 93 if plain else 41
-    pieces, used = [""], 0
-    for it in text:
-        cost = 2 if plain and it in pairs else 1
-        if used + cost > room:
-            pieces.append("")
-            used = 0
-        pieces[-1] += it
-        used += cost
-    return pieces, plain
 
 
 class Asked:
@@ -45,8 +25,8 @@ class Asked:
     def __init__(self, order, ident, serial, start, end, slots):
         self.ident, self.serial, self.start = ident, serial, start
         self.category, self.period, self.broadcasts = order["category"], order["period"], order["broadcasts"]
-        self.pages, plain = pages_of(order["text"])
-        self.dcs = LANGUAGES.index(order["lang"]) if plain else 0x48
+        self.pages, is_gsm = gsm.pieces_of(order["text"])
+        self.dcs = gsm.LANGUAGES[order["lang"]] if is_gsm else gsm.UCS2
         over = start + self.broadcasts * self.period if self.broadcasts else slots
         self.stop = end if end < min(over, slots) else None
 
@@ -94,16 +74,10 @@ def asked_of(report, orders, slots):
 
 def sent_in(blocks):
     """Yields each page that stands in blocks, with its slot. One whose data coding has no alphabet has no text."""
-    for place in range(len(blocks) - 3):
-        if tuple(it[0] for it in blocks[place:place + 4]) == TYPES:
-            page = b"".join(it[1:] for it in blocks[place:place + 4])
-            serial, ident, dcs, parameter = struct.unpack_from(">HHBB", page)
-            number, total = divmod(parameter, 16)
-            if number == 0 or total == 0:
-                number = total = 1
-            alphabet = malformed.alphabet_of(dcs)
-            text = None if alphabet is None else malformed.text_of_content(alphabet, page[6:])
-            yield place // 4, ident, serial, number, total, dcs, text
+    for place, serial, ident, dcs, number, total, content in gsm.pages_in(blocks):
+        alphabet = gsm.alphabet_of(dcs)
+        text = None if alphabet is None else gsm.text_of_content(alphabet, content)
+        yield place // 4, ident, serial, number, total, dcs, text
 
 
 def differences_of_message(one, sent, slots):
@@ -145,16 +119,16 @@ WORDS = ("page {} reads otherwise", "before its start", "after its stop", "after
 
 
 def table_of(cells, asked, tapes, slots):
-    """Returns the table of a book's cells and of tapes (LAC, CI, slots, blocks)."""
+    """Returns the table of a book's cells and of tapes (LAC, CI, blocks)."""
     lines = ["lac,ci,id,serial,slot,difference"]
     for cell in cells:
         own = [it for it in tapes if it[:2] == cell]
         if not own:
             lines.append(f"{cell[0]},{cell[1]},,,,no tape")
-        elif own[0][2] != slots:
+        elif len(own[0][2]) != 4 * slots:
             lines.append(f"{cell[0]},{cell[1]},,,,other slots")
         else:
-            for slot, ident, serial, kind, number in differences_of_cell(asked.get(cell, []), own[0][3], slots):
+            for slot, ident, serial, kind, number in differences_of_cell(asked.get(cell, []), own[0][2], slots):
                 lines.append(f"{cell[0]},{cell[1]},{ident},{serial:04x},{slot},{WORDS[kind].format(number)}")
     seen = set()
     for lac, ci, *_ in tapes:
@@ -166,45 +140,35 @@ def table_of(cells, asked, tapes, slots):
     return "".join(it + "\n" for it in lines)
 
 
-def tapes_of(octets):
-    """Returns the tapes in octets."""
-    tapes, place = [], 0
-    while place < len(octets):
-        lac, ci, slots = struct.unpack_from(">HHI", octets, place)
-        blocks = [octets[at:at + 23] for at in range(place + 8, place + 8 + 92 * slots, 23)]
-        tapes.append((lac, ci, slots, blocks))
-        place += 8 + 92 * slots
-    return tapes
-
-
 def spoilt(rng, tapes):
     """Returns tapes with a few things done to them."""
-    tapes = [(lac, ci, slots, list(blocks)) for lac, ci, slots, blocks in tapes]
+    tapes = [(lac, ci, list(blocks)) for lac, ci, blocks in tapes]
     for _ in range(rng.randrange(1, 5)):
         place = rng.randrange(len(tapes)) if tapes else None
         kind = rng.randrange(13)
         if place is None or kind == 0:
-            tapes.insert(rng.randrange(len(tapes) + 1), (rng.randrange(1, 5), rng.randrange(1, 9), 1, [IDLE] * 4))
+            tapes.insert(rng.randrange(len(tapes) + 1), (rng.randrange(1, 5), rng.randrange(1, 9), [gsm.IDLE] * 4))
             continue
-        lac, ci, slots, blocks = tapes[place]
+        lac, ci, blocks = tapes[place]
+        slots = len(blocks) // 4
         one, other = rng.randrange(slots), rng.randrange(slots)
         if kind == 1:
             tapes.pop(place)
         elif kind == 2:
-            tapes.append((lac, ci, slots, list(blocks)))
+            tapes.append((lac, ci, list(blocks)))
         elif kind == 3 and slots > 1:
-            tapes[place] = (lac, ci, slots - 1, blocks[:-4])
+            tapes[place] = (lac, ci, blocks[:-4])
         elif kind == 4:
-            blocks.insert(rng.randrange(len(blocks)), IDLE)
+            blocks.insert(rng.randrange(len(blocks)), gsm.IDLE)
             blocks.pop()
         elif kind == 5:
             rng.shuffle(tapes)
         elif kind in (6, 7):
             blocks[4 * one:4 * one + 4], blocks[4 * other:4 * other + 4] = blocks[4 * other:4 * other + 4], blocks[4 * one:4 * one + 4]
         elif kind == 8:
-            blocks[4 * one:4 * one + 4] = [IDLE] * 4
+            blocks[4 * one:4 * one + 4] = [gsm.IDLE] * 4
         elif kind == 9:
-            source = rng.choice(tapes)[3]
+            source = rng.choice(tapes)[2]
             at = 4 * rng.randrange(len(source) // 4)
             blocks[4 * one:4 * one + 4] = source[at:at + 4]
         elif kind == 10:
@@ -223,10 +187,6 @@ def spoilt(rng, tapes):
     return tapes
 
 
-def octets_of(tapes):
-    return b"".join(struct.pack(">HHI", lac, ci, slots) + b"".join(blocks) for lac, ci, slots, blocks in tapes)
-
-
 def run(program, words, octets):
     return subprocess.run([program, *words], input=octets, stdout=subprocess.PIPE, stderr=subprocess.PIPE, check=False)
 
@@ -238,7 +198,7 @@ def differs(program, seed):
     octets, slots = book.encode(), rng.randrange(1, 40)
     report = run(program, ["report", "--slots", str(slots)], octets)
     made = run(program, ["compile", "--slots", str(slots)], octets)
-    tapes = tapes_of(made.stdout)
+    tapes = gsm.tapes_of(made.stdout)
     if seed % 3:
         tapes = spoilt(rng, tapes)
     else:
@@ -247,7 +207,7 @@ def differs(program, seed):
     with tempfile.NamedTemporaryFile() as file:
         file.write(octets)
         file.flush()
-        said = run(program, ["verify", "--slots", str(slots), "--book", file.name], octets_of(tapes))
+        said = run(program, ["verify", "--slots", str(slots), "--book", file.name], b"".join(gsm.tape_of(*it) for it in tapes))
     count = table.count("\n") - 1
     status, faults = (1, f"warnc: differences: {count}\n") if count else (0, "")
     if (said.stdout.decode(), said.stderr.decode(), said.returncode) == (table, faults, status) and (seed % 3 or not count):
