@@ -64,6 +64,7 @@ import termios
 import time
 
 import capture_reference
+import gsm
 
 TOP = os.path.dirname(os.path.dirname(os.path.realpath(__file__)))
 PROGRAM = os.path.join(TOP, "crates", "warnc", "out", "warnc")
@@ -84,9 +85,10 @@ KEPT = 5
 # how often a finding is tried again at most: the place of the stack is chance, and so is which session comes first
 TRIES = 20
 
-LANGUAGES = "de en it fr es nl sv da pt fi no el tr hu pl und cs he ar ru is".split()
-GSM = "@£$¥èéùìòÇ\nØøÅåΔ_ΦΓΛΩΠΨΣΘΞÆæßÉ !\"#¤%&'()*+,-./0123456789:;<=>?¡AZÄÖÑÜ§¿azäöñüà"
-EXTENSION = "^{}\\[~]|€"
+LANGUAGES = list(gsm.LANGUAGES)
+# the characters of the main table that a text may have; of the letters A to Z and a to z the first and the last
+GSM = re.sub("[B-Yb-y\r\x1b]", "", gsm.MAIN)
+EXTENSION = "".join(gsm.EXTENSION.values())
 UCS2 = "ЯЖюç洪水警報عبر\u0300\u200b\u2028\uffff\ufeff\ufffd\ue000\x7f\xa0"
 BAD = "\r\x00\x07\x1b\x1f\U0001f6a8\U0010ffff"
 # octets that aren't UTF-8: single ones, overlong, surrogates, past the last character, cut
@@ -94,7 +96,7 @@ BROKEN = (b"\xff", b"\x80", b"\xc0\x80", b"\xe0\x80\xaf", b"\xed\xa0\x80", b"\xe
           b"\xe2\x82", b"\xc3", b"\xf0\x9f\x9a", b"\xf8\x88\x80\x80\x80")
 LENGTHS = (0, 1, 2, 40, 41, 42, 82, 91, 92, 93, 94, 186, 187, 614, 615, 616, 1394, 1395, 1396, 3000)
 TOKENS = (b",", b'"', b'""', b"\r", b"\n", b"\r\n", b"\x00", b"\xef\xbb\xbf", b"*", b"-", b" ", b"1-1", b"cell,1,1\n",
-          b"stop,0,a,*\n", b"\x20\x21\x22\x33", b"\x2f" + b"\x2b" * 22, b"\xff\xff", b"\x1b") + BROKEN
+          b"stop,0,a,*\n", bytes(gsm.TYPES), gsm.IDLE, b"\xff\xff", b"\x1b") + BROKEN
 
 COLUMNS = {
     b"cell": ("lac", "ci"),
@@ -357,13 +359,13 @@ def floor_of(program):
 def is_tapes(run, out):
     """Whether an output is tapes of so many slots, each slot idle or a page."""
     slots = run.number("--slots", 0)
-    size = 8 + 92 * slots
+    size = gsm.size_of_tape(slots)
     if len(out) % size:
         return False
     for first in range(0, len(out), size):
         tape = out[first:first + size]
         kinds = set(zip(tape[8::92], tape[31::92], tape[54::92], tape[77::92]))
-        if int.from_bytes(tape[4:8]) != slots or not kinds <= {(0x20, 0x21, 0x22, 0x33), (0x2f,) * 4}:
+        if int.from_bytes(tape[4:8]) != slots or not kinds <= {gsm.TYPES, (0x2f,) * 4}:
             return False
     return True
 
@@ -443,7 +445,7 @@ def is_output(run, out):
         return bool(out)
     forms = {"page": lambda: is_shown(run, out), "read": lambda: is_table(out), "report": lambda: is_report(out),
              "chart": lambda: is_chart(out), "verify": lambda: differences_in(out) == 0, "pcap": lambda: is_capture(out),
-             "tape": lambda: is_tapes(run, out) or len(out) == 8 + 92 * run.number("--slots", 0)}
+             "tape": lambda: is_tapes(run, out) or len(out) == gsm.size_of_tape(run.number("--slots", 0))}
     return forms.get(run.command(), lambda: is_tapes(run, out))()
 
 
@@ -595,11 +597,11 @@ def check_round(checked, case):
     """`read` shows what `page` says that it shows, of the same blocks."""
     one = checked.run(case.run)
     if one.status == 0:
-        blocks = re.match(rb"(?:[0-9a-f]{46}\n){4,60}", one.out)[0].split()
+        lines = re.match(rb"(?:[0-9a-f]{46}\n){4,60}", one.out)[0].decode()
+        blocks = [bytes.fromhex(it) for it in lines.split()]
         if len(blocks) % 4:
             return
-        tape = f"00010002{len(blocks) // 4:08x}" + b"".join(blocks).decode()
-        other = Run(["read"], bytes.fromhex(tape))
+        other = Run(["read"], gsm.tape_of(1, 2, blocks))
         table = checked.run(other)
         said = ["1", "2"] + one.out.split(b"\n", len(blocks))[-1].decode()[:-1].split(" ", 2)
         checked.expect(table_in(table.out)[1:] == [said], other, table, "read shows another text than page")
@@ -937,34 +939,16 @@ def some_book(chance, seeds):
 # Tapes: headers, and slots of 92 octets
 
 
-IDLE = (b"\x2f" + b"\x2b" * 22) * 4
-
-
-def packed(codes):
-    """Packs septets into 82 octets, filled with CR."""
-    bits = 0
-    for place, code in enumerate((codes + [13] * 93)[:93]):
-        bits |= code << 7 * place
-    return bits.to_bytes(82, "little")
-
-
 def make_content(chance):
     kind = chance.random()
     if kind < 0.5:
         length, codes = chance.choice((0, 1, 92, 93)), (13, 27, 10, 34, 44, 0, 65, 97, 127, chance.randrange(128))
-        return packed([chance.choice(codes) for _ in range(length)])
+        return gsm.packed([chance.choice(codes) for _ in range(length)])
     if kind < 0.8:
         some = 0x0d, 0x0a, 0x22, 0x2c, 0x41, 0x42f, 0xd800, 0xdfff, 0xffff, 0, 0xfeff
         length = chance.choice((0, 1, 41))
-        units = [chance.choice(some) for _ in range(length)]
-        return b"".join(unit.to_bytes(2) for unit in (units + [0x0d] * 41)[:41])
+        return gsm.of_units([chance.choice(some) for _ in range(length)])
     return chance.randbytes(82)
-
-
-def slot_of(serial, number, coding, page, total, content):
-    octets = serial.to_bytes(2) + number.to_bytes(2) + bytes([coding, page << 4 | total]) + content
-    kinds = (0x20, 0), (0x21, 22), (0x22, 44), (0x33, 66)
-    return b"".join(bytes([kind]) + octets[first:first + 22] for kind, first in kinds)
 
 
 def make_slots(chance):
@@ -975,8 +959,8 @@ def make_slots(chance):
         total = chance.choice((0, 1, 1, 2, 3, 15))
         serial, number = chance.choice((0, 16, 17, 65535)), chance.choice((0, 4370, 65535))
         for page in range(min(total, 1), total + 1):
-            slots.append(slot_of(serial, number, coding, page, total, make_content(chance)))
-    slots += [IDLE] * chance.choice((0, 0, 1, 3))
+            slots.append(gsm.slot_of(serial, number, coding, page << 4 | total, make_content(chance)))
+    slots += [gsm.IDLE_SLOT] * chance.choice((0, 0, 1, 3))
     if chance.random() < 0.3:
         chance.shuffle(slots)
     return slots
@@ -996,9 +980,10 @@ def tapes_of(octets):
     tapes = []
     while len(octets) >= 8:
         count = int.from_bytes(octets[4:8])
-        slots = [octets[first:first + 92] for first in range(8, min(len(octets), 8 + 92 * count), 92)]
+        end = gsm.size_of_tape(count)
+        slots = [octets[first:first + gsm.SLOT] for first in range(8, min(len(octets), end), gsm.SLOT)]
         tapes.append([octets[:4], count, slots])
-        octets = octets[8 + 92 * count:]
+        octets = octets[end:]
     return tapes
 
 
