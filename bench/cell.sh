@@ -5,11 +5,11 @@
 set -eu
 . "$(dirname "$(readlink -f "$0")")/start.sh"
 for messages in 64 512 4032; do python3 "$top/bench/make_cell_book.py" "$messages" >"$work/$messages"; done
-python3 - "${1:-$program}" "$work" <<'PY'
+PYTHONPATH=$top/tools PYTHONDONTWRITEBYTECODE=1 python3 - "${1:-$program}" "$work" <<'PY'
 import os, subprocess, sys, time
+import gsm
 program, work = sys.argv[1:]
 SLOTS = 65535
-IDLE = (b"\x2f" + b"\x2b" * 22) * 4
 
 
 def run(book, slots, target):
@@ -29,8 +29,8 @@ for messages in (64, 512, 4032):
     first = run(book, 1, tape)
     whole = run(book, SLOTS, tape)
     with open(tape, "rb") as it:
-        octets = it.read()[8:]
-    busy = sum(octets[at:at + 92] != IDLE for at in range(0, len(octets), 92))
+        octets = it.read()[gsm.HEADER.size:]
+    busy = sum(octets[at:at + gsm.SLOT] != gsm.IDLE_SLOT for at in range(0, len(octets), gsm.SLOT))
     slot = (whole - first) / (SLOTS - 1)
     shortest = shortest or slot
     print(f"{messages:5} messages  {first:.3f} s for the book  {whole:.3f} s with all slots, {busy / SLOTS:.0%} of them busy  "

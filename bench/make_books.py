@@ -9,14 +9,10 @@ It uses nothing of warnc.
 """
 import random
 
-from timing import words_of
+from timing import TEXTS, words_of
 
 CELLS = 64
 SLOTS = 4096
-TEXTS = {
-    "en": "Flood warning for the lower town: leave the river bank and go to higher ground. ",
-    "ru": "Внимание! Опасность наводнения: уходите от реки на возвышенность. ",
-}
 
 
 def cells_of(chance):

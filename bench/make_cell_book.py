@@ -7,10 +7,9 @@ them have 960 pages for some 960 slots: the cell is as good as always busy, what
 
 It uses nothing of warnc.
 """
-from timing import words_of
+from timing import TEXTS, part_of, words_of
 
 NORMAL = 32
-TEXT = "Flood warning for the lower town: leave the river bank and go to higher ground. "
 LENGTH = 15 * 93
 
 
@@ -19,8 +18,7 @@ def main():
     print("cell,1,1")
     for number in range(int(messages)):
         category = 2 if number < NORMAL else 1
-        first = number % len(TEXT)
-        text = (TEXT[first:] + TEXT * 18)[:LENGTH - 1] + "."
+        text = part_of(TEXTS["en"], number % len(TEXTS["en"]), LENGTH - 1) + "."
         # identifier, scope, code: one message each
         pair = [4370 + number % 8, 0, number // 8]
         row = ["write", 0, f"alert{number}", *pair, "en", category, 900 + number % 124, 0, "*", text]

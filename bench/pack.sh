@@ -4,23 +4,20 @@
 # packing takes is the difference of the first two. pack.sh [PROGRAM [OTHER]]: OTHER is timed beside it, as one that packs row by row.
 set -eu
 . "$(dirname "$(readlink -f "$0")")/start.sh"
-python3 - "$work" "${1:-$program}" ${2:+"$2"} <<'PY'
+PYTHONPATH=$top/bench PYTHONDONTWRITEBYTECODE=1 python3 - "$work" "${1:-$program}" ${2:+"$2"} <<'PY'
 import os, subprocess, sys, time
+from timing import TEXTS, part_of
 work, *programs = sys.argv[1:]
 ROWS = 4096
-# a text, and how many of its characters fill 15 pages
-TEXTS = {
-    "en": ("Flood warning for the lower town: leave the river bank and go to higher ground. ", 15 * 93),
-    "ru": ("Внимание! Опасность наводнения: уходите от реки на возвышенность. ", 15 * 40),
-}
+# how many characters of a text fill 15 pages
+LENGTHS = {"en": 15 * 93, "ru": 15 * 40}
 LAST = {"rows": ("cell,1", 1), "texts": ("write,0,last,4370,0,1,en,2,2,0,*,A\tB", 1), "all": (None, 0)}
 
 
 def write_row(number):
     language = "en" if number % 2 else "ru"
-    text, length = TEXTS[language]
-    first = number % len(text)
-    whole = (text[first:] + text * 20)[:length - 1] + "."
+    text = TEXTS[language]
+    whole = part_of(text, number % len(text), LENGTHS[language] - 1) + "."
     fields = ["write", 0, f"alert{number}", 4370 + number % 8, 0, number // 8, language, 1, 1024, 1, "*", whole]
     return ",".join(str(field) for field in fields)
 

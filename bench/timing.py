@@ -1,8 +1,19 @@
-"""Times commands, and reads words, for the scripts of this folder."""
+"""Times commands, reads words, and has texts of warnings, for the scripts of this folder."""
 import os
 import subprocess
 import sys
 import time
+
+# a text of each alphabet
+TEXTS = {
+    "en": "Flood warning for the lower town: leave the river bank and go to higher ground. ",
+    "ru": "Внимание! Опасность наводнения: уходите от реки на возвышенность. ",
+}
+
+
+def part_of(text, first, length):
+    """Returns so many characters of a text that is said again and again, from a place on."""
+    return (text * (length // len(text) + 2))[first:first + length]
 
 
 def words_of(document, fewest, most):
