@@ -3,8 +3,8 @@
 #
 # Usage: ./install.sh [--prefix DIR] [--uninstall]
 #
-# DIR is /usr/local, if it isn't given. A packager's DESTDIR goes before it. Nothing is built: dist/ has the program for x86-64 Linux
-# with glibc 2.34 or later.
+# DIR is /usr/local, if it isn't given. A packager's DESTDIR goes before it. Nothing is built: dist/ has the program for
+# x86-64 Linux with glibc 2.34 or later.
 set -eu
 here=$(dirname "$(readlink -f "$0")")
 prefix=/usr/local uninstall=

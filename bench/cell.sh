@@ -1,7 +1,8 @@
 #!/bin/sh
-# Times a slot of one cell with 64, 512 and 4,032 messages: `warnc compile` with 65,535 slots, less the same with one slot, which
-# reads the book and accepts its messages too. The books are those of bench/make_cell_book.py: 32 normal messages, and the others
-# background, each of 15 pages, so that nearly each slot airs a page. The longest may be at most four times the shortest.
+# Times a slot of one cell with 64, 512 and 4,032 messages: `warnc compile` with 65,535 slots, less the same with one
+# slot, which reads the book and accepts its messages too. The books are those of bench/make_cell_book.py: 32 normal
+# messages, and the others background, each of 15 pages, so that nearly each slot airs a page. The longest may be at
+# most four times the shortest.
 set -eu
 . "$(dirname "$(readlink -f "$0")")/start.sh"
 for messages in 64 512 4032; do python3 "$top/bench/make_cell_book.py" "$messages" >"$work/$messages"; done
@@ -33,6 +34,6 @@ for messages in (64, 512, 4032):
     busy = sum(octets[at:at + gsm.SLOT] != gsm.IDLE_SLOT for at in range(0, len(octets), gsm.SLOT))
     slot = (whole - first) / (SLOTS - 1)
     shortest = shortest or slot
-    print(f"{messages:5} messages  {first:.3f} s for the book  {whole:.3f} s with all slots, {busy / SLOTS:.0%} of them busy  "
-          f"{slot * 1e6:.2f} us a slot, {slot / shortest:.1f} times that of 64")
+    print(f"{messages:5} messages  {first:.3f} s for the book  {whole:.3f} s with all slots, "
+          f"{busy / SLOTS:.0%} of them busy  {slot * 1e6:.2f} us a slot, {slot / shortest:.1f} times that of 64")
 PY

@@ -47,7 +47,8 @@ def rows(chance, count, periods):
             name = f"alert{len(updates)}"
             language, *rest = sent(chance, periods)
             updates[name] = 0
-            yield ["write", at, name, 4370 + len(updates) % 30, chance.randint(0, 3), len(updates) % 1024, language, *rest]
+            message = [4370 + len(updates) % 30, chance.randint(0, 3), len(updates) % 1024]
+            yield ["write", at, name, *message, language, *rest]
         elif kind < 0.8:
             name = chance.choice(live)
             updates[name] += 1

@@ -1,9 +1,9 @@
 #!/usr/bin/env python3
 """Writes an alert book of one cell for bench/cell.sh. make_cell_book.py MESSAGES, from 64 to 4,032.
 
-All messages are written at slot 0, have 15 pages, periods from 900 to 1,023 slots, and stand to the end of the run. The first 32
-are normal, and reserve about half of the cell; the others are background, which reserves nothing, so that all are accepted. 64 of
-them have 960 pages for some 960 slots: the cell is as good as always busy, whatever their number.
+All messages are written at slot 0, have 15 pages, periods from 900 to 1,023 slots, and stand to the end of the run. The
+first 32 are normal, and reserve about half of the cell; the others are background, which reserves nothing, so that all
+are accepted. 64 of them have 960 pages for some 960 slots: the cell is as good as always busy, whatever their number.
 
 It uses nothing of warnc.
 """

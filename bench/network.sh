@@ -39,7 +39,8 @@ for cells in (64, 1024, 16384):
             spent = time.monotonic() - begun
             took[workers] = min(spent, took.get(workers, spent))
             reports.append(done.stdout)
-        print(f"{cells:6} cells, {workers} workers: {took[workers]:6.2f} s, {cells / took[workers]:6.0f} cells a second")
+        print(f"{cells:6} cells, {workers} workers: {took[workers]:6.2f} s, "
+              f"{cells / took[workers]:6.0f} cells a second")
     if len(set(reports)) != 1:
         sys.exit("the reports differ")
     alone = alone or took[1]

@@ -1,7 +1,8 @@
 #!/bin/sh
-# Times how a book of 4,096 rows is read whose texts have 15 pages each, with all cores and with one: its rows alone (the last row
-# is wrong, so no text is packed), its rows and texts (the last text can't be sent), and all of `warnc compile --slots 1`. What
-# packing takes is the difference of the first two. pack.sh [PROGRAM [OTHER]]: OTHER is timed beside it, as one that packs row by row.
+# Times how a book of 4,096 rows is read whose texts have 15 pages each, with all cores and with one: its rows alone
+# (the last row is wrong, so no text is packed), its rows and texts (the last text can't be sent), and all of
+# `warnc compile --slots 1`. What packing takes is the difference of the first two. pack.sh [PROGRAM [OTHER]]: OTHER is
+# timed beside it, as one that packs row by row.
 set -eu
 . "$(dirname "$(readlink -f "$0")")/start.sh"
 PYTHONPATH=$top/bench PYTHONDONTWRITEBYTECODE=1 python3 - "$work" "${1:-$program}" ${2:+"$2"} <<'PY'

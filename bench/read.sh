@@ -1,7 +1,7 @@
 #!/bin/sh
-# Times `warnc read` and `wc -l` on tapes, in one run, and reports the peak memory of `warnc read`: on about 100 MB of mixed
-# tapes (64 tapes of 4,096 slots are 24 MB, so four inputs are read one after another), on tapes
-# with many messages of 15 pages, and on tapes with many messages of one page.
+# Times `warnc read` and `wc -l` on tapes, in one run, and reports the peak memory of `warnc read`: on about 100 MB of
+# mixed tapes (64 tapes of 4,096 slots are 24 MB, so four inputs are read one after another), on tapes with many
+# messages of 15 pages, and on tapes with many messages of one page.
 set -eu
 . "$(dirname "$(readlink -f "$0")")/start.sh"
 for seed in 1 2 3 4; do python3 "$top/bench/make_tapes.py" "$seed" >"$work/mixed$seed"; done
@@ -33,6 +33,6 @@ for kind, names in KINDS.items():
     octets = sum(os.path.getsize(name) for name in inputs)
     lines, _ = run(["wc", "-l"], inputs)
     read, peak = run([program, "read"], inputs)
-    print(f"{kind:6} {octets / 1e6:5.1f} MB  wc -l {lines:.3f} s  warnc read {read:.3f} s, {octets / read / 1e6:.0f} MB/s, "
-          f"{100 * lines / read:.0f} % of wc's speed, peak {peak:.1f} MB")
+    print(f"{kind:6} {octets / 1e6:5.1f} MB  wc -l {lines:.3f} s  warnc read {read:.3f} s, "
+          f"{octets / read / 1e6:.0f} MB/s, {100 * lines / read:.0f} % of wc's speed, peak {peak:.1f} MB")
 PY

@@ -17,7 +17,8 @@ def part_of(text, first, length):
 
 
 def words_of(document, fewest, most):
-    """Returns the words that a script is given. If they are too few or too many, or ask for help, prints its document and ends it."""
+    """Returns the words that a script is given. If they are too few or too many, or ask for help,
+    prints its document and ends it."""
     words = sys.argv[1:]
     if not fewest <= len(words) <= most or words[0].startswith("-"):
         print(document, end="")
@@ -26,8 +27,8 @@ def words_of(document, fewest, most):
 
 
 def best_of_five(command, source, target):
-    """Runs a command five times with its input from one file and its output to another. Returns the seconds of the fastest run and
-    the peak memory of all, in octets."""
+    """Runs a command five times with its input from one file and its output to another.
+    Returns the seconds of the fastest run and the peak memory of all, in octets."""
     best, peak = None, 0
     for _ in range(5):
         with open(source, "rb") as stdin, open(target, "wb") as stdout:

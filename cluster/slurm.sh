@@ -3,8 +3,9 @@
 #
 # Usage: slurm.sh report|compile SLOTS NETWORK OUTPUT [OPTION OF SBATCH ..]
 #
-# An array job has a task for each GROUPS_A_TASK groups, 8 if that isn't set. Tasks that failed are run again, three times
-# at most. All nodes have to see the same files under the same names. WARNC names the program, if it isn't this one.
+# An array job has a task for each GROUPS_A_TASK groups, 8 if that isn't set. Tasks that failed are run again, three
+# times at most. All nodes have to see the same files under the same names. WARNC names the program, if it isn't this
+# one.
 
 . "$(dirname "$(readlink -f "$0")")/start.sh"
 each=${GROUPS_A_TASK:-8}

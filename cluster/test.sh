@@ -1,7 +1,7 @@
 #!/bin/sh
-# Tries parallel.sh and slurm.sh on this machine: of the tasks of a network one is killed in the middle and run again, and
-# what is joined has to be the groups' outputs, one after the other. What isn't installed is skipped, aloud. The last line
-# is 'N passed, M failed, K skipped'.
+# Tries parallel.sh and slurm.sh on this machine: of the tasks of a network one is killed in the middle and run again,
+# and what is joined has to be the groups' outputs, one after the other. What isn't installed is skipped, aloud. The
+# last line is 'N passed, M failed, K skipped'.
 #
 # Usage: test.sh [PROGRAM]        PROGRAM is a built warnc, if it isn't this one
 set -eu
@@ -117,7 +117,8 @@ END
     sleep 3
 }
 
-if command -v slurmctld > /dev/null && command -v slurmd > /dev/null && command -v munged > /dev/null && [ "$(id -u)" = 0 ]; then
+if command -v slurmctld > /dev/null && command -v slurmd > /dev/null && command -v munged > /dev/null &&
+    [ "$(id -u)" = 0 ]; then
     if serve; then
         GROUPS_A_TASK=1 "$here/slurm.sh" report 64 "$folder/network.csv" "$folder/slurm.csv" > /dev/null 2>&1 || true
     fi

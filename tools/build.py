@@ -3,13 +3,14 @@
 
 Usage: build.py      the program is crates/warnc/out/warnc then
 
-`rt` keeps one checkout's checks out of each other's libraries, so that two of them wait for each other. So each lane is a checkout of
-its own, outside the repository: what is proved in one is taken over by the others, and is linked into this one.
+`rt` keeps one checkout's checks out of each other's libraries, so that two of them wait for each other. So each lane is
+a checkout of its own, outside the repository: what is proved in one is taken over by the others, and is linked into
+this one.
 
-Of the crates that can begin, the one with the longest way to the program begins first: by the seconds that each crate took on this
-machine the last time, which its out/ keeps, else by its lines. A crate that runs alone gets all processors.
-On a terminal one line changes as it goes; elsewhere there is a line for each crate. If a crate isn't proved, the end of what the
-prover said is printed, and the rest is in the named file.
+Of the crates that can begin, the one with the longest way to the program begins first: by the seconds that each crate
+took on this machine the last time, which its out/ keeps, else by its lines. A crate that runs alone gets all
+processors. On a terminal one line changes as it goes; elsewhere there is a line for each crate. If a crate isn't
+proved, the end of what the prover said is printed, and the rest is in the named file.
 """
 import os
 import shutil
@@ -113,7 +114,8 @@ class Progress:
 
     def show(self, running):
         if self.changes:
-            line = f"warnc: {len(self.done)} of {len(self.seconds)} crates proved, {self.left()}, {self.minutes()}; now {', '.join(running)}"
+            proved = f"{len(self.done)} of {len(self.seconds)} crates proved"
+            line = f"warnc: {proved}, {self.left()}, {self.minutes()}; now {', '.join(running)}"
             print(f"\r\x1b[K{line[:os.get_terminal_size(2).columns - 1]}", end="", file=sys.stderr, flush=True)
 
     def add(self, crate):
@@ -159,10 +161,11 @@ def link_or_copy(file, to):
 
 def start(crate, folder, checkout, jobs):
     """Starts the check of a crate in a checkout, which writes to a file of this folder."""
-    words = ["rt", "run", "--jobs", str(jobs), "--", "--help"] if crate == PROGRAM else ["rt", "lib", "--jobs", str(jobs)]
+    verb, rest = ("run", ["--", "--help"]) if crate == PROGRAM else ("lib", [])
+    place = os.path.join(checkout, "crates", crate)
     with open(os.path.join(folder, crate), "wb") as log:
-        return subprocess.Popen(words, cwd=os.path.join(checkout, "crates", crate), stdin=subprocess.DEVNULL, stdout=log,
-                                stderr=log)
+        return subprocess.Popen(["rt", verb, "--jobs", str(jobs), *rest], cwd=place, stdin=subprocess.DEVNULL,
+                                stdout=log, stderr=log)
 
 
 def explain(crate, folder):
@@ -201,7 +204,8 @@ def build():
     seconds = {crate: seconds_of(crate) for crate in below}
     ways = longest_ways(below, seconds)
     progress = Progress(seconds)
-    print(f"warnc: proving and building {len(below)} crates, which takes minutes the first time", file=sys.stderr, flush=True)
+    print(f"warnc: proving and building {len(below)} crates, which takes minutes the first time",
+          file=sys.stderr, flush=True)
     left, running = sorted(below, key=lambda it: -ways[it]), {}
     with tempfile.TemporaryDirectory(prefix="warnc-build-") as folder:
         free = [copy_checkout(os.path.join(folder, f"lane{it}"), below) for it in range(lanes())]
@@ -236,7 +240,8 @@ def main(words):
         print(__doc__, end="")
         return 0 if words in (["-h"], ["--help"]) else 2
     if shutil.which("rt") is None:
-        print("warnc: 'rt', the command of the Rattle toolchain, isn't there: README.md says what is needed", file=sys.stderr)
+        print("warnc: 'rt', the command of the Rattle toolchain, isn't there: README.md says what is needed",
+              file=sys.stderr)
         return 70
     return build()
 

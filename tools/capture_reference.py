@@ -1,13 +1,15 @@
 #!/usr/bin/env python3
-"""Makes captures of tapes and tapes of captures, as docs/formats.md describes them: a second program against which `warnc pcap` and
-`warnc tape` are compared. It shares nothing with them.
+"""Makes captures of tapes and tapes of captures, as docs/formats.md describes them: a second program against which
+`warnc pcap` and `warnc tape` are compared. It shares nothing with them.
 
 Usage: capture_reference.py [--used] [--channel 51|52] < tapes > air.pcap
        capture_reference.py --back LAC-CI SLOTS [IPV4] < air.pcap > tape
-       capture_reference.py --compare PROGRAM [RUNS]     random tapes there and back, with packets that are put in order anew,
-                                                         doubled, dropped, foreign or cut; each file is made by both programs
-       capture_reference.py --tshark PROGRAM < tapes     what tshark shows of the captures that a built program makes, beside what
-                                                         its `read` shows: identifiers, serial numbers and texts of pages
+       capture_reference.py --compare PROGRAM [RUNS]     random tapes there and back, with packets that are put in order
+                                                         anew, doubled, dropped, foreign or cut; each file is made by
+                                                         both programs
+       capture_reference.py --tshark PROGRAM < tapes     what tshark shows of the captures that a built program makes,
+                                                         beside what its `read` shows: identifiers, serial numbers and
+                                                         texts of pages
 """
 import argparse
 import csv
@@ -62,7 +64,8 @@ def packet_of_block(number, lac, cell, place, block, channel):
     multiframe = 8 * slot + part
     when = divmod(multiframe * 51 * 120000 // 26, 1000000)
     body = datagram(gsmtap((multiframe * 51 + FIRST_FRAMES[channel]) % FRAMES, channel, block))
-    return packet(internet(struct.pack(">HH", lac, cell), struct.pack(">I", 0x0A000000 + number), slot % 65536, body), when)
+    source, target = struct.pack(">HH", lac, cell), struct.pack(">I", 0x0A000000 + number)
+    return packet(internet(source, target, slot % 65536, body), when)
 
 
 def capture_of(octets, used=False, channel=15):
@@ -128,7 +131,9 @@ def block_in(link, octets, source):
     if len(octets) < 16:
         return None
     version, words, kind, _, arfcn, _, _, frame, channel = struct.unpack_from(">BBBBHbbIB", octets)
-    if (version, kind) != (2, 1) or words < 4 or arfcn & 0x4000 or channel not in (12, 15) or len(octets) != 4 * words + 23:
+    if (version, kind) != (2, 1) or words < 4 or arfcn & 0x4000 or channel not in (12, 15):
+        return None
+    if len(octets) != 4 * words + gsm.BLOCK:
         return None
     return frame, octets[4 * words:]
 
@@ -265,8 +270,8 @@ def shown_by_tshark(capture):
     """The messages of a capture of one tape, as tshark shows them: each page that is whole has a line of fields."""
     names = ["message-identifier", "serial_number", "current_page", "total_pages", "page_content"]
     fields = [word for name in names for word in ("-e", f"gsm_cbs.{name}")]
-    done = subprocess.run(["tshark", "-r", "-", "-Y", "gsm_cbs", "-T", "fields", "-E", "separator=|", *fields], input=capture,
-                          stdout=subprocess.PIPE, stderr=subprocess.DEVNULL, check=True)
+    done = subprocess.run(["tshark", "-r", "-", "-Y", "gsm_cbs", "-T", "fields", "-E", "separator=|", *fields],
+                          input=capture, stdout=subprocess.PIPE, stderr=subprocess.DEVNULL, check=True)
     messages = {}
     for line in done.stdout.decode().splitlines():
         number, serial, page, total, text = line.split("|", 4)

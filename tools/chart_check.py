@@ -5,8 +5,8 @@ Usage: chart_check.py PROGRAM [BOOKS]            makes so many random books (20 
        chart_check.py PROGRAM --picture FILE     writes a picture of the chart of the book by hand (PNG)
 
 Of each chart the bars, marks, refusals, texts and loads are counted and compared with the rows of `report`, with what
-`read` shows of the tapes of `compile`; the lines of the loads have to stay within the cell's room. Chromium, where it is
-installed, opens each page: it has to find the same bars, and no element that the program didn't write, whatever the
+`read` shows of the tapes of `compile`; the lines of the loads have to stay within the cell's room. Chromium, where it
+is installed, opens each page: it has to find the same bars, and no element that the program didn't write, whatever the
 texts say.
 """
 import csv
@@ -91,7 +91,8 @@ def random_book(chance):
         where = chance.choice(("*", cells[0], cells[-1]))
         text = chance.choice(TEXTS)
         quoted = '"' + text.replace('"', '""') + '"'
-        order = f"{'ru' if text.startswith('В') else 'en'},{chance.randint(0, 2)},{chance.randint(1, 9)},{chance.choice((0, 0, 3))}"
+        language = "ru" if text.startswith("В") else "en"
+        order = f"{language},{chance.randint(0, 2)},{chance.randint(1, 9)},{chance.choice((0, 0, 3))}"
         verb = chance.choice(("write", "write", "update", "stop")) if names else "write"
         if verb == "write":
             names.append(f"n{number}")

@@ -18,7 +18,8 @@ TEXTS = {
     "docs/warnc.1": (r"^\.SS (\w+)\n(.*?)(?=^\.S[SH])", r"^\.SS (\w+)"),
     "tools/completions/warnc.bash": (r"^ +(\w+)\) words=\"(.*?)\" ;;", r"words=\"([a-z ]+) -h --help -V --version\""),
     "tools/completions/_warnc": (r"^    (\w+)\)\n(.*?);;", r"^    '([a-z]+):"),
-    "tools/completions/warnc.fish": (r"^complete -c warnc -n '__fish_seen_subcommand_from (\w+)'([^\n]*)", r"__fish_use_subcommand -a (\w+)"),
+    "tools/completions/warnc.fish": (
+        r"^complete -c warnc -n '__fish_seen_subcommand_from (\w+)'([^\n]*)", r"__fish_use_subcommand -a (\w+)"),
 }
 # An option as it is typed, or as fish has it.
 OPTION = r"(?<![\w-])(?:--|-l )(\w[\w-]*)"

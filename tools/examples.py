@@ -1,12 +1,13 @@
 #!/usr/bin/env python3
-"""Runs each command that README, two pages of docs/ and the man page print, and compares what it writes with what they print after it.
+"""Runs each command that README, two pages of docs/ and the man page print, and compares what it writes with what they
+print after it.
 
 Usage: examples.py [PROGRAM]      PROGRAM is the warnc that is run; that of ./warnc, if it isn't given
 
-In the texts a command stands behind `$ `, indented, and goes on in the next lines as long as the shell takes it for unfinished. The
-commands of a text run one after the other in a folder of its own, which has ./warnc, cluster/ and examples/, so that what one writes the
-next can read; those of the man page, which is read elsewhere, find the examples beside them. A command that needs what isn't installed
-is skipped, aloud.
+In the texts a command stands behind `$ `, indented, and goes on in the next lines as long as the shell takes it for
+unfinished. The commands of a text run one after the other in a folder of its own, which has ./warnc, cluster/ and
+examples/, so that what one writes the next can read; those of the man page, which is read elsewhere, find the examples
+beside them. A command that needs what isn't installed is skipped, aloud.
 """
 import os
 import re
@@ -36,7 +37,9 @@ def lines_of(path):
 
 def is_whole(command):
     """Whether the shell takes these lines for whole commands."""
-    return not command.endswith("\\") and subprocess.run(["sh", "-n", "-c", command], stderr=subprocess.DEVNULL, check=False).returncode == 0
+    if command.endswith("\\"):
+        return False
+    return subprocess.run(["sh", "-n", "-c", command], stderr=subprocess.DEVNULL, check=False).returncode == 0
 
 
 def commands_of(path):
@@ -75,14 +78,15 @@ def room_for(folder, program):
 
 def ran(command, folder, environment):
     """Returns what a command writes, standard error too."""
-    done = subprocess.run(["sh", "-c", command], cwd=folder, env=environment, stdin=subprocess.DEVNULL, stdout=subprocess.PIPE,
-                          stderr=subprocess.STDOUT, timeout=SECONDS, check=False)
+    done = subprocess.run(["sh", "-c", command], cwd=folder, env=environment, stdin=subprocess.DEVNULL,
+                          stdout=subprocess.PIPE, stderr=subprocess.STDOUT, timeout=SECONDS, check=False)
     said = done.stdout.decode(errors="replace").split("\n")[:-1]
     return [it for it in said if not it.startswith("Running as user")]
 
 
 def check(path, program):
-    """Runs the commands of a text, and returns how many gave what is printed, how many didn't, and how many were skipped."""
+    """Runs the commands of a text, and returns how many gave what is printed, how many didn't,
+    and how many were skipped."""
     counts = [0, 0, 0]
     with tempfile.TemporaryDirectory(prefix="warnc-examples-") as folder:
         environment = room_for(folder, program)
@@ -97,7 +101,8 @@ def check(path, program):
             found = ran(command, folder, environment)
             counts[found != wanted] += 1
             if found != wanted:
-                print("\n".join([f"{path}: $ {command}", "  prints:", *(f"    {it}" for it in found[:20]), "  and not:", *(f"    {it}" for it in wanted[:20])]))
+                print("\n".join([f"{path}: $ {command}", "  prints:", *(f"    {it}" for it in found[:20]),
+                                 "  and not:", *(f"    {it}" for it in wanted[:20])]))
     return counts
 
 

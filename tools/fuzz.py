@@ -1,5 +1,6 @@
 #!/usr/bin/env python3
-"""Runs warnc on mutated books, tapes, captures, texts and command lines, and reports what breaks a promise of docs/formats.md.
+"""Runs warnc on mutated books, tapes, captures, texts and command lines, and reports what breaks a promise of
+docs/formats.md.
 
 Usage: fuzz.py [--minutes M] [--seed N] [--jobs J] [--warnc PROGRAM] [--keep FOLDER]
        fuzz.py --replay FILE [--shrink] [--warnc PROGRAM]
@@ -114,10 +115,12 @@ ROW_FAULT = (r"row 0: too many rows|row [1-9]\d*: (?:columns|verb|number|unknown
              rf"|too many updates|too many rows|{TEXT_FAULT})")
 TAPE_FAULT = "tape is short|tape is long"
 FAULTS = {"page": TEXT_FAULT + "|text is not UTF-8|text is too long", "read": TAPE_FAULT, "pcap": TAPE_FAULT,
-          "tape": r"not a capture file|unknown link type|packet [1-9]\d*: (?:capture is short|block differs|steps back)",
+          "tape": "not a capture file|unknown link type"
+                  r"|packet [1-9]\d*: (?:capture is short|block differs|steps back)",
           "verify": rf"{ROW_FAULT}|{TAPE_FAULT}|differences: [1-9]\d*", **dict.fromkeys(OF_BOOKS, ROW_FAULT)}
 DIFFERENCE = re.compile(
-    rb"\d+,\d+,(?:,,,(?:no tape|other slots|second tape|unknown cell)|\d+,[0-9a-f]{4},\d+,(?:page (?:[1-9]|1[0-5]) reads otherwise"
+    rb"\d+,\d+,(?:,,,(?:no tape|other slots|second tape|unknown cell)"
+    rb"|\d+,[0-9a-f]{4},\d+,(?:page (?:[1-9]|1[0-5]) reads otherwise"
     rb"|before its start|after its stop|after its last broadcast|broadcast \d+ not whole|not ordered))")
 REPORT_ROW = re.compile(rb"\d+,\d+,\d+,[0-9a-f]{4},\d+,\d+,\d+,(?:yes|no|refused [0-9a-f]{2})")
 
@@ -389,7 +392,8 @@ def is_table(out):
 
 
 class Page(html.parser.HTMLParser):
-    """A page in HTML, as far as it is well-formed: its open elements, and whether one was closed that isn't the last."""
+    """A page in HTML, as far as it is well-formed: its open elements,
+    and whether one was closed that isn't the last."""
 
     VOID = ("meta", "link", "br", "hr", "img", "input")
 
@@ -399,7 +403,8 @@ class Page(html.parser.HTMLParser):
         self.is_right = True
 
     def handle_starttag(self, tag, attrs):
-        self.is_right &= tag != "script" and not any(name.startswith("on") or name in ("src", "href") for name, _ in attrs)
+        loads = any(name.startswith("on") or name in ("src", "href") for name, _ in attrs)
+        self.is_right &= tag != "script" and not loads
         if tag not in self.VOID:
             self.open.append(tag)
 
@@ -411,7 +416,8 @@ class Page(html.parser.HTMLParser):
 
 
 def is_chart(out):
-    """Whether an output is that of `chart`: a page whose elements are closed in order, with nothing that runs or loads."""
+    """Whether an output is that of `chart`: a page whose elements are closed in order,
+    with nothing that runs or loads."""
     page = Page()
     page.feed(out.decode(errors="replace"))
     return out.startswith(b"<!DOCTYPE html>\n") and out.endswith(b"</html>\n") and page.is_right and not page.open
@@ -444,7 +450,8 @@ def is_output(run, out):
     if run.wanted == "text":
         return bool(out)
     forms = {"page": lambda: is_shown(run, out), "read": lambda: is_table(out), "report": lambda: is_report(out),
-             "chart": lambda: is_chart(out), "verify": lambda: differences_in(out) == 0, "pcap": lambda: is_capture(out),
+             "chart": lambda: is_chart(out), "verify": lambda: differences_in(out) == 0,
+             "pcap": lambda: is_capture(out),
              "tape": lambda: is_tapes(run, out) or len(out) == gsm.size_of_tape(run.number("--slots", 0))}
     return forms.get(run.command(), lambda: is_tapes(run, out))()
 
@@ -479,7 +486,8 @@ def output_fault(run, ran):
         return "the output of status {0} has another form"
     if ran.status == 1 and run.command() == "verify" and ran.out:
         count = differences_in(ran.out) if run.writer == "pipe" else 1
-        right = count and (run.faults != "pipe" or run.writer != "pipe" or ran.err == b"warnc: differences: %d\n" % count)
+        is_seen = run.faults == "pipe" and run.writer == "pipe"
+        right = count and (not is_seen or ran.err == b"warnc: differences: %d\n" % count)
         return None if right else "the rows of differences have another form or number"
     if (ran.status in (1, 2, 4) or run.reader in ("folder", "shut")) and ran.out:
         return "there is an output with status {0}"
@@ -625,10 +633,14 @@ def check_verify(checked, case):
 
 
 def refused_alike(checked, run, tapes):
-    """Runs what reads tapes too, and expects that it refuses them with the same line as `read`, or doesn't as `read`."""
+    """Runs what reads tapes too, and expects that it refuses them with the same line as `read`,
+    or doesn't as `read`."""
     other = Run(["read"], tapes)
     shown, ran = checked.run(other), checked.run(run)
-    right = ran.err == shown.err if shown.status == 1 else ran.status == 0 or ran.err.startswith(b"warnc: differences: ")
+    if shown.status == 1:
+        right = ran.err == shown.err
+    else:
+        right = ran.status == 0 or ran.err.startswith(b"warnc: differences: ")
     checked.expect(right, run, ran, f"another fault of tapes than read: {shown.said()} and {ran.said()}")
     return ran
 
@@ -655,7 +667,8 @@ def check_tight(checked, case):
         other = case.run.but(spare=spare)
         ran = checked.bench.run(other)
         if ran.status == -signal.SIGSEGV:
-            # The system couldn't make the stack larger, which no program can answer: with room for it there is an answer.
+            # The system couldn't make the stack larger, which no program can answer:
+            # with room for it there is an answer.
             other = other.but(spare=spare + STACK)
             ran = checked.bench.run(other)
         checked.judge(other, ran)
@@ -1206,7 +1219,8 @@ def read_seeds():
                 octets = file.read()
             found[kind].append(bytes.fromhex(octets.decode()) if name.endswith(".hex") else octets)
     chance = random.Random(0)
-    found["capture"] = [capture_reference.random_file(chance, capture_reference.random_tape(chance, 7)) for _ in range(4)]
+    tapes = (capture_reference.random_tape(chance, 7) for _ in range(4))
+    found["capture"] = [capture_reference.random_file(chance, it) for it in tapes]
     return found
 
 

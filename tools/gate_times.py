@@ -1,12 +1,13 @@
 #!/usr/bin/env python3
-"""Runs the gate, `rt ci --anew`, and prints what processor time each crate took: its proof, its tests, its edits that must be refused.
+"""Runs the gate, `rt ci --anew`, and prints what processor time each crate took: its proof, its tests, its edits that
+must be refused.
 
-Usage: gate_times.py [--log FILE] [CRATE..]      with names of crates, these and those below them alone; what the gate says goes to the
-                                                 file, or to standard output
+Usage: gate_times.py [--log FILE] [CRATE..]      with names of crates, these and those below them alone; what the gate
+                                                 says goes to the file, or to standard output
 
-It begins from nothing, so it takes as long as the first gate on a machine. The times are read from /proc while the gate runs, so nothing
-else of this repository should be checked beside it. The table is that of docs/gate.md: its last column is a multiple of what the crate
-`septets` took in the same run, so that it can be compared between machines.
+It begins from nothing, so it takes as long as the first gate on a machine. The times are read from /proc while the gate
+runs, so nothing else of this repository should be checked beside it. The table is that of docs/gate.md: its last column
+is a multiple of what the crate `septets` took in the same run, so that it can be compared between machines.
 """
 import argparse
 import os
@@ -95,7 +96,8 @@ def main():
     words = parser.parse_args()
     began, seen = time.monotonic(), {}
     out = open(words.log, "w", encoding="utf-8") if words.log else None
-    gate = subprocess.Popen(["rt", "ci", "--anew", *words.crates], stdin=subprocess.DEVNULL, stdout=out, stderr=subprocess.STDOUT if out else None)
+    gate = subprocess.Popen(["rt", "ci", "--anew", *words.crates], stdin=subprocess.DEVNULL, stdout=out,
+                            stderr=subprocess.STDOUT if out else None)
     while gate.poll() is None:
         sample(seen, gate.pid)
         time.sleep(0.1)

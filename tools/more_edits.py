@@ -1,16 +1,17 @@
 #!/usr/bin/env python3
-"""Tries the edits in crates/NAME/more-edits: wrong bodies that the prover has to refuse, in the form of those in must-fail.
+"""Tries the edits in crates/NAME/more-edits: wrong bodies that the prover has to refuse, in the form of those in
+must-fail.
 
-Edits of different functions are tried together: they are put into one copy of the crate, and one check of it says which functions
-have an open goal. An edit counts as refused there only if a goal of its own function is open, and not if that function calls another
-that isn't proved. All others, and those that change more than one function, or a constant or a macro, are tried alone: each is refused
-if the crate isn't proved with it.
+Edits of different functions are tried together: they are put into one copy of the crate, and one check of it says which
+functions have an open goal. An edit counts as refused there only if a goal of its own function is open, and not if that
+function calls another that isn't proved. All others, and those that change more than one function, or a constant or a
+macro, are tried alone: each is refused if the crate isn't proved with it.
 
 Usage: more_edits.py [--batch N] [--lanes N] [--since COMMIT] [CRATE..]
 
-With names of crates, those alone are tried; with --since, those that changed since that commit. tools/edits_tried says of each crate when
-all of its edits were last refused, and on which commit (with a `+` if the crate had changes of its own). The last line is 'N refused, M
-not refused', and the run fails if M is not 0.
+With names of crates, those alone are tried; with --since, those that changed since that commit. tools/edits_tried says
+of each crate when all of its edits were last refused, and on which commit (with a `+` if the crate had changes of its
+own). The last line is 'N refused, M not refused', and the run fails if M is not 0.
 """
 import argparse
 import os
@@ -30,7 +31,8 @@ TRIED = os.path.join(TOP, "tools", "edits_tried")
 
 
 def read_edit(path):
-    """Returns the triples (file, old text, new text) of an edit. A text is one line, as it is for those in must-fail."""
+    """Returns the triples (file, old text, new text) of an edit.
+    A text is one line, as it is for those in must-fail."""
     pairs, file, old = [], None, None
     with open(path, encoding="utf-8") as lines:
         for line in lines.read().split("\n"):
@@ -85,7 +87,8 @@ class Edit:
         return name is not None and len(re.findall(rf"\bfn {name}\b", read(crate, file))) == 1
 
     def put_into(self, texts, crate):
-        """Puts the edit into the texts of a crate's files, or returns False where one of its own texts isn't there once."""
+        """Puts the edit into the texts of a crate's files,
+        or returns False where one of its own texts isn't there once."""
         changed = dict(texts)
         for file, old, new in self.pairs:
             text = changed.get(file) or read(crate, file)
@@ -124,7 +127,8 @@ class Room:
 
 
 def is_of_function(verdict, name):
-    """Whether a verdict refuses a function for itself: for a goal of its own, or for a proof of its own that doesn't fit any more."""
+    """Whether a verdict refuses a function for itself: for a goal of its own,
+    or for a proof of its own that doesn't fit any more."""
     if not verdict.startswith(("no proof", "not proved")) or re.search(r"it calls|which (is|are) not proved", verdict):
         return False
     standing = re.search(r"stands on (.*)", verdict)
@@ -134,7 +138,9 @@ def is_of_function(verdict, name):
 def has_open_goal(said, edit):
     """Whether the prover says that the edit's own function has a goal that is open."""
     ((file, name),) = edit.functions
-    module = "" if file in ("src/lib.rt", "src/main.rt") else file.removeprefix("src/").removesuffix(".rt").replace("/", "::")
+    module = file.removeprefix("src/").removesuffix(".rt").replace("/", "::")
+    if module in ("lib", "main"):
+        module = ""
     for line in said.split("\n"):
         found = re.match(r"fn (\S+): (.*)", line)
         if found and found[1].endswith(f"::{name}") and module in found[1]:
@@ -162,7 +168,8 @@ def batches(crate, edits, size):
 
 
 def is_refused_alone(room, edit):
-    """Whether an edit alone is refused. A check that broke off, as of another checkout's changed library, says nothing."""
+    """Whether an edit alone is refused. A check that broke off, as of another checkout's changed library,
+    says nothing."""
     texts = {}
     edit.put_into(texts, room.original)
     said = room.check(texts, "--allow-holes")
@@ -190,7 +197,8 @@ def try_crate(name, size):
         refused.update(edit.name for edit in alone if is_refused_alone(room, edit))
     left = [it.name for it in edits if it.name not in refused]
     minutes = (time.monotonic() - began) / 60
-    print(f"{name}: {len(refused)} of {len(edits)} refused, {len(together)} batches and {len(alone)} alone, {minutes:.1f} min", flush=True)
+    print(f"{name}: {len(refused)} of {len(edits)} refused, {len(together)} batches and {len(alone)} alone, "
+          f"{minutes:.1f} min", flush=True)
     for it in left:
         print(f"{name}/{it}: NOT REFUSED", flush=True)
     return len(refused), len(left)
@@ -209,12 +217,15 @@ def git(*words):
 
 def changed_since(commit):
     """Returns the crates of which a source, a definition, a proof or an edit has changed since a commit."""
-    paths = git("diff", "--name-only", commit, "--", "crates").split("\n") + git("ls-files", "--others", "--exclude-standard", "crates").split("\n")
-    return {path.split("/")[1] for path in paths if path.count("/") > 2 and path.split("/")[2] in (*PARTS, "more-edits")}
+    changed = git("diff", "--name-only", commit, "--", "crates").split("\n")
+    added = git("ls-files", "--others", "--exclude-standard", "crates").split("\n")
+    paths = [it.split("/") for it in changed + added]
+    return {it[1] for it in paths if len(it) > 3 and it[2] in (*PARTS, "more-edits")}
 
 
 def keep_record(crates):
-    """Writes into tools/edits_tried that all edits of these crates were refused: a line has a crate, a day, a commit and a number."""
+    """Writes into tools/edits_tried that all edits of these crates were refused:
+    a line has a crate, a day, a commit and a number."""
     lines = {}
     if os.path.exists(TRIED):
         with open(TRIED, encoding="utf-8") as it:

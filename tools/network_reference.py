@@ -1,12 +1,14 @@
 #!/usr/bin/env python3
-"""Splits network books into plain books, as docs/formats.md says what a group has, and compares what another program makes of these
-with the groups' outputs, joined in order, and with what `--network` writes at once.
+"""Splits network books into plain books, as docs/formats.md says what a group has, and compares what another program
+makes of these with the groups' outputs, joined in order, and with what `--network` writes at once.
 
-Usage: network_reference.py PROGRAM REFERENCE [NETWORKS]    300 random networks if no number is given. PROGRAM is a built `warnc`;
-                                                            REFERENCE takes plain books alone, as `warnc` does: `compile` and `report`
+Usage: network_reference.py PROGRAM REFERENCE [NETWORKS]    300 random networks if no number is given. PROGRAM is a
+                                                            built `warnc`; REFERENCE takes plain books alone, as `warnc`
+                                                            does: `compile` and `report`
 
-A row with no cell of a group orders nothing there, but its name and its update count. A plain book can't say so: so each has one
-more cell, of which nothing is compared, and which such rows are for; and a group of 64 cells is two plain books of 32.
+A row with no cell of a group orders nothing there, but its name and its update count. A plain book can't say so: so
+each has one more cell, of which nothing is compared, and which such rows are for; and a group of 64 cells is two plain
+books of 32.
 """
 import random
 import subprocess
@@ -22,7 +24,8 @@ TEXTS = ("Stay in!", "Go up to the roof " * 6, "Вода", "a" * 93 + "{", "@", 
 
 
 def random_network(rng):
-    """Returns the rows of a network book: ("cell", cell), or the fields of another row with their cells, or None for all."""
+    """Returns the rows of a network book: ("cell", cell), or the fields of another row with their cells,
+    or None for all."""
     cells = rng.sample([(lac, ci) for lac in range(1, 9) for ci in range(100)], rng.randrange(1, 701))
     rows, names, updates, left = [], [], {}, list(cells)
     kinds = ["cell"] * len(cells) + ["order"] * rng.randrange(0, 40)
@@ -40,7 +43,8 @@ def random_network(rng):
             continue
         at += rng.randrange(0, 4)
         some = None if rng.random() < 0.3 else rng.sample(declared, min(len(declared), rng.choice((1, 2, 7, 40))))
-        sending = [rng.choice(("en", "ru")), str(rng.randrange(0, 3)), str(rng.choice((1, 2, 4, 8, 30))), str(rng.randrange(0, 4))]
+        sending = [rng.choice(("en", "ru")), str(rng.randrange(0, 3)), str(rng.choice((1, 2, 4, 8, 30))),
+                   str(rng.randrange(0, 4))]
         verb = rng.choice(("write", "write", "update", "stop"))
         if verb == "write" or not names:
             number = len(names)
@@ -85,7 +89,7 @@ def plain_text(rows, own):
 
 def ran(program, words, book):
     """Returns what a program writes for a book; it has to end with status 0."""
-    done = subprocess.run([program, *words], input=book.encode(), stdout=subprocess.PIPE, stderr=subprocess.PIPE, check=False)
+    done = subprocess.run([program, *words], input=book.encode(), capture_output=True, check=False)
     if done.returncode != 0:
         sys.exit(f"{program} {' '.join(words)}: status {done.returncode}: {done.stderr.decode()}{book}")
     return done.stdout

@@ -1,11 +1,12 @@
 #!/usr/bin/env python3
 """Makes packages of the program of dist/: a Debian package and a tar file, with their sums.
 
-Usage: package.py [FOLDER]      writes warnc_VERSION_amd64.deb, warnc-VERSION-x86_64-linux.tar.gz and SHA256SUMS into the folder,
-                                which is packages/ if it isn't given
+Usage: package.py [FOLDER]      writes warnc_VERSION_amd64.deb, warnc-VERSION-x86_64-linux.tar.gz and SHA256SUMS into
+                                the folder, which is packages/ if it isn't given
 
-The packages of one tree are the same octet for octet, on each machine: all times in them are SOURCE_DATE_EPOCH, if that is set, and else
-the time of the last commit. The Debian package needs dpkg-deb, and is left out where that isn't there. The tar file has install.sh.
+The packages of one tree are the same octet for octet, on each machine: all times in them are SOURCE_DATE_EPOCH, if that
+is set, and else the time of the last commit. The Debian package needs dpkg-deb, and is left out where that isn't there.
+The tar file has install.sh.
 """
 import gzip
 import hashlib
@@ -43,15 +44,21 @@ Description: compiler of GSM cell broadcast warnings
 def time_of_packages():
     """Returns the time that all files of a package have, in seconds since 1970."""
     said = os.environ.get("SOURCE_DATE_EPOCH")
-    return int(said or subprocess.run(["git", "log", "-1", "--format=%ct"], cwd=TOP, stdout=subprocess.PIPE, text=True, check=True).stdout)
+    if not said:
+        asked = ["git", "log", "-1", "--format=%ct"]
+        said = subprocess.run(asked, cwd=TOP, stdout=subprocess.PIPE, text=True, check=True).stdout
+    return int(said)
 
 
 def listed(folder):
-    """Returns the files of a folder of the repository that are under version control, if that can be asked, and else all."""
-    asked = subprocess.run(["git", "ls-files", folder], cwd=TOP, stdout=subprocess.PIPE, stderr=subprocess.DEVNULL, text=True, check=False)
+    """Returns the files of a folder of the repository that are under version control, if that can be asked,
+    and else all."""
+    asked = subprocess.run(["git", "ls-files", folder], cwd=TOP, stdout=subprocess.PIPE, stderr=subprocess.DEVNULL,
+                           text=True, check=False)
     if asked.returncode == 0 and asked.stdout:
         return asked.stdout.split("\n")[:-1]
-    return [os.path.relpath(os.path.join(place, it), TOP) for place, _, files in os.walk(os.path.join(TOP, folder)) for it in files]
+    walked = os.walk(os.path.join(TOP, folder))
+    return [os.path.relpath(os.path.join(place, it), TOP) for place, _, files in walked for it in files]
 
 
 def read(path):
@@ -65,7 +72,8 @@ def debian_files():
     files["usr/share/man/man1/warnc.1.gz"] = (0o644, gzip.compress(read("docs/warnc.1"), 9, mtime=0))
     files.update({place: (0o644, read(it)) for it, place in COMPLETIONS.items()})
     files.update({f"{docs}/{it}": (0o644, read(it)) for it in DOCUMENTS if it != "LICENSE"})
-    files.update({f"{docs}/{it.removeprefix('docs/')}": (0o644, read(it)) for it in listed("docs") if not it.endswith(".1")})
+    pages = [it for it in listed("docs") if not it.endswith(".1")]
+    files.update({f"{docs}/{it.removeprefix('docs/')}": (0o644, read(it)) for it in pages})
     files.update({f"{docs}/{it}": (0o644, read(it)) for it in listed("examples")})
     files[f"{docs}/copyright"] = (0o644, read("LICENSE"))
     return files
@@ -94,15 +102,16 @@ def make_debian(folder, version, time):
             for it in (*(os.path.join(place, one) for one in folders), place):
                 os.chmod(it, 0o755)
                 os.utime(it, (time, time))
-        subprocess.run(["dpkg-deb", "--root-owner-group", "-Zgzip", "--build", room, os.path.join(folder, name)], check=True,
-                       stdout=subprocess.DEVNULL, env={**os.environ, "SOURCE_DATE_EPOCH": str(time)})
+        subprocess.run(["dpkg-deb", "--root-owner-group", "-Zgzip", "--build", room, os.path.join(folder, name)],
+                       check=True, stdout=subprocess.DEVNULL, env={**os.environ, "SOURCE_DATE_EPOCH": str(time)})
     return name
 
 
 def make_tar(folder, version, time):
     """Makes the tar file, and returns its name."""
     name = f"warnc-{version}-x86_64-linux.tar.gz"
-    paths = [*DOCUMENTS, "install.sh", "dist/MANIFEST", "dist/warnc-x86_64-linux", *COMPLETIONS, *listed("docs"), *listed("examples")]
+    paths = [*DOCUMENTS, "install.sh", "dist/MANIFEST", "dist/warnc-x86_64-linux", *COMPLETIONS]
+    paths += [*listed("docs"), *listed("examples")]
     octets = io.BytesIO()
     with tarfile.open(fileobj=octets, mode="w", format=tarfile.PAX_FORMAT) as tar:
         for path in sorted(paths):

@@ -3,14 +3,14 @@
 
 Usage: release.py            proves and builds the program, and writes both
        release.py --stale    says in a line why dist/ isn't of this tree, and nothing if it is
-       release.py --check    proves and builds the program once more, from nothing and in a folder of its own, by `rt ci --anew`, and
-                             says whether it is the one of dist/, octet for octet
+       release.py --check    proves and builds the program once more, from nothing and in a folder of its own, by
+                             `rt ci --anew`, and says whether it is the one of dist/, octet for octet
 
 It fails if dist/ isn't of this tree, or if the two programs differ.
 
-A line of the manifest is a key and a value. `sources` is the sum of crates.txt, HANDLES, and all files of src/, specs/ and proofs/ of the
-crates that `crates` names: that of the lines that sha256sum prints of them, sorted. `program` is the sum of the program, and `manifest`
-that of the lines above it. All sums are SHA-256.
+A line of the manifest is a key and a value. `sources` is the sum of crates.txt, HANDLES, and all files of src/, specs/
+and proofs/ of the crates that `crates` names: that of the lines that sha256sum prints of them, sorted. `program` is the
+sum of the program, and `manifest` that of the lines above it. All sums are SHA-256.
 """
 import hashlib
 import os
@@ -46,7 +46,8 @@ def sources(top, crates):
     for crate in crates:
         for part in PARTS:
             for place, _, files in os.walk(os.path.join(top, "crates", crate, part)):
-                found += [os.path.relpath(os.path.join(place, it), top) for it in files if it.endswith((".rt", ".antt"))]
+                written = [os.path.join(place, it) for it in files if it.endswith((".rt", ".antt"))]
+                found += [os.path.relpath(it, top) for it in written]
     return found
 
 
@@ -66,8 +67,8 @@ def manifest_of(top, program):
     """Returns the manifest of a program that was built of a tree."""
     version, toolchain = version_of(top)
     crates = sorted(crates_below(PROGRAM))
-    lines = [("version", version), ("toolchain", toolchain), ("crates", " ".join(crates)), ("sources", sum_of_sources(top, crates)),
-             ("program", sum_of(program))]
+    lines = [("version", version), ("toolchain", toolchain), ("crates", " ".join(crates)),
+             ("sources", sum_of_sources(top, crates)), ("program", sum_of(program))]
     text = "".join(f"{key} {value}\n" for key, value in lines)
     return text + f"manifest {sum_of(text.encode())}\n"
 
@@ -85,11 +86,13 @@ def written_manifest():
 
 
 def faults():
-    """Returns why dist/ is no release of any tree: a program that isn't the manifest's, or a manifest that was changed."""
+    """Returns why dist/ is no release of any tree: a program that isn't the manifest's,
+    or a manifest that was changed."""
     said = written_manifest()
     if not said:
         return ["dist/MANIFEST isn't there, or was changed: its last line isn't the sum of those above it"]
-    if not os.path.isfile(RELEASED) or os.path.realpath(LINK) != os.path.realpath(RELEASED) or sum_of(read(RELEASED)) != said["program"]:
+    is_there = os.path.isfile(RELEASED) and os.path.realpath(LINK) == os.path.realpath(RELEASED)
+    if not is_there or sum_of(read(RELEASED)) != said["program"]:
         return [f"{os.path.relpath(RELEASED, TOP)} isn't the program of dist/MANIFEST"]
     shown = subprocess.run([RELEASED, "--version"], stdout=subprocess.PIPE, text=True, check=False).stdout
     if shown != f"warnc {said['version']}\n{said['toolchain']}\n":
@@ -134,7 +137,8 @@ def write():
 def compare(folder):
     """Compares the program that was built in a checkout with that of dist/; returns whether they are equal."""
     made, released = (read(it) for it in (os.path.join(folder, "crates", PROGRAM, "out", PROGRAM), RELEASED))
-    print(f"release: the program that was built anew and that of dist/ are {'equal' if made == released else 'NOT EQUAL'}: {sum_of(made)}")
+    verdict = "equal" if made == released else "NOT EQUAL"
+    print(f"release: the program that was built anew and that of dist/ are {verdict}: {sum_of(made)}")
     return made == released
 
 

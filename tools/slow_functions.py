@@ -1,10 +1,11 @@
 #!/usr/bin/env python3
 """Proves crates from nothing, with one job, and prints the functions and tests whose check took longest.
 
-A crate is proved in a copy, so its out/ stays as it is and nothing is left behind. `rt` says when a function is proved, which isn't
-where the time went: a part of its check may come long before, among those of its callees. So the times are those between the files of
-checked modules that the check leaves, each of which names its function. What passes before the first file is the reading of the
-libraries. The seconds are those of a clock: nothing else should run on that processor.
+A crate is proved in a copy, so its out/ stays as it is and nothing is left behind. `rt` says when a function is proved,
+which isn't where the time went: a part of its check may come long before, among those of its callees. So the times are
+those between the files of checked modules that the check leaves, each of which names its function. What passes before
+the first file is the reading of the libraries. The seconds are those of a clock: nothing else should run on that
+processor.
 
 Usage: slow_functions.py [--most N] [--test] CRATE..     with --test the crate's tests are proved too
 """
@@ -23,7 +24,8 @@ MODULE = re.compile(r"Rattle-\w+-(?:proofs|specs)\.(?:contracts\.|declared\.)?(.
 
 
 def copy_of(crate, room):
-    """Makes a repository in `room` that has the crates with what was proved of the others, and returns the crate's folder."""
+    """Makes a repository in `room` that has the crates with what was proved of the others,
+    and returns the crate's folder."""
     for name in ("crates.txt", "HANDLES"):
         shutil.copy(os.path.join(TOP, name), room)
     for other in os.listdir(os.path.join(TOP, "crates")):
@@ -36,8 +38,8 @@ def copy_of(crate, room):
 
 
 def begin_from_nothing(folder):
-    """Keeps `rt` from beginning with what another checkout of this machine kept for the same text: it begins with what the crate's own
-    folder has, which is nothing, if no other has that text."""
+    """Keeps `rt` from beginning with what another checkout of this machine kept for the same text: it begins with what
+    the crate's own folder has, which is nothing, if no other has that text."""
     os.makedirs(os.path.join(folder, "out", "incremental"))
     root = next(it for it in ("lib.rt", "main.rt") if os.path.exists(os.path.join(folder, "src", it)))
     with open(os.path.join(folder, "src", root), "a", encoding="utf-8") as text:
@@ -60,7 +62,8 @@ def times_of(crate, words):
         folder = copy_of(crate, room)
         began, found = time.time(), collections.Counter()
         with open(os.path.join(room, "log"), "w", encoding="utf-8") as log:
-            run = subprocess.run(["rt", "check", "--jobs", "1", *words], cwd=folder, stdout=log, stderr=log, check=False)
+            run = subprocess.run(["rt", "check", "--jobs", "1", *words], cwd=folder, stdout=log, stderr=log,
+                                 check=False)
         last = before = 0
         for at, name in checked_at(folder):
             if last:
@@ -80,7 +83,8 @@ def main():
     for crate in given.crates:
         found, before, proved = times_of(crate, ["--test"] * given.test)
         all_proved &= proved
-        print(f"{crate}: {sum(found.values()) + before:.1f} s, {len(found)} functions and types{'' if proved else ', NOT PROVED'}")
+        verdict = "" if proved else ", NOT PROVED"
+        print(f"{crate}: {sum(found.values()) + before:.1f} s, {len(found)} functions and types{verdict}")
         print(f"{before:8.1f}  before the first")
         for name, seconds in found.most_common(given.most):
             print(f"{seconds:8.1f}  {name}", flush=True)

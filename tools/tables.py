@@ -1,8 +1,8 @@
 #!/usr/bin/env python3
 """Runs a built program on the rows of the tables that warnc_cli_tests has, and compares what comes of them.
 
-Usage: tables.py PROGRAM      the last line says how many rows were as wanted, how many weren't, and how many need devices that fail or
-                              memory that runs out, which only the tests have
+Usage: tables.py PROGRAM      the last line says how many rows were as wanted, how many weren't, and how many need
+                              devices that fail or memory that runs out, which only the tests have
 
 crates/warnc_cli_tests/src/rows.rt says what a row does. Here each run is a process.
 """
@@ -53,13 +53,14 @@ class Bench:
         self.is_left_out = self.was_left_out = False
 
     def process(self, octets):
-        """Runs the program in a folder of its own, with the file that the words name for a book, and returns the status."""
+        """Runs the program in a folder of its own, with the file that the words name for a book,
+        and returns the status."""
         with tempfile.TemporaryDirectory(prefix="warnc-tables-") as folder:
             named = re.search(r"--book[= ](\S+)", " ".join(self.words))
             if named and self.has_book:
                 with open(os.path.join(folder, named[1]), "wb") as it:
                     it.write(self.sheets["book"].octets)
-            done = subprocess.run([self.program, *self.words], input=octets, cwd=folder, stdout=subprocess.PIPE, stderr=subprocess.PIPE,
+            done = subprocess.run([self.program, *self.words], input=octets, cwd=folder, capture_output=True,
                                   timeout=SECONDS, check=False)
         self.output, self.faults = done.stdout, done.stderr
         return str(done.returncode)

@@ -1,6 +1,6 @@
 #!/usr/bin/env python3
-"""Tries what is released: that changes of dist/ are seen, that ./warnc runs with nothing but coreutils, that it installs, and that the
-packages are the same each time and hold a program that runs.
+"""Tries what is released: that changes of dist/ are seen, that ./warnc runs with nothing but coreutils, that it
+installs, and that the packages are the same each time and hold a program that runs.
 
 Usage: try_release.py      dist/ has to be of this tree; what needs a tool that isn't installed is skipped, aloud
 """
@@ -29,11 +29,13 @@ BUILDS = "the program of dist/ isn't made of these sources"
 def copy_of(folder):
     """Copies what is released and its sources to a checkout without git, and returns it."""
     crates = sorted(release.crates_below(release.PROGRAM))
-    for path in (*release.sources(TOP, crates), "warnc", "dist/MANIFEST", "dist/warnc-x86_64-linux", "examples/book.csv"):
+    released = "warnc", "dist/MANIFEST", "dist/warnc-x86_64-linux", "examples/book.csv"
+    for path in (*release.sources(TOP, crates), *released):
         os.makedirs(os.path.join(folder, os.path.dirname(path)), exist_ok=True)
         shutil.copy2(os.path.join(TOP, path), os.path.join(folder, path))
     os.symlink("warnc-x86_64-linux", os.path.join(folder, "dist", "warnc"))
-    shutil.copytree(os.path.join(TOP, "tools"), os.path.join(folder, "tools"), ignore=shutil.ignore_patterns("__pycache__"))
+    shutil.copytree(os.path.join(TOP, "tools"), os.path.join(folder, "tools"),
+                    ignore=shutil.ignore_patterns("__pycache__"))
     return folder
 
 
@@ -54,7 +56,7 @@ def change(path):
 
 
 def ran(words, given="", environment=None, folder=None):
-    return subprocess.run(words, input=given, stdout=subprocess.PIPE, stderr=subprocess.PIPE, text=True, env=environment, cwd=folder, check=False)
+    return subprocess.run(words, input=given, capture_output=True, text=True, env=environment, cwd=folder, check=False)
 
 
 def says_faults(copy):
@@ -66,7 +68,8 @@ def says_faults(copy):
 def sees_a_changed_program(folder):
     copy = copy_of(folder)
     change(os.path.join(copy, "dist", "warnc-x86_64-linux"))
-    said = ran([os.path.join(copy, "warnc"), "--version"], environment={"PATH": only_coreutils(os.path.join(copy, ".bin"))})
+    environment = {"PATH": only_coreutils(os.path.join(copy, ".bin"))}
+    said = ran([os.path.join(copy, "warnc"), "--version"], environment=environment)
     return "isn't the program of dist/MANIFEST" in says_faults(copy) and BUILDS in said.stderr and said.returncode == 70
 
 
@@ -100,10 +103,12 @@ def runs_with_coreutils_alone(folder):
     copy = copy_of(folder)
     environment = {"PATH": only_coreutils(os.path.join(copy, ".bin"))}
     began = time.monotonic()
-    said = ran(["/bin/sh", "-c", "./warnc compile --slots 8 < examples/book.csv | ./warnc read"], environment=environment, folder=copy)
+    said = ran(["/bin/sh", "-c", "./warnc compile --slots 8 < examples/book.csv | ./warnc read"],
+               environment=environment, folder=copy)
     seconds = time.monotonic() - began
     print(f"try_release: README's example took {seconds:.2f} s in a new checkout")
-    return said.stdout.startswith("lac,ci,id,serial,text\n1,1,4370,0010,Stay in!\n") and said.stderr == "" and seconds < 1
+    is_shown = said.stdout.startswith("lac,ci,id,serial,text\n1,1,4370,0010,Stay in!\n")
+    return is_shown and said.stderr == "" and seconds < 1
 
 
 def row(program):
@@ -117,10 +122,11 @@ def installs(folder):
     """install.sh puts all in place, the program there runs, and nothing is left once it is removed."""
     words = [os.path.join(TOP, "install.sh"), "--prefix", os.path.join(folder, "prefix")]
     put = ran(words)
-    there = sorted(os.path.relpath(os.path.join(place, it), folder) for place, _, files in os.walk(folder) for it in files)
-    wanted = {"bin/warnc", "share/man/man1/warnc.1", "share/bash-completion/completions/warnc", "share/zsh/site-functions/_warnc",
-              "share/fish/vendor_completions.d/warnc.fish"}
-    good = put.returncode == 0 and {f"prefix/{it}" for it in wanted} <= set(there) and row(os.path.join(folder, "prefix", "bin", "warnc"))
+    there = {os.path.relpath(os.path.join(place, it), folder) for place, _, files in os.walk(folder) for it in files}
+    wanted = {"bin/warnc", "share/man/man1/warnc.1", "share/bash-completion/completions/warnc",
+              "share/zsh/site-functions/_warnc", "share/fish/vendor_completions.d/warnc.fish"}
+    good = put.returncode == 0 and {f"prefix/{it}" for it in wanted} <= there
+    good = good and row(os.path.join(folder, "prefix", "bin", "warnc"))
     removed = ran([*words, "--uninstall"])
     return good and removed.returncode == 0 and not any(files for _, _, files in os.walk(folder))
 
@@ -128,12 +134,15 @@ def installs(folder):
 def packages_are_the_same(folder):
     """The packages are made twice, and are the same octet for octet."""
     made = [package.make(os.path.join(folder, it)) for it in ("one", "two")]
-    return made[0] == made[1] and all(release.read(os.path.join(folder, "one", it)) == release.read(os.path.join(folder, "two", it))
-                                      for it in (*made[0], "SHA256SUMS"))
+    def octets(where, name):
+        return release.read(os.path.join(folder, where, name))
+
+    return made[0] == made[1] and all(octets("one", it) == octets("two", it) for it in (*made[0], "SHA256SUMS"))
 
 
 def package_runs(folder):
-    """The Debian package is unpacked and installed into a folder of its own, and its program runs with an empty environment."""
+    """The Debian package is unpacked and installed into a folder of its own,
+    and its program runs with an empty environment."""
     if not shutil.which("dpkg-deb") or not shutil.which("dpkg"):
         print("try_release: dpkg isn't there: SKIPPED the Debian package")
         return True
@@ -144,7 +153,8 @@ def package_runs(folder):
     os.makedirs(os.path.join(root, "var", "lib", "dpkg"))
     with open(os.path.join(root, "var", "lib", "dpkg", "status"), "w", encoding="ascii"):
         pass
-    words = ["dpkg", f"--root={root}", "--force-depends", "--force-not-root", "--force-script-chrootless", "--install", os.path.join(folder, name)]
+    words = ["dpkg", f"--root={root}", "--force-depends", "--force-not-root", "--force-script-chrootless",
+             "--install", os.path.join(folder, name)]
     done = ran(words)
     return good and done.returncode == 0 and row(os.path.join(root, "usr", "bin", "warnc"))
 
@@ -158,8 +168,8 @@ def tar_installs(folder):
     return done.returncode == 0 and put.returncode == 0 and row(os.path.join(folder, "prefix", "bin", "warnc"))
 
 
-TRIES = (sees_a_changed_program, sees_a_changed_manifest, builds_where_a_source_was_changed, runs_with_coreutils_alone, installs,
-         packages_are_the_same, package_runs, tar_installs)
+TRIES = (sees_a_changed_program, sees_a_changed_manifest, builds_where_a_source_was_changed,
+         runs_with_coreutils_alone, installs, packages_are_the_same, package_runs, tar_installs)
 
 
 def main(words):

@@ -1,10 +1,12 @@
 #!/usr/bin/env python3
-"""Judges tapes by a book, as docs/formats.md says what differs: a second program against which `warnc verify` is compared. Which
-orders a cell accepted, and from when to when, it takes from `warnc report`; all else it finds by itself.
+"""Judges tapes by a book, as docs/formats.md says what differs: a second program against which `warnc verify` is
+compared. Which orders a cell accepted, and from when to when, it takes from `warnc report`; all else it finds by
+itself.
 
-Usage: verify_reference.py PROGRAM [RUNS]    random books, whose tapes are left as they are in every third run, and else spoilt: octets
-                                             changed, slots swapped, dropped and doubled, blocks shifted, tapes missing, doubled, cut
-                                             or foreign; the rows of both programs have to be the same. PROGRAM is a built `warnc`
+Usage: verify_reference.py PROGRAM [RUNS]    random books, whose tapes are left as they are in every third run, and else
+                                             spoilt: octets changed, slots swapped, dropped and doubled, blocks shifted,
+                                             tapes missing, doubled, cut or foreign; the rows of both programs have to
+                                             be the same. PROGRAM is a built `warnc`
 """
 import csv
 import io
@@ -16,7 +18,8 @@ import tempfile
 import gsm
 
 LANGUAGES = [it for it, dcs in gsm.LANGUAGES.items() if dcs < 0x10]
-TEXTS = ("Stay in!", "{fire} at 3€", "Go up to the roof " * 8, "Вода", "a" * 93 + "{", "Вода поднимается, идите наверх. " * 3, "@", "x" * 186)
+TEXTS = ("Stay in!", "{fire} at 3€", "Go up to the roof " * 8, "Вода", "a" * 93 + "{",
+         "Вода поднимается, идите наверх. " * 3, "@", "x" * 186)
 
 
 class Asked:
@@ -29,6 +32,11 @@ class Asked:
         self.dcs = gsm.LANGUAGES[order["lang"]] if is_gsm else gsm.UCS2
         over = start + self.broadcasts * self.period if self.broadcasts else slots
         self.stop = end if end < min(over, slots) else None
+
+    def turns(self, limit):
+        """Returns how many broadcasts are due up to this slot; of background none is."""
+        periods = max(0, limit - self.start) // self.period
+        return 0 if self.category == 1 else min(periods, self.broadcasts) if self.broadcasts else periods
 
     def is_right(self, number, total, dcs, text):
         return total == len(self.pages) and dcs == self.dcs and number <= total and text == self.pages[number - 1]
@@ -92,13 +100,12 @@ def differences_of_message(one, sent, slots):
     yield from first(1, 0, lambda it: it[0] < one.start)
     yield from first(2, 0, lambda it: one.stop is not None and it[0] >= one.stop)
     yield from first(3, 0, lambda it: over is not None and it[0] >= over and (one.stop is None or it[0] < one.stop))
-    turn, limit = 0, slots if one.stop is None else min(slots, one.stop)
-    while one.category != 1 and one.start + (turn + 1) * one.period <= limit and (not one.broadcasts or turn < one.broadcasts):
+    limit = slots if one.stop is None else min(slots, one.stop)
+    for turn in range(one.turns(limit)):
         begin, due = one.start + turn * one.period, one.start + (turn + 1) * one.period
         whole = {number for slot, number, right in sent if right and begin <= slot < due}
         if not set(range(1, len(one.pages) + 1)) <= whole:
             yield due, one.ident, one.serial, 4, turn
-        turn += 1
 
 
 def differences_of_cell(asked, blocks, slots):
@@ -114,8 +121,8 @@ def differences_of_cell(asked, blocks, slots):
     return sorted(found)
 
 
-WORDS = ("page {} reads otherwise", "before its start", "after its stop", "after its last broadcast", "broadcast {} not whole",
-         "not ordered")
+WORDS = ("page {} reads otherwise", "before its start", "after its stop", "after its last broadcast",
+         "broadcast {} not whole", "not ordered")
 
 
 def table_of(cells, asked, tapes, slots):
@@ -164,7 +171,8 @@ def spoilt(rng, tapes):
         elif kind == 5:
             rng.shuffle(tapes)
         elif kind in (6, 7):
-            blocks[4 * one:4 * one + 4], blocks[4 * other:4 * other + 4] = blocks[4 * other:4 * other + 4], blocks[4 * one:4 * one + 4]
+            here, there = slice(4 * one, 4 * one + 4), slice(4 * other, 4 * other + 4)
+            blocks[here], blocks[there] = blocks[there], blocks[here]
         elif kind == 8:
             blocks[4 * one:4 * one + 4] = [gsm.IDLE] * 4
         elif kind == 9:
@@ -204,13 +212,15 @@ def differs(program, seed):
     else:
         rng.shuffle(tapes)
     table = table_of(cells, asked_of(report.stdout.decode(), orders, slots), tapes, slots)
+    given = b"".join(gsm.tape_of(*it) for it in tapes)
     with tempfile.NamedTemporaryFile() as file:
         file.write(octets)
         file.flush()
-        said = run(program, ["verify", "--slots", str(slots), "--book", file.name], b"".join(gsm.tape_of(*it) for it in tapes))
+        said = run(program, ["verify", "--slots", str(slots), "--book", file.name], given)
     count = table.count("\n") - 1
     status, faults = (1, f"warnc: differences: {count}\n") if count else (0, "")
-    if (said.stdout.decode(), said.stderr.decode(), said.returncode) == (table, faults, status) and (seed % 3 or not count):
+    wanted = table, faults, status
+    if (said.stdout.decode(), said.stderr.decode(), said.returncode) == wanted and (seed % 3 or not count):
         return False
     print(f"run {seed}:\n{book}{table}{said.stdout.decode()}{said.stderr.decode()}")
     return True
