@@ -1,8 +1,12 @@
 #!/usr/bin/env python3
-"""Lists the lines over 120 columns in src/, specs/, proofs/, each README.md and docs/ (rows of tables and lines that can't be broken aside).
+"""Lists the lines over 120 columns in src/, specs/, proofs/, each README.md, docs/ and scripts of Python and sh.
+
+Rows of a document's tables, lines of src/ with a string, and documents' and scripts' lines without a space are passed
+over.
 
 Usage: line_width.py            lists them, and fails if there is one
-       line_width.py --wrap F.. breaks the long lines of these .antt and .rt files; check the crate and run `rt fmt` afterwards
+       line_width.py --wrap F.. breaks the long lines of these .antt and .rt files; check the crate and run `rt fmt`
+                                afterwards
 """
 import glob
 import re
@@ -10,11 +14,18 @@ import sys
 import textwrap
 
 WIDTH = 120
+TEXTS = ("README.md", "docs/*.md", "crates/*/README.md", "crates/*/src/**/*.rt", "crates/*/specs/**/*.antt",
+         "crates/*/proofs/**/*.antt")
+SCRIPTS = ("warnc", "test", "*.sh", "tools/*.py", "bench/*.py", "bench/*.sh", "cluster/*.sh")
 
 
 def is_exempt(path, line):
-    """Rows of a table in a document, and lines with a word that is too long by itself."""
-    return path.endswith(".md") and (line.lstrip().startswith("|") or " " not in line.strip()) or '"' in line and path.endswith(".rt")
+    """Rows of a table in a document, strings of Rattle, and lines with a word that is too long by itself."""
+    if path.endswith(".rt"):
+        return '"' in line
+    if path.endswith(".md") and line.lstrip().startswith("|"):
+        return True
+    return " " not in line.strip() and not path.endswith(".antt")
 
 
 def long_lines(path):
@@ -39,7 +50,8 @@ def wrap_use(line):
 
 
 def break_at(line):
-    """Returns where to break a line: of the last spaces that fit the one with the fewest open brackets, arrows first."""
+    """Returns where to break a line: of the last spaces that fit the one with the fewest open brackets,
+    arrows first."""
     best, depth = None, 0
     indent = len(line) - len(line.lstrip())
     for place, sign in enumerate(line[:WIDTH]):
@@ -92,7 +104,8 @@ def wrapped(paragraph):
     if comment is None:
         return wrap(paragraph[0])
     text = " ".join(line[len(comment[0]):] for line in paragraph)
-    return textwrap.wrap(text, WIDTH, initial_indent=comment[0], subsequent_indent=comment[0], break_long_words=False, break_on_hyphens=False)
+    return textwrap.wrap(text, WIDTH, initial_indent=comment[0], subsequent_indent=comment[0], break_long_words=False,
+                         break_on_hyphens=False)
 
 
 def main():
@@ -108,9 +121,7 @@ def main():
     if sys.argv[1:]:
         print(__doc__, end="")
         return 0 if sys.argv[1:] in (["-h"], ["--help"]) else 2
-    paths = ["README.md"] + [p for pattern in ("docs/*.md", "crates/*/README.md", "crates/*/src/**/*.rt", "crates/*/specs/**/*.antt",
-                                             "crates/*/proofs/**/*.antt")
-                             for p in sorted(glob.glob(pattern, recursive=True))]
+    paths = [path for pattern in TEXTS + SCRIPTS for path in sorted(glob.glob(pattern, recursive=True))]
     count = 0
     for path in paths:
         for number, line in long_lines(path):
