@@ -367,8 +367,8 @@ def is_tapes(run, out):
         return False
     for first in range(0, len(out), size):
         tape = out[first:first + size]
-        kinds = set(zip(tape[8::92], tape[31::92], tape[54::92], tape[77::92]))
-        if int.from_bytes(tape[4:8]) != slots or not kinds <= {gsm.TYPES, (0x2f,) * 4}:
+        kinds = set(zip(*(tape[gsm.HEADER.size + gsm.BLOCK * it::gsm.SLOT] for it in range(4))))
+        if int.from_bytes(tape[4:8]) != slots or not kinds <= {gsm.TYPES, (gsm.IDLE[0],) * 4}:
             return False
     return True
 

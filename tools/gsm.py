@@ -1,9 +1,10 @@
-"""What GSM says of texts, pages and tapes, for tools that judge the program and that make its inputs.
+"""Reads and writes texts, pages and tapes, for tools that judge the program and for makers of its inputs.
 
-It is a plain reading of docs/formats.md, and for alphabets and phones of docs/definitions.md. It shares nothing with
-the crates, so what malformed.py, capture_reference.py, verify_reference.py and network_reference.py say by it is said
-by the documents alone; fuzz.py and the makers of bench/ use it too.
+It is a plain reading of docs/formats.md, and for alphabets of docs/definitions.md. It shares nothing with the crates,
+so malformed.py, capture_reference.py, verify_reference.py and network_reference.py, which share it, still judge by the
+documents alone. fuzz.py and scripts of bench/ use it, too.
 """
+import functools
 import struct
 
 # --- Alphabets ---
@@ -54,7 +55,7 @@ def pieces_of(text):
 
 
 def filled(codes, count):
-    """Returns so many codes: these, and behind them CR."""
+    """Returns so many codes: these, and CR behind them."""
     return [*codes, *[CR] * count][:count]
 
 
@@ -68,6 +69,7 @@ def of_units(codes):
     return b"".join(code.to_bytes(2, "big") for code in filled(codes, UNITS))
 
 
+@functools.cache
 def content_of(piece, is_gsm):
     """Returns the content of a piece of a text."""
     return packed(code for sign in piece for code in CODES[sign]) if is_gsm else of_units(map(ord, piece))

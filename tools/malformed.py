@@ -6,10 +6,10 @@ Usage: malformed.py messages|tapes|books              prints a table, as a modul
        malformed.py --check PROGRAM [--every N] [messages|tapes|books ..]
                                                       compares each answer, or each N-th, with a program's
 
-It is a plain reading of docs/formats.md, and for phones of docs/definitions.md; alphabets, pages and tapes are read by
-gsm.py, which is too. It is not made from the crates, so a test that compares both has two sources. The tables stand in
-the tests, as `malformed_table.rt` of cbsp_wire_tests, warnc_cli_tests and alert_book_tests; `./test` checks that they
-are what is printed here.
+It is a plain reading of docs/formats.md, and for phones of docs/definitions.md; so is gsm.py, by which it reads texts,
+pages and tapes. Neither is made from the crates, so a test that compares both has two sources. The tables stand in the
+tests, as `malformed_table.rt` of cbsp_wire_tests, warnc_cli_tests and alert_book_tests; `./test` checks that they are
+what is printed here.
 
 A table has for each input a line `input NAME`, lines `and HEX` with its octets, then a line `PLACE DIGEST` for each
 place, then a line `cuts DIGEST`. Some inputs have lines for a few places alone, or for none.

@@ -17,6 +17,7 @@ import tempfile
 
 import gsm
 
+# those of the data codings 00 to 0F
 LANGUAGES = [it for it, dcs in gsm.LANGUAGES.items() if dcs < 0x10]
 TEXTS = ("Stay in!", "{fire} at 3€", "Go up to the roof " * 8, "Вода", "a" * 93 + "{",
          "Вода поднимается, идите наверх. " * 3, "@", "x" * 186)
