@@ -3,7 +3,8 @@
 #
 # Usage: ./install.sh [--prefix DIR] [--uninstall]
 #
-# DIR is /usr/local, if it isn't given. A packager's DESTDIR goes before it. Nothing is built: dist/ has the program for
+# DIR is /usr/local, if it isn't given. A packager's DESTDIR goes before it. Nothing is built: the program is that of
+# dist/, also if a source was changed since. It is for
 # x86-64 Linux with glibc 2.34 or later.
 set -eu
 here=$(dirname "$(readlink -f "$0")")
@@ -55,10 +56,14 @@ if [ "$(sed -n 's/^program //p' "$here/dist/MANIFEST")" != "$sum" ]; then
     echo "install.sh: the program of dist/ isn't that of dist/MANIFEST" >&2
     exit 1
 fi
+said=$("$here/dist/warnc-x86_64-linux" --version) || {
+    echo "install.sh: the program doesn't run here: it needs x86-64 Linux with glibc 2.34 or later" >&2
+    exit 1
+}
 list | while read -r mode file place; do
     mkdir -p "$to/$(dirname "$place")"
     rm -f "$to/$place"
     cp "$here/$file" "$to/$place"
     chmod "$mode" "$to/$place"
 done
-echo "$("$to/bin/warnc" --version | head -n 1) is installed in $to/bin"
+echo "$(printf '%s\n' "$said" | head -n 1) is installed in $to/bin"

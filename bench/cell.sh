@@ -3,10 +3,13 @@
 # slot, which reads the book and accepts its messages too. The books are those of bench/make_cell_book.py: 32 normal
 # messages, and the others background, each of 15 pages, so that nearly each slot airs a page. The longest may be at
 # most four times the shortest.
+#
+# Usage: bench/cell.sh [PROGRAM]
 set -eu
+takes=PROGRAM
 . "$(dirname "$(readlink -f "$0")")/start.sh"
 for messages in 64 512 4032; do python3 "$top/bench/make_cell_book.py" "$messages" >"$work/$messages"; done
-PYTHONPATH=$top/tools PYTHONDONTWRITEBYTECODE=1 python3 - "${1:-$program}" "$work" <<'PY'
+PYTHONPATH=$top/tools PYTHONDONTWRITEBYTECODE=1 python3 - "$program" "$work" <<'PY'
 import os, subprocess, sys, time
 import gsm
 program, work = sys.argv[1:]

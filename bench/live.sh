@@ -3,6 +3,7 @@
 # alert's last version is shown once if the alert isn't stopped, and nothing is shown that the book has not for that
 # cell. No run may take longer than a minute. live.sh [RUNS]; 200 runs if no number is given.
 set -eu
+takes=RUNS
 . "$(dirname "$(readlink -f "$0")")/start.sh"
 for seed in 1 2 3 4; do python3 "$top/bench/make_live_book.py" "$seed" >"$work/$seed"; done
 python3 - "$program" "$work" "${1:-200}" <<'PY'

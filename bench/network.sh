@@ -5,8 +5,9 @@
 #
 # Usage: bench/network.sh [PROGRAM]
 set -eu
+takes=PROGRAM
 . "$(dirname "$(readlink -f "$0")")/start.sh"
-python3 - "${1:-$program}" "$work" <<'PY'
+python3 - "$program" "$work" <<'PY'
 import os, random, resource, subprocess, sys, time
 
 program, work = sys.argv[1:]

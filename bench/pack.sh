@@ -4,8 +4,9 @@
 # `warnc compile --slots 1`. What packing takes is the difference of the first two. pack.sh [PROGRAM [OTHER]]: OTHER is
 # timed beside it, as one that packs row by row.
 set -eu
+takes='PROGRAM OTHER'
 . "$(dirname "$(readlink -f "$0")")/start.sh"
-PYTHONPATH=$top/bench PYTHONDONTWRITEBYTECODE=1 python3 - "$work" "${1:-$program}" ${2:+"$2"} <<'PY'
+PYTHONPATH=$top/bench PYTHONDONTWRITEBYTECODE=1 python3 - "$work" "$program" ${2:+"$2"} <<'PY'
 import os, subprocess, sys, time
 from timing import TEXTS, part_of
 work, *programs = sys.argv[1:]

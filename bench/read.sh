@@ -3,6 +3,7 @@
 # mixed tapes (64 tapes of 4,096 slots are 24 MB, so four inputs are read one after another), on tapes with many
 # messages of 15 pages, and on tapes with many messages of one page.
 set -eu
+takes=''
 . "$(dirname "$(readlink -f "$0")")/start.sh"
 for seed in 1 2 3 4; do python3 "$top/bench/make_tapes.py" "$seed" >"$work/mixed$seed"; done
 for kind in long short; do python3 "$top/bench/make_tapes.py" 1 "$kind" >"$work/$kind"; done

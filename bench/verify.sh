@@ -1,10 +1,13 @@
 #!/bin/sh
 # Times `warnc verify` of books of 64 cells and 4,096 slots and their own tapes, beside `warnc compile` and `warnc read`
 # of them, in one run, and reports its peak memory beside the size of one tape.
+#
+# Usage: bench/verify.sh [PROGRAM]
 set -eu
+takes=PROGRAM
 . "$(dirname "$(readlink -f "$0")")/start.sh"
 for kind in typical full background; do python3 "$top/bench/make_books.py" 1 "$kind" >"$work/$kind"; done
-PYTHONPATH=$top/bench PYTHONDONTWRITEBYTECODE=1 python3 - "${1:-$program}" "$work" <<'PY'
+PYTHONPATH=$top/bench PYTHONDONTWRITEBYTECODE=1 python3 - "$program" "$work" <<'PY'
 import os, subprocess, sys
 from timing import best_of_five
 program, work = sys.argv[1:]

@@ -20,6 +20,8 @@ esac
 command=$1 slots=$2 network=$(readlink -f "$3") output=$4
 shift 4
 case $command in report | compile) ;; *) usage ;; esac
+case $slots in '' | *[!0-9]* | ??????*) usage ;; esac
+[ "$slots" -ge 1 ] && [ "$slots" -le 65535 ] || usage
 [ -n "${WARNC:-}" ] || WARNC=$(WARNC_WHICH=1 "$here/../warnc")
 WARNC=$(readlink -f "$WARNC")
 export WARNC

@@ -31,6 +31,8 @@ TEXTS = [
 ]
 TOP = os.path.dirname(os.path.dirname(os.path.realpath(__file__)))
 SLOTS_BY_HAND = 48
+# how many charts a browser opens, which takes it over a second each
+BROWSED = 10
 
 
 class Page(html.parser.HTMLParser):
@@ -197,7 +199,7 @@ def take_picture(program, browser, path):
 
 
 def main(words):
-    if not words or words[0].startswith("-"):
+    if not words or not os.access(words[0], os.X_OK):
         print(__doc__, end="")
         return 0 if words in (["-h"], ["--help"]) else 2
     program = os.path.abspath(words[0])
@@ -210,7 +212,8 @@ def main(words):
         return 0
     chance = random.Random(41)
     books = [book_by_hand(), *(random_book(chance) for _ in range(int(words[1]) if words[1:] else 20))]
-    wrong = [it for book in books for it in differences(program, browser, book, SLOTS_BY_HAND)]
+    wrong = [it for number, book in enumerate(books)
+             for it in differences(program, browser if number < BROWSED else None, book, SLOTS_BY_HAND)]
     print("\n".join(wrong) or f"{len(books)} charts are as their reports{', in the browser too' if browser else ''}")
     return 1 if wrong else 0
 

@@ -3,7 +3,7 @@
 
 Usage: edits_table.py            prints the document
        edits_table.py --all      prints after it each edit, by crate and function
-       edits_table.py --check    fails if docs/edits.md isn't the document
+       edits_table.py --check    fails if docs/edits.md isn't the document, or an edit doesn't fit its file
 """
 import os
 import re
@@ -126,6 +126,21 @@ def rows_of(crate):
             yield f"| `{name.removesuffix('.edit')}` | {what} | {when} |"
 
 
+def lost_edits():
+    """Yields a line for each edit of which an old text doesn't stand once in its file."""
+    for crate in sorted(os.listdir(os.path.join(TOP, "crates"))):
+        for folder in ("must-fail", "more-edits"):
+            where = os.path.join(TOP, "crates", crate, folder)
+            for name in sorted(os.listdir(where)) if os.path.isdir(where) else ():
+                texts = {}
+                for file, old, new in read_edit(os.path.join(where, name)):
+                    with open(os.path.join(TOP, "crates", crate, file), encoding="utf-8") as it:
+                        text = texts.get(file) or it.read()
+                    if text.count(old) != 1:
+                        yield f"{crate}/{folder}/{name}: an old text stands {text.count(old)} times in {file}"
+                    texts[file] = text.replace(old, new)
+
+
 def document():
     return HEAD + "\n".join(wrong_bodies()) + "\n"
 
@@ -149,11 +164,12 @@ def main():
         if words == ["--all"]:
             print(all_edits())
         return 0
+    found = list(lost_edits())
     with open(os.path.join(TOP, "docs", "edits.md"), encoding="utf-8") as it:
-        if it.read() == document():
-            return 0
-    print("docs/edits.md isn't what tools/edits_table.py prints")
-    return 1
+        if it.read() != document():
+            found.append("docs/edits.md isn't what tools/edits_table.py prints")
+    print("\n".join(found), end="\n" if found else "")
+    return 1 if found else 0
 
 
 if __name__ == "__main__":

@@ -239,14 +239,17 @@ def keep_record(crates):
 
 
 def main():
-    words = argparse.ArgumentParser(description=__doc__, formatter_class=argparse.RawDescriptionHelpFormatter)
-    words.add_argument("--batch", type=int, default=12, help="how many edits share a check at most")
-    words.add_argument("--lanes", type=int, default=lanes(), help="how many crates are tried at a time")
-    words.add_argument("--since", metavar="COMMIT", help="tries the crates that changed since this commit")
-    words.add_argument("crates", metavar="CRATE", nargs="*")
-    words = words.parse_args()
+    parser = argparse.ArgumentParser(description=__doc__, formatter_class=argparse.RawDescriptionHelpFormatter)
+    parser.add_argument("--batch", type=int, default=12, help="how many edits share a check at most")
+    parser.add_argument("--lanes", type=int, default=lanes(), help="how many crates are tried at a time")
+    parser.add_argument("--since", metavar="COMMIT", help="tries the crates that changed since this commit")
+    parser.add_argument("crates", metavar="CRATE", nargs="*")
+    words = parser.parse_args()
     folder = os.path.join(TOP, "crates")
     every = sorted(it for it in os.listdir(folder) if os.path.isdir(os.path.join(folder, it, "more-edits")))
+    lacking = [it for it in words.crates if it not in every]
+    if lacking:
+        parser.error(f"no crate with more-edits is named {', '.join(lacking)}")
     names = words.crates or every
     if words.since is not None:
         changed = changed_since(words.since)

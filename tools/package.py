@@ -4,9 +4,9 @@
 Usage: package.py [FOLDER]      writes warnc_VERSION_amd64.deb, warnc-VERSION-x86_64-linux.tar.gz and SHA256SUMS into
                                 the folder, which is packages/ if it isn't given
 
-The packages of one tree are the same octet for octet, on each machine: all times in them are SOURCE_DATE_EPOCH, if that
-is set, and else the time of the last commit. The Debian package needs dpkg-deb, and is left out where that isn't there.
-The tar file has install.sh.
+The packages of one tree are the same octet for octet, by the same zlib and dpkg-deb: all times in them are
+SOURCE_DATE_EPOCH, if that is set, and else the time of the last commit, or that of dist/ outside of git. The Debian
+package needs dpkg-deb, and is left out where that isn't there. The tar file has install.sh.
 """
 import gzip
 import hashlib
@@ -44,10 +44,10 @@ Description: compiler of GSM cell broadcast warnings
 def time_of_packages():
     """Returns the time that all files of a package have, in seconds since 1970."""
     said = os.environ.get("SOURCE_DATE_EPOCH")
-    if not said:
+    if not said and os.path.exists(os.path.join(TOP, ".git")):
         asked = ["git", "log", "-1", "--format=%ct"]
         said = subprocess.run(asked, cwd=TOP, stdout=subprocess.PIPE, text=True, check=True).stdout
-    return int(said)
+    return int(said or os.path.getmtime(release.MANIFEST))
 
 
 def listed(folder):

@@ -45,8 +45,9 @@ def sources(top, crates):
     found = ["crates.txt", "HANDLES"]
     for crate in crates:
         for part in PARTS:
-            for place, _, files in os.walk(os.path.join(top, "crates", crate, part)):
-                written = [os.path.join(place, it) for it in files if it.endswith((".rt", ".antt"))]
+            for place, folders, files in os.walk(os.path.join(top, "crates", crate, part)):
+                folders[:] = [it for it in folders if it[0] != "."]
+                written = [os.path.join(place, it) for it in files if it.endswith((".rt", ".antt")) and it[0] != "."]
                 found += [os.path.relpath(it, top) for it in written]
     return found
 
@@ -94,6 +95,8 @@ def faults():
     is_there = os.path.isfile(RELEASED) and os.path.realpath(LINK) == os.path.realpath(RELEASED)
     if not is_there or sum_of(read(RELEASED)) != said["program"]:
         return [f"{os.path.relpath(RELEASED, TOP)} isn't the program of dist/MANIFEST"]
+    if not os.access(RELEASED, os.X_OK):
+        return [f"{os.path.relpath(RELEASED, TOP)} isn't executable"]
     shown = subprocess.run([RELEASED, "--version"], stdout=subprocess.PIPE, text=True, check=False).stdout
     if shown != f"warnc {said['version']}\n{said['toolchain']}\n":
         return [f"{os.path.relpath(RELEASED, TOP)} says that it is another version than dist/MANIFEST does"]
@@ -158,10 +161,12 @@ def main(words):
         why = stale()
         print(why or "", end="\n" if why else "")
         return 1 if why else 0
-    if words == ["--check"]:
-        return check()
-    if not words:
-        return write()
+    if words in ([], ["--check"]):
+        if shutil.which("rt") is None:
+            print("release: 'rt', the command of the Rattle toolchain, isn't there: README.md says what is needed",
+                  file=sys.stderr)
+            return 70
+        return check() if words else write()
     print(__doc__, end="")
     return 0 if words in (["-h"], ["--help"]) else 2
 

@@ -184,10 +184,10 @@ def check(program, table, path):
 
 
 def main(words):
-    if len(words) != 1 or words[0].startswith("-"):
+    if len(words) != 1 or not os.access(words[0], os.X_OK):
         print(__doc__, end="")
         return 0 if words in (["-h"], ["--help"]) else 2
-    program = os.path.realpath(words[0])
+    program = os.path.abspath(words[0])
     paths = sorted(it for it in glob.glob(os.path.join(TOP, TABLES)) if "malformed" not in it)
     counts = [check(program, table, os.path.relpath(it, TOP)) for it in paths for table in tables_of(it)]
     passed, failed, left = map(sum, zip(*counts))

@@ -23,7 +23,7 @@ PAGE = ["page", "--lang", "en", "--id", "4370", "--scope", "0", "--code", "1", "
 FIRST_BLOCK = "200010111201118046a3d168341a8d46a3d168341a8d46"
 SHOWN = "4370 0010 @"
 # A sentence of the build, and what a copy of the checkout says in place of building
-BUILDS = "the program of dist/ isn't made of these sources"
+BUILDS = "the program of dist/ isn't there, or isn't made of these sources"
 
 
 def copy_of(folder):

@@ -10,6 +10,7 @@ Usage: verify_reference.py PROGRAM [RUNS]    random books, whose tapes are left 
 """
 import csv
 import io
+import os
 import random
 import subprocess
 import sys
@@ -228,7 +229,7 @@ def differs(program, seed):
 
 
 def main(words):
-    if not words or words[0].startswith("-"):
+    if not words or not os.access(words[0], os.X_OK):
         print(__doc__, end="")
         return 0 if words in (["-h"], ["--help"]) else 2
     runs = int(words[1]) if len(words) > 1 else 1500

@@ -24,7 +24,7 @@ _warnc() {
             words="--slots --workers -h --help"
             ;;
         --book)
-            COMPREPLY=($(compgen -f -- "$word"))
+            mapfile -t COMPREPLY < <(compgen -f -- "$word")
             compopt -o filenames
             return
             ;;
