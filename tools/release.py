@@ -24,8 +24,8 @@ from build import PROGRAM, TOP, build, copy_checkout, crates_below
 
 DIST = os.path.join(TOP, "dist")
 RELEASED = os.path.join(DIST, "warnc-x86_64-linux")
-# a link to it, since the program names itself in its help
-LINK = os.path.join(DIST, "warnc")
+# the same file: in its help the program names itself by the name that it was run by
+NAMED = os.path.join(DIST, "warnc")
 MANIFEST = os.path.join(DIST, "MANIFEST")
 PARTS = ("src", "specs", "proofs")
 COMMAND_LINE = os.path.join("crates", "warnc_cli", "src", "command.rt")
@@ -92,11 +92,11 @@ def faults():
     said = written_manifest()
     if not said:
         return ["dist/MANIFEST isn't there, or was changed: its last line isn't the sum of those above it"]
-    is_there = os.path.isfile(RELEASED) and os.path.realpath(LINK) == os.path.realpath(RELEASED)
-    if not is_there or sum_of(read(RELEASED)) != said["program"]:
-        return [f"{os.path.relpath(RELEASED, TOP)} isn't the program of dist/MANIFEST"]
-    if not os.access(RELEASED, os.X_OK):
-        return [f"{os.path.relpath(RELEASED, TOP)} isn't executable"]
+    for path in (RELEASED, NAMED):
+        if not os.path.isfile(path) or sum_of(read(path)) != said["program"]:
+            return [f"{os.path.relpath(path, TOP)} isn't the program of dist/MANIFEST"]
+        if not os.access(path, os.X_OK):
+            return [f"{os.path.relpath(path, TOP)} isn't executable"]
     shown = subprocess.run([RELEASED, "--version"], stdout=subprocess.PIPE, text=True, check=False).stdout
     if shown != f"warnc {said['version']}\n{said['toolchain']}\n":
         return [f"{os.path.relpath(RELEASED, TOP)} says that it is another version than dist/MANIFEST does"]
@@ -126,11 +126,10 @@ def write():
         return 1
     program = read(os.path.join(TOP, "crates", PROGRAM, "out", PROGRAM))
     os.makedirs(DIST, exist_ok=True)
-    with open(RELEASED, "wb") as it:
-        it.write(program)
-    os.chmod(RELEASED, 0o755)
-    if not os.path.islink(LINK):
-        os.symlink(os.path.basename(RELEASED), LINK)
+    for path in (RELEASED, NAMED):
+        with open(path, "wb") as it:
+            it.write(program)
+        os.chmod(path, 0o755)
     with open(MANIFEST, "w", encoding="utf-8") as it:
         it.write(manifest_of(TOP, program))
     print(f"{os.path.relpath(RELEASED)}: {len(program)} octets, {sum_of(program)}")

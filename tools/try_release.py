@@ -29,11 +29,10 @@ BUILDS = "the program of dist/ isn't there, or isn't made of these sources"
 def copy_of(folder):
     """Copies what is released and its sources to a checkout without git, and returns it."""
     crates = sorted(release.crates_below(release.PROGRAM))
-    released = "warnc", "dist/MANIFEST", "dist/warnc-x86_64-linux", "examples/book.csv"
+    released = "warnc", "dist/MANIFEST", "dist/warnc-x86_64-linux", "dist/warnc", "examples/book.csv"
     for path in (*release.sources(TOP, crates), *released):
         os.makedirs(os.path.join(folder, os.path.dirname(path)), exist_ok=True)
         shutil.copy2(os.path.join(TOP, path), os.path.join(folder, path))
-    os.symlink("warnc-x86_64-linux", os.path.join(folder, "dist", "warnc"))
     shutil.copytree(os.path.join(TOP, "tools"), os.path.join(folder, "tools"),
                     ignore=shutil.ignore_patterns("__pycache__"))
     return folder
