@@ -38,6 +38,12 @@ def crate_of(pid):
         return OTHERS, "proof"
 
 
+def crate_near(parents, pid):
+    """Returns the same of a process, or of the one that started it: a check by several jobs has copies of the prover."""
+    found = crate_of(pid)
+    return crate_of(parents[pid]) if found[0] == OTHERS and pid in parents else found
+
+
 def is_below(parents, pid, top):
     while pid in parents:
         if pid == top:
@@ -66,7 +72,7 @@ def sample(seen, top):
         key, seconds = (pid, fields[19]), (int(fields[11]) + int(fields[12])) / TICKS
         # (a process may be met before it has become the prover, so its words are read until they name a crate)
         if key not in seen or seen[key][0] == OTHERS:
-            crate, kind = crate_of(pid) if name == "rattle" else (OTHERS, "proof")
+            crate, kind = crate_near(parents, pid) if name == "rattle" else (OTHERS, "proof")
             seen[key] = [crate, kind, seconds]
         seen[key][2] = max(seen[key][2], seconds)
 
