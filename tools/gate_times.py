@@ -39,7 +39,7 @@ def crate_of(pid):
 
 
 def crate_near(parents, pid):
-    """Returns the same of a process, or of the one that started it: a check by several jobs has copies of the prover."""
+    """Returns the same of a process, or of the one that started it: a check by several jobs has several provers."""
     found = crate_of(pid)
     return crate_of(parents[pid]) if found[0] == OTHERS and pid in parents else found
 
