@@ -34,13 +34,13 @@ _warnc() {
         *)
             case ${COMP_WORDS[1]} in
             compile) words="--slots --group --network --workers -h --help" ;;
-            live) words="--slots --group --sessions --workers -h --help" ;;
+            live) words="--slots --group --network --sessions --workers -h --help" ;;
             read) words="-h --help" ;;
             pcap) words="--used --channel -h --help" ;;
             tape) words="--cell --slots --from -h --help" ;;
             report) words="--slots --group --network --workers -h --help" ;;
             groups) words="-h --help" ;;
-            chart) words="--slots --cell --workers -h --help" ;;
+            chart) words="--slots --group --network --cell --workers -h --help" ;;
             verify) words="--slots --group --book --workers -h --help" ;;
             page) words="--lang --id --scope --code --update -h --help" ;;
             help) words="compile live read pcap tape report groups chart verify page" ;;

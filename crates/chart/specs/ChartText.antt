@@ -188,6 +188,25 @@ abbrev pub chart_text : (slots : ℕ) → Option Cell → List Record → List T
 chart_text slots wanted records readings =
     chart_front slots ++ sections_of wanted records readings ++ charts.FOOT.now
 
+-- the sections of a group of a network are folded under its number; there is nothing where no cell of it is drawn
+unfoldable pub group_front : (group : ℕ) → List ℕ
+group_front group = charts.GROUP.now ++ decimal group ++ charts.GROUP_NAME_END.now
+
+abbrev pub folded : (group : ℕ) → (sections : List ℕ) → List ℕ
+folded group [] = []
+folded group (octet ∷ sections) = group_front group ++ (octet ∷ sections) ++ charts.GROUP_FOOT.now
+
+-- the part of a group in the chart of its network: the front of the page is the first group's, and the end the last's
+abbrev pub front_if_first : (slots group : ℕ) → List ℕ
+front_if_first slots group = if group == 0 then chart_front slots else []
+
+abbrev pub foot_if : (last : Bool) → List ℕ
+foot_if last = if last then charts.FOOT.now else []
+
+abbrev pub chart_part : (slots group : ℕ) → (last : Bool) → Option Cell → List Record → List TapeReading → List ℕ
+chart_part slots group last wanted records readings =
+    front_if_first slots group ++ folded group (sections_of wanted records readings) ++ foot_if last
+
 -- a writer held so much before a call, and after it that with the chart of records and readings, or with a front of it
 abbrev pub WritesChart : {W : Type 0} → (held : W → Option (List ℕ)) → (slots : ℕ) → Option Cell → List Record
     → List Reading → (old new : Sink W) → Type 0

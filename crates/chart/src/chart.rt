@@ -5,7 +5,8 @@ ghost use Rattle.device_ends.specs.Sink.{sink_failed};
 ghost use Rattle.handset.specs.Keeping.{messages_shown};
 ghost use Rattle.handset.specs.Tape.{readings_of};
 ghost use Rattle.report.specs.Rows.{AreOfOneCells};
-ghost use Rattle.chart.specs.ChartText.{chart_front, chart_text, head, introduction, is_wanted};
+ghost use Rattle.chart.specs.ChartText.{chart_front, chart_part, chart_text, folded, foot_if, front_if_first};
+ghost use Rattle.chart.specs.ChartText.{group_front, head, introduction, is_wanted};
 ghost use Rattle.chart.specs.ChartText.{section_if, sections_of, WritesChart, WritesFront};
 
 use crate::cell::push_section;
@@ -66,6 +67,15 @@ it is full.</p>
 
 /// The end of the page.
 pub const FOOT: &str = "</body>\n</html>\n";
+
+/// The front of a group of a network, up to its number.
+pub const GROUP: &str = "<details>\n<summary>Group ";
+
+/// What comes after a group's number.
+pub const GROUP_NAME_END: &str = "</summary>\n";
+
+/// The end of a group.
+pub const GROUP_FOOT: &str = "</details>\n";
 
 /// Whether a cell is drawn.
 fn is_wanted(wanted: Option<Cell>, cell: Cell) -> bool
@@ -165,6 +175,103 @@ fn page_of(
     push_sections(alloc, &mut page, wanted, records, readings)?;
     page.markup(FOOT)?;
     Ok(page)
+}
+
+/// The chart of a run of `slots` slots, as [`write_chart`] writes it.
+///
+/// # Errors
+///
+/// Returns [`ReportFault::Cells`] only if the readings aren't of the same cells as the records in the same order, and
+/// [`ReportFault::Refused`] if out of memory.
+pub fn chart_octets(
+    alloc: Global,
+    slots: u16,
+    wanted: Option<Cell>,
+    records: &[CellRecord],
+    readings: &[Reading],
+) -> Result<Vec<u8>, ReportFault>
+    ensures page { IfOk result (λ octets. octets.items
+        ≡ chart_text slots wanted records.now (readings_of readings.now)) }
+    ensures cells { IsErrOf result ReportFault.Cells → ¬ AreOfOneCells records.now (readings_of readings.now) }
+    ensures faults { IfErr result (λ fault. fault ≢ ReportFault.WriteFailed) }
+{
+    let page = page_of(alloc, slots, wanted, records, readings)?;
+    Ok(page.into_octets())
+}
+
+/// Appends the sections of a group under its number, if there are any.
+fn push_folded(page: &mut Page, group: u16, sections: &Page) -> Result<(), AllocError>
+    ensures { OnOk result (page.new ≡ page.old ++ folded group sections.now) }
+{
+    if sections.octets().is_empty() {
+        return Ok(());
+    }
+    push_group(page, group)?;
+    page.page(sections)?;
+    page.markup(GROUP_FOOT)
+}
+
+/// Appends the front of a group.
+#[tactic(auto, unfolding(crate::specs::ChartText::group_front))]
+fn push_group(page: &mut Page, group: u16) -> Result<(), AllocError>
+    ensures { OnOk result (page.new ≡ page.old ++ group_front group) }
+{
+    page.markup(GROUP)?;
+    page.number(u64::from(group))?;
+    page.markup(GROUP_NAME_END)
+}
+
+/// Appends the front of the page, if the group is the first.
+fn push_front_if_first(page: &mut Page, slots: u16, group: u16) -> Result<(), AllocError>
+    ensures { OnOk result (page.new ≡ page.old ++ front_if_first slots group) }
+{
+    if group == 0 {
+        push_front(page, slots)?;
+    }
+    Ok(())
+}
+
+/// Appends the end of the page, if it ends here.
+fn push_foot_if(page: &mut Page, is_last: bool) -> Result<(), AllocError>
+    ensures { OnOk result (page.new ≡ page.old ++ foot_if is_last) }
+{
+    if is_last {
+        page.markup(FOOT)?;
+    }
+    Ok(())
+}
+
+/// The part of a network's group in the chart of all of its groups: the sections of its cells, folded under its number.
+/// The front of the page is the first group's, and its end the last one's, so that the parts that are joined in order
+/// are one page.
+///
+/// # Errors
+///
+/// Returns the faults of [`chart_octets`].
+pub fn part_octets(
+    alloc: Global,
+    slots: u16,
+    group: u16,
+    is_last: bool,
+    wanted: Option<Cell>,
+    records: &[CellRecord],
+    readings: &[Reading],
+) -> Result<Vec<u8>, ReportFault>
+    ensures page { IfOk result (λ octets. octets.items
+        ≡ chart_part slots group is_last wanted records.now (readings_of readings.now)) }
+    ensures cells { IsErrOf result ReportFault.Cells → ¬ AreOfOneCells records.now (readings_of readings.now) }
+    ensures faults { IfErr result (λ fault. fault ≢ ReportFault.WriteFailed) }
+{
+    if records.len() != readings.len() {
+        return Err(ReportFault::Cells);
+    }
+    let mut sections = Page::new(alloc);
+    push_sections(alloc, &mut sections, wanted, records, readings)?;
+    let mut page = Page::new(alloc);
+    push_front_if_first(&mut page, slots, group)?;
+    push_folded(&mut page, group, &sections)?;
+    push_foot_if(&mut page, is_last)?;
+    Ok(page.into_octets())
 }
 
 /// Writes the chart of a run of `slots` slots: a page in HTML that stands alone, with a section for each cell, or for

@@ -49,6 +49,21 @@ impl Page {
         self.octets.extend_from_slice(markup.as_bytes())
     }
 
+    /// Appends all of another page.
+    pub fn page(&mut self, other: &Page) -> Result<(), AllocError>
+        ensures { OnOk result (self.new ≡ self.old ++ other.now) }
+    {
+        self.octets.extend_from_slice(&other.octets)
+    }
+
+    /// The octets, which are the caller's from now on.
+    pub fn into_octets(self) -> Vec<u8>
+        ensures { result.items ≡ self }
+    {
+        let Page { octets, .. } = self;
+        octets
+    }
+
     /// Appends a text, so that a reader of the page sees it as it is.
     pub fn text(&mut self, text: &str) -> Result<(), AllocError>
         ensures { OnOk result (self.new ≡ self.old ++ escaped text.now) }

@@ -1,6 +1,8 @@
 pub mod WordLaws
 pub mod SomeTape
 pub mod NoRun
+pub mod Statuses
 pub mod NotVerified
-pub mod Tasks
-pub mod NetworkRun
+pub mod Products
+pub mod Words
+pub mod OneInput

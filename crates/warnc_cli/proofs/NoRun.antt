@@ -13,19 +13,25 @@ use Rattle.order_desk.specs.declared.fault.DeskFault.{DeskFault}
 use Rattle.order_desk.specs.declared.fault.DeskFault.TheVariants as desk
 use Rattle.order_desk.specs.declared.settle.SettleFault.TheVariants as settle
 use Rattle.parallel_compile.specs.declared.fault.CompileFault.TheVariants as compile
-use Rattle.warnc_run.specs.Compiled.{HasReadFrom, IsDeskFault, IsRunFault}
+use Rattle.alert_book.specs.Network.{IsGroupBook}
+use Rattle.warnc_run.specs.Engine.{IsOutputFault}
+use Rattle.warnc_run.specs.Faults.{HasReadFrom, IsDeskFault, IsOfProduct, IsRunFault}
+use Rattle.warnc_run.specs.Groups.{IsGroupsFault}
+use Rattle.warnc_run.specs.Network.{HasNoPart}
+use Rattle.warnc_run.specs.Products.{IsOutput}
+use Rattle.warnc_run.specs.Records.{IsRecordsFault}
 use Rattle.warnc_run.specs.declared.fault.RunFault.{RunFault}
 use Rattle.warnc_run.specs.declared.fault.RunFault.TheVariants as run
-use Rattle.warnc_run.specs.declared.groups.GroupsFault.{GroupsFault}
-use Rattle.warnc_run.specs.declared.groups.GroupsFault.TheVariants as groups_fault
-use Rattle.warnc_run.specs.Groups.{IsGroupsFault}
-use Rattle.warnc_run.specs.Reported.{IsReportedFrom, IsReportFaultFrom}
-use Rattle.warnc_run.specs.declared.report_run.ReportRunFault.{ReportRunFault}
-use Rattle.warnc_run.specs.declared.report_run.ReportRunFault.TheVariants as reports
-use Rattle.warnc_verify.specs.Verified.{IsBookFault}
+use Rattle.warnc_run.specs.declared.run.Books.{Books}
+use Rattle.warnc_run.specs.declared.run.Books.TheVariants as books
+use Rattle.warnc_run.specs.declared.product.Product.{Product}
+use Rattle.warnc_run.specs.declared.product.Product.TheVariants as product
+use Rattle.warnc_run.specs.declared.product.ProductFault.{ProductFault}
+use Rattle.warnc_run.specs.declared.product.ProductFault.TheVariants as fault
 use Rattle.warnc_verify.proofs.Inputs.{whole}
-use Rattle.warnc_cli.specs.RunSteps.{status_of_groups_fault, status_of_run_fault, status_of_settle_fault}
-use Rattle.warnc_cli.specs.Status.{IsNoBook, IsNoBookFrom, IsNoNetwork, IsNoRun, status_of_book_fault}
+use Rattle.warnc_cli.specs.Status.{status_of_book_fault, status_of_product_fault, status_of_run_fault}
+use Rattle.warnc_cli.specs.Status.{status_of_settle_fault}
+use Rattle.warnc_cli.specs.Tasks.{IsNoBook, IsNoBookFrom, IsNoNetwork, IsNoNetworkRun, IsNoRun, IsNoRunOf}
 
 -- octets that were read of an input are no more than it has
 no_longer : (most : ℕ) (book input : List ℕ) (last : Option (List ℕ)) → Consumes (Some book) last input
@@ -102,81 +108,112 @@ stopped_desk from slots parts book last desk.Unknown why read is =
     inr (read.book, book_read from book last read, (run.Desk desk.Unknown, refl))
 stopped_desk from slots parts book last other why read is = absurd why
 
--- a fault of the records of a run says so of the book
-pub no_records : (from : Origin) (slots : ℕ) (book : List ℕ) (last : Option (List ℕ)) (f : RunFault)
-    → IsBookFault from slots (Some book) last f
-    → status_of_run_fault f ≡ 1
-    → IsNoRun from slots 1 book
-no_records from slots book last (run.Book f) why is = inl (no_book_from from book last f why.1 is)
-no_records from slots book last (run.NoGroup groups) why is = inl (no_group from book last groups why.1)
-no_records from slots book last (run.Desk f) why is = stopped_desk from slots 1 book last f why.1.0 why.1.1 is
-no_records from slots book last (run.Settle f) why is =
-    let read = why.1.0 in
-    let other : f ≢ settle.Refused =
-    λ same. omega (arith, sym (ap status_of_settle_fault same) ∙ is) in
-    inr (read.book, book_read from book last read, (run.Settle f, (other, why.1.1)))
-no_records from slots book last (run.Compile compile.Workers) why is = absurd (why.0 refl)
-no_records from slots book last (run.Compile compile.Refused) why is = absurd (omega (arith, is))
-no_records from slots book last (run.Compile (compile.Piece index)) why is = absurd why.1
-no_records from slots book last (run.Write failed) why is = absurd why.1
-no_records from slots book last run.Refused why is = absurd (omega (arith, is))
-
+-- a fault of a run with status 1 says that the book is none, or has no run
 no_run_here : (from : Origin) (slots parts : ℕ) (Means : (input output : List ℕ) → Type 0) (book : List ℕ)
-    (last old new : Option (List ℕ)) (f : RunFault)
+    (last old new : Option (List ℕ)) (made : Product) (f : RunFault)
+    → IsOfProduct f made
     → IsRunFault from slots parts Means (Some book) last old new f
-    → f ≢ run.Compile compile.Workers
     → status_of_run_fault f ≡ 1
     → IsNoRun from slots parts book
-no_run_here from slots parts Means book last old new (run.Book f) why few is =
+no_run_here from slots parts Means book last old new made (run.Book f) of why is =
     inl (no_book_from from book last f why.0 is)
-no_run_here from slots parts Means book last old new (run.NoGroup groups) why few is =
+no_run_here from slots parts Means book last old new made (run.NoGroup groups) of why is =
     inl (no_group from book last groups why.0)
-no_run_here from slots parts Means book last old new (run.Desk f) why few is =
+no_run_here from slots parts Means book last old new made (run.Desk f) of why is =
     stopped_desk from slots parts book last f why.0 why.1 is
-no_run_here from slots parts Means book last old new (run.Settle f) why few is =
+no_run_here from slots parts Means book last old new made (run.Settle f) of why is =
     let read = why.0 in
     let other : f ≢ settle.Refused =
     λ same. omega (arith, sym (ap status_of_settle_fault same) ∙ is) in
     inr (read.book, book_read from book last read, (run.Settle f, (other, why.1)))
-no_run_here from slots parts Means book last old new (run.Compile compile.Workers) why few is = absurd (few refl)
-no_run_here from slots parts Means book last old new (run.Compile compile.Refused) why few is =
+no_run_here from slots parts Means book last old new made (run.Compile compile.Workers) of why is = absurd of
+no_run_here from slots parts Means book last old new made (run.Compile compile.Refused) of why is =
     absurd (omega (arith, is))
-no_run_here from slots parts Means book last old new (run.Compile (compile.Piece index)) why few is =
+no_run_here from slots parts Means book last old new made (run.Compile (compile.Piece index)) of why is =
     inr (why.0.book, book_read from book last why.0, (run.Compile (compile.Piece index), tt))
-no_run_here from slots parts Means book last old new (run.Write failed) why few is = absurd (omega (arith, is))
-no_run_here from slots parts Means book last old new run.Refused why few is = absurd (omega (arith, is))
+no_run_here from slots parts Means book last old new made (run.Write failed) of why is = absurd (omega (arith, is))
+no_run_here from slots parts Means book last old new made run.Refused of why is = absurd (omega (arith, is))
 
--- a fault of a run with status 1 says that the input has no run
-pub no_run : (from : Origin) (slots parts : ℕ) (Means : (input output : List ℕ) → Type 0)
-    (first last old new : Option (List ℕ)) (f : RunFault)
-    → IsRunFault from slots parts Means first last old new f
-    → f ≢ run.Compile compile.Workers
+-- the records of a book
+pub no_records : (from : Origin) (slots : ℕ) (book : List ℕ) (last : Option (List ℕ)) (f : RunFault)
+    → IsRecordsFault from slots (Some book) last f
     → status_of_run_fault f ≡ 1
-    → IfSome first (IsNoRun from slots parts)
-no_run from slots parts Means None last old new f why few is = tt
-no_run from slots parts Means (Some book) last old new f why few is =
-    no_run_here from slots parts Means book last old new f why few is
+    → IsNoRun from slots 1 book
+no_records from slots book last f why is =
+    no_run_here from slots 1 (λ input output. ⊥) book last None None product.Report f why.0 why.1 is
 
--- so does one of a report's run
-pub no_reported_run : (from : Origin) (slots : ℕ) (first last old new : Option (List ℕ)) (fault : ReportRunFault)
-    (f : RunFault)
-    → IsReportFaultFrom from slots first last old new fault
-    → fault ≡ reports.Run f
-    → fault ≢ reports.Run (run.Compile compile.Workers)
+-- a group that has no part, for another reason than memory, has a book whose run ended early
+stopped_group : (slots parts group : ℕ) (book input : List ℕ) (f : RunFault)
+    → input ≡ book
+    → HasNoPart slots parts group input f
     → status_of_run_fault f ≡ 1
-    → IfSome first (IsNoRun from slots 1)
-no_reported_run from slots first last old new fault f why same few is =
-    let run_fault : IsReportFaultFrom from slots first last old new (reports.Run f) =
-    subst (λ (e : ReportRunFault). IsReportFaultFrom from slots first last old new e) same why in
-    no_run from slots 1 (IsReportedFrom from slots) first last old new f run_fault.2
-    (λ workers. few (same ∙ ap (λ (e : RunFault). reports.Run e) workers)) is
+    → IsNoNetworkRun slots parts book
+stopped_group slots parts group book input (run.Book f) same none is = absurd none.2
+stopped_group slots parts group book input (run.NoGroup groups) same none is = absurd none.2
+stopped_group slots parts group book input (run.Desk (desk.Memory done)) same none is = absurd (omega (arith, is))
+stopped_group slots parts group book input (run.Desk desk.Unknown) same none is =
+    inr (
+      group,
+      none.0,
+      subst (λ (octets : List ℕ). IsGroupBook group octets none.0) same none.1,
+      (run.Desk desk.Unknown, refl),
+    )
+stopped_group slots parts group book input (run.Desk other) same none is = absurd none.2
+stopped_group slots parts group book input (run.Settle f) same none is =
+    let other : f ≢ settle.Refused = λ out. omega (arith, sym (ap status_of_settle_fault out) ∙ is) in
+    inr (
+      group,
+      none.0,
+      subst (λ (octets : List ℕ). IsGroupBook group octets none.0) same none.1,
+      (run.Settle f, (other, none.2)),
+    )
+stopped_group slots parts group book input (run.Compile compile.Workers) same none is = absurd (apart none.2)
+  where
+    apart : compile.Workers ≡ compile.Refused → ⊥
+    apart h = search (rules, h)
+stopped_group slots parts group book input (run.Compile compile.Refused) same none is = absurd (omega (arith, is))
+stopped_group slots parts group book input (run.Compile (compile.Piece index)) same none is = absurd (apart none.2)
+  where
+    apart : compile.Piece index ≡ compile.Refused → ⊥
+    apart h = search (rules, h)
+stopped_group slots parts group book input (run.Write failed) same none is = absurd none.2
+stopped_group slots parts group book input run.Refused same none is = absurd (omega (arith, is))
 
--- and one of `groups` that it is no network book
-pub no_groups : (first last old new : Option (List ℕ)) (f : GroupsFault) → IsGroupsFault first last old new f
-    → status_of_groups_fault f ≡ 1
+-- what the engine refuses with status 1
+no_product : (b : Books) (slots parts : ℕ) (made : Product) (book : List ℕ) (last old new : Option (List ℕ))
+    (f : ProductFault)
+    → IsOutputFault made b slots parts (Some book) last old new f
+    → status_of_product_fault f ≡ 1
+    → IsNoRunOf b slots parts book
+no_product (books.One from) slots parts made book last old new (fault.Run f) why is =
+    no_run_here from slots parts (IsOutput made from slots parts) book last old new made f why.0 why.1 is
+no_product (books.One from) slots parts made book last old new (fault.Group group f) why is = absurd why
+no_product (books.One from) slots parts made book last old new fault.WriteFailed why is = absurd (omega (arith, is))
+no_product books.EachGroup slots parts made book last old new (fault.Run (run.Book f)) why is =
+    inl (no_network 0 book why.0.input last f why.0.consumed why.0.why is)
+no_product books.EachGroup slots parts made book last old new (fault.Run other) why is = absurd why
+no_product books.EachGroup slots parts made book last old new (fault.Group group f) why is =
+    stopped_group slots parts group book why.0.input f (whole book why.0.input last why.0.read why.0.ended) why.2 is
+no_product books.EachGroup slots parts made book last old new fault.WriteFailed why is = absurd (omega (arith, is))
+
+-- and says so of the octets that the reader had left, if they are known
+pub refused_product : (b : Books) (slots parts : ℕ) (made : Product) (first last old new : Option (List ℕ))
+    (f : ProductFault)
+    → IsOutputFault made b slots parts first last old new f
+    → status_of_product_fault f ≡ 1
+    → IfSome first (IsNoRunOf b slots parts)
+refused_product b slots parts made None last old new f why is = tt
+refused_product b slots parts made (Some book) last old new f why is =
+    no_product b slots parts made book last old new f why is
+
+-- a fault of `groups` with status 1 says that the input is no network book
+pub no_groups : (first last old new : Option (List ℕ)) (f : ProductFault) → IsGroupsFault first last old new f
+    → status_of_product_fault f ≡ 1
     → IfSome first (IsNoNetwork 0)
 no_groups None last old new f why is = tt
-no_groups (Some book) last old new (groups_fault.Network f) why is =
+no_groups (Some book) last old new (fault.Run (run.Book f)) why is =
     no_network 0 book why.0.input last f why.0.consumed why.0.why is
-no_groups (Some book) last old new groups_fault.Refused why is = absurd (omega (arith, is))
-no_groups (Some book) last old new groups_fault.WriteFailed why is = absurd (omega (arith, is))
+no_groups (Some book) last old new (fault.Run run.Refused) why is = absurd (omega (arith, is))
+no_groups (Some book) last old new (fault.Run other) why is = absurd why
+no_groups (Some book) last old new (fault.Group group f) why is = absurd why
+no_groups (Some book) last old new fault.WriteFailed why is = absurd (omega (arith, is))

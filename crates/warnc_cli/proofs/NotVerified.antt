@@ -5,34 +5,29 @@ use Rattle.std.proofs.Common.{true, false, Ok, Err, Result, IsErrOf, IsTrue}
 use Rattle.std.proofs.Common.{sym, subst, arith, inl, inr, rules}
 use Rattle.std.specs.Io.KnownBytes.{Keeps}
 use Rattle.alert_book.specs.declared.network.Origin.{Origin}
-use Rattle.alert_book.specs.Book.{fault_at, unread}
-use Rattle.alert_book.specs.declared.fault.BookFault.{BookFault}
-use Rattle.alert_book.specs.declared.fault.BookFaultKind.{BookFaultKind}
-use Rattle.alert_book.specs.declared.fault.BookFaultKind.TheVariants as kinds
-use Rattle.cbs_page.specs.declared.paging.TextFault.TheVariants as text
+use Rattle.alert_book.specs.Book.{unread}
 use Rattle.device_ends.specs.Sink.{sink_failed}
 use Rattle.device_ends.specs.Source.{source_failed}
 use Rattle.device_ends.specs.declared.reading.Source.{Source}
 use Rattle.device_ends.specs.declared.writing.Sink.{Sink}
 use Rattle.handset.specs.declared.tape.TapeFault.TheVariants as tape
-use Rattle.order_desk.specs.declared.fault.DeskFault.{DeskFault}
-use Rattle.order_desk.specs.declared.fault.DeskFault.TheVariants as desk
-use Rattle.order_desk.specs.declared.settle.SettleFault.{SettleFault}
-use Rattle.order_desk.specs.declared.settle.SettleFault.TheVariants as settle
-use Rattle.parallel_compile.specs.declared.fault.CompileFault.TheVariants as compile
 use Rattle.warnc_run.specs.declared.fault.RunFault.{RunFault}
 use Rattle.warnc_run.specs.declared.fault.RunFault.TheVariants as run
-use Rattle.warnc_run.specs.Records.{AreRecordsFrom}
-use Rattle.warnc_verify.specs.Verified.{DiffersBy, FindsAndWrites, HasDifferences, HasWritten, IsBookFault}
+use Rattle.warnc_run.specs.declared.product.Product.TheVariants as product
+use Rattle.warnc_run.specs.Faults.{IsOfProduct, IsWriteFault}
+use Rattle.warnc_run.specs.Products.{RunOf}
+use Rattle.warnc_run.specs.Records.{IsRecordsFault}
+use Rattle.warnc_verify.specs.Verified.{DiffersBy, FindsAndWrites, HasDifferences, HasWritten}
 use Rattle.warnc_verify.specs.Verified.{IsDifference, IsOfBookOrRun, IsVerified, IsVerifyFault, Readers}
 use Rattle.warnc_verify.specs.declared.fault.VerifyFault.{VerifyFault}
 use Rattle.warnc_verify.specs.declared.fault.VerifyFault.TheVariants as fault
 use Rattle.warnc_verify.proofs.Inputs.{some_table, whole, whole_if_known}
 use Rattle.warnc_cli.proofs.NoRun.{no_records}
-use Rattle.warnc_cli.specs.RunSteps.{status_of_desk_fault, status_of_run_fault}
-use Rattle.warnc_cli.specs.RunSteps.{status_of_settle_fault, status_of_verify_fault, IsVerifyRunBetween}
-use Rattle.warnc_cli.specs.Status.{AnyHasFailed, IsNotVerified, WritesOutputOfBoth, WritesSome}
-use Rattle.warnc_cli.specs.Status.{status_of_book_fault}
+use Rattle.warnc_cli.proofs.Statuses.{run_kind, OneOrFour}
+use Rattle.warnc_cli.specs.Run.{AnyHasFailed, WritesSome}
+use Rattle.warnc_cli.specs.RunSteps.{IsVerifyRunBetween}
+use Rattle.warnc_cli.specs.Status.{status_of_run_fault, status_of_verify_fault}
+use Rattle.warnc_cli.specs.Tasks.{IsNotVerified, WritesOutputOfBoth}
 
 -- the table without a difference that was written is that of the book and of the tapes
 pub table_written : (from : Origin) (slots : ℕ) (ends : Readers) (old new : Option (List ℕ))
@@ -98,7 +93,7 @@ refused_here from slots book tapes book_last tapes_last old new (fault.Tapes tap
     inr (inl (
       (
         told.0,
-        subst (λ (octets : List ℕ). AreRecordsFrom from slots octets told.0)
+        subst (λ (octets : List ℕ). RunOf from slots 1 octets told.0)
             (whole book run.input book_last run.read run.ended) run.made,
       ),
       inl told.2,
@@ -108,7 +103,7 @@ refused_here from slots book tapes book_last tapes_last old new (fault.Tapes tap
     inr (inl (
       (
         told.0,
-        subst (λ (octets : List ℕ). AreRecordsFrom from slots octets told.0)
+        subst (λ (octets : List ℕ). RunOf from slots 1 octets told.0)
             (whole book run.input book_last run.read run.ended) run.made,
       ),
       inr told.2,
@@ -157,45 +152,26 @@ kept_or_differs Kept Differ (fault.Differences n) kept differs is = inr (differs
 kept_or_differs Kept Differ fault.Refused kept differs is = inl (kept (λ w. w))
 kept_or_differs Kept Differ fault.WriteFailed kept differs is = absurd (omega (arith, is))
 
--- a status of 1 or 4
-abbrev OneOrFour : ℕ → Type 0
-OneOrFour status = (status ≡ 1) ⊎ (status ≡ 4)
-
-book_status : (row : ℕ) (kind : BookFaultKind)
-    → (fault_at row kind ≡ unread) ⊎ OneOrFour (status_of_book_fault (fault_at row kind))
-book_status zero kinds.ReadFailed = inl refl
-book_status (suc row) kinds.ReadFailed = inr (inl (search rules))
-book_status row kinds.Refused = inr (inr refl)
-book_status row (kinds.Text text.Refused) = inr (inr refl)
-book_status row (kinds.Text fault) = inr (inl refl)
-book_status row kind = inr (inl refl)
-
-desk_status : (f : DeskFault) → OneOrFour (status_of_desk_fault f)
-desk_status (desk.Memory done) = inr refl
-desk_status other = inl refl
-
-settle_status : (f : SettleFault) → OneOrFour (status_of_settle_fault f)
-settle_status settle.Refused = inr refl
-settle_status other = inl refl
-
 -- a fault of the run is that of a book that wasn't read, or has one of these statuses
 run_status : (from : Origin) (slots : ℕ) (first last : Option (List ℕ)) (f : RunFault)
-    → IsBookFault from slots first last f
+    → IsRecordsFault from slots first last f
     → (f ≡ run.Book unread) ⊎ OneOrFour (status_of_run_fault f)
-run_status from slots first last (run.Book f) is = by_book (book_status f.row f.kind)
+run_status from slots first last f is = by_kind (run_kind f)
   where
-    by_book : (f ≡ unread) ⊎ OneOrFour (status_of_book_fault f)
-        → (run.Book f ≡ run.Book unread) ⊎ OneOrFour (status_of_run_fault (run.Book f))
-    by_book (inl same) = inl (ap (λ (b : BookFault). run.Book b) same)
-    by_book (inr other) = inr other
-run_status from slots first last (run.NoGroup groups) is = inr (inl refl)
-run_status from slots first last (run.Desk f) is = inr (desk_status f)
-run_status from slots first last (run.Settle f) is = inr (settle_status f)
-run_status from slots first last (run.Compile compile.Refused) is = inr (inr refl)
-run_status from slots first last (run.Compile compile.Workers) is = inr (inl refl)
-run_status from slots first last (run.Compile (compile.Piece index)) is = inr (inl refl)
-run_status from slots first last (run.Write failed) is = absurd is.1
-run_status from slots first last run.Refused is = inr (inr refl)
+    no_writer : (f : RunFault) → IsOfProduct f product.Report → IsWriteFault f → ⊥
+    no_writer (run.Write failed) of write = of
+    no_writer (run.Book f) of write = write
+    no_writer (run.NoGroup groups) of write = write
+    no_writer (run.Desk f) of write = write
+    no_writer (run.Settle f) of write = write
+    no_writer (run.Compile f) of write = write
+    no_writer run.Refused of write = write
+
+    by_kind : (f ≡ run.Book unread) ⊎ (IsWriteFault f ⊎ OneOrFour (status_of_run_fault f))
+        → (f ≡ run.Book unread) ⊎ OneOrFour (status_of_run_fault f)
+    by_kind (inl same) = inl same
+    by_kind (inr (inl write)) = absurd (no_writer f is.0 write)
+    by_kind (inr (inr status)) = inr status
 
 -- what the engine says of the ends with a fault
 pub record AreEnds {B R W : Type 0} (why : VerifyFault) (first_book last_book : Source B) (first last : Source R)

@@ -7,8 +7,8 @@ use Rattle.gsmtap.specs.declared.tape.Wanted.{Wanted}
 use Rattle.warnc_air.specs.TapeOutput.{IsTapeCommandFault}
 use Rattle.warnc_air.specs.declared.tape.TapeCommandFault.{TapeCommandFault}
 use Rattle.warnc_air.specs.declared.tape.TapeCommandFault.TheVariants as fault
-use Rattle.warnc_cli.specs.RunSteps.{status_of_tape_fault}
-use Rattle.warnc_cli.specs.Status.{IsNoAir}
+use Rattle.warnc_cli.specs.Status.{status_of_tape_fault}
+use Rattle.warnc_cli.specs.Tasks.{IsNoAir}
 
 longer : (x : ℕ) (xs : List ℕ) → 0 < length (x ∷ xs)
 longer x xs = omega arith

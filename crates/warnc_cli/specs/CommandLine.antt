@@ -17,8 +17,11 @@ use Rattle.gsmtap.specs.declared.capture.Slots.TheVariants.{All, Used}
 use Rattle.gsmtap.specs.declared.packet.Channel.{Channel}
 use Rattle.gsmtap.specs.declared.tape.Wanted.{Wanted}
 use Rattle.gsmtap.specs.declared.packet.Channel.TheVariants.{BesideSdcch4, BesideSdcch8}
-use Rattle.warnc_run.specs.declared.network.Product.{Product}
-use Rattle.warnc_run.specs.declared.network.Product.TheVariants as product
+use Rattle.warnc_run.specs.declared.run.Books.{Books}
+use Rattle.warnc_run.specs.declared.run.Books.TheVariants as books
+use Rattle.warnc_run.specs.declared.product.Product.{Product}
+use Rattle.warnc_run.specs.declared.product.Product.TheVariants as product
+use Rattle.warnc_run.specs.declared.run.Run.{Run}
 
 -- the words give the option of this name this value: as the word after its name, or in one word with it, after `=`
 abbrev pub GivesValue : (words : List (List ℕ)) (name value : List ℕ) → Type 0
@@ -151,40 +154,26 @@ pub record AsksForTape (words : List (List ℕ)) (wanted : Wanted) : Type 0 wher
   pub slots_given : GivesSlots words wanted.slots
   pub from_given : GivesFrom words wanted.from
 
--- the words ask for `compile` of a book or a group, with this number of slots and of workers
-pub record AsksForCompile (words : List (List ℕ)) (from : Origin) (slots workers : ℕ) : Type 0 where
-  pub command : slice_get words 1 ≡ Some (codes "compile")
-  pub not_all : is_given words (codes "--network") ≡ false
-  pub origin_given : GivesOrigin words from
-  pub slots_given : GivesSlots words slots
-  pub workers_given : GivesThreads words (codes "--workers") workers
+-- which books the words want: of a network book each group, where a word begins with the name `--network`
+abbrev pub GivesBooks : (words : List (List ℕ)) → Books → Type 0
+GivesBooks words books.EachGroup = is_given words (codes "--network") ≡ true
+GivesBooks words (books.One from) = (is_given words (codes "--network") ≡ false) × GivesOrigin words from
 
--- the words ask for `report` of a book or a group, with this number of slots and of workers
-pub record AsksForReport (words : List (List ℕ)) (from : Origin) (slots workers : ℕ) : Type 0 where
-  pub command : slice_get words 1 ≡ Some (codes "report")
-  pub not_all : is_given words (codes "--network") ≡ false
-  pub origin_given : GivesOrigin words from
-  pub slots_given : GivesSlots words slots
-  pub workers_given : GivesThreads words (codes "--workers") workers
+-- what the words want to be made of a run of so many sessions: `compile` and `live` make tapes
+abbrev pub GivesProduct : (words : List (List ℕ)) → Product → (sessions : ℕ) → Type 0
+GivesProduct words product.Tapes sessions =
+    ((slice_get words 1 ≡ Some (codes "compile")) × (sessions ≡ 1))
+    ⊎ ((slice_get words 1 ≡ Some (codes "live")) × GivesThreads words (codes "--sessions") sessions)
+GivesProduct words product.Report sessions = (slice_get words 1 ≡ Some (codes "report")) × (sessions ≡ 1)
+GivesProduct words (product.Chart wanted) sessions =
+    (slice_get words 1 ≡ Some (codes "chart")) × (sessions ≡ 1) × GivesWanted words wanted
 
--- the command that makes this of each group
-abbrev pub command_of : Product → List ℕ
-command_of product.Tapes = codes "compile"
-command_of product.Report = codes "report"
-
--- the words ask for `compile` or `report` of all groups of a network: one of them begins with the name `--network`
-pub record AsksForNetwork (words : List (List ℕ)) (made : Product) (slots workers : ℕ) : Type 0 where
-  pub command : slice_get words 1 ≡ Some (command_of made)
-  pub all : is_given words (codes "--network") ≡ true
-  pub slots_given : GivesSlots words slots
-  pub workers_given : GivesThreads words (codes "--workers") workers
-
--- the words ask for `chart` with this number of slots and of workers, of the wanted cell or of all
-pub record AsksForChart (words : List (List ℕ)) (slots : ℕ) (wanted : Option Cell) (workers : ℕ) : Type 0 where
-  pub command : slice_get words 1 ≡ Some (codes "chart")
-  pub slots_given : GivesSlots words slots
-  pub wanted_given : GivesWanted words wanted
-  pub workers_given : GivesThreads words (codes "--workers") workers
+-- the words ask for this to be made of such a run
+pub record AsksForRun (words : List (List ℕ)) (run : Run) (made : Product) : Type 0 where
+  pub made_given : GivesProduct words made run.sessions.number
+  pub books_given : GivesBooks words run.books
+  pub slots_given : GivesSlots words run.slots
+  pub workers_given : GivesThreads words (codes "--workers") run.workers.number
 
 -- the words ask for `verify` of the book, or the group's, in the file of this name, with this number of slots and of
 -- workers
@@ -195,14 +184,6 @@ pub record AsksForVerify (words : List (List ℕ)) (from : Origin) (slots : ℕ)
     pub slots_given : GivesSlots words slots
     pub book_given : GivesValue words (codes "--book") file
     pub workers_given : GivesThreads words (codes "--workers") workers
-
--- the words ask for `live` of a book or a group, with this number of slots, of sessions and of workers
-pub record AsksForLive (words : List (List ℕ)) (from : Origin) (slots sessions workers : ℕ) : Type 0 where
-  pub command : slice_get words 1 ≡ Some (codes "live")
-  pub origin_given : GivesOrigin words from
-  pub slots_given : GivesSlots words slots
-  pub sessions_given : GivesThreads words (codes "--sessions") sessions
-  pub workers_given : GivesThreads words (codes "--workers") workers
 
 -- a word that asks for help or for the version
 abbrev pub is_text_word : List ℕ → Bool

@@ -1,3 +1,5 @@
 pub mod CommandLine
 pub mod Status
+pub mod Tasks
+pub mod Run
 pub mod RunSteps

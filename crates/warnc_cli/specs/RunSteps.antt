@@ -1,165 +1,68 @@
--- Steps of a run (own): what an order that was read is, and what a status says of the two ends. The contracts of
--- private functions alone speak of it.
-use Rattle.std.specs.Prelude.{◌≡◌, ◌≢◌, ℕ, ◌≤◌, false, List, Option}
+-- Steps of a run (own): what the status of a command says, once it is over. The contracts of private functions alone
+-- speak of it.
+use Rattle.std.specs.Prelude.{◌≡◌, ◌≢◌, ⊤, ℕ, ◌≤◌, ◌⊎◌, false, List, Option, IfSome, None}
 use Rattle.std.specs.Io.KnownBytes.{Keeps}
-use Rattle.device_ends.specs.Sink.{sink_failed}
-use Rattle.device_ends.specs.Source.{source_failed}
+use Rattle.device_ends.specs.Moves.{WritesOutput}
+use Rattle.device_ends.specs.Sink.{sink_failed, writer_of}
+use Rattle.device_ends.specs.Source.{reader_of, source_failed}
+use Rattle.device_ends.specs.Stream.{Writes}
 use Rattle.device_ends.specs.declared.reading.Source.{Source}
 use Rattle.device_ends.specs.declared.writing.Sink.{Sink}
-use Rattle.warnc_cli.specs.CommandLine.{AsksForChart, AsksForCompile, AsksForGroups, AsksForLive, AsksForNetwork}
-use Rattle.warnc_cli.specs.CommandLine.{AsksForPage, AsksForPcap, AsksForRead, AsksForReport, AsksForTape}
-use Rattle.warnc_cli.specs.CommandLine.{AsksForVerify}
-use Rattle.warnc_cli.specs.Status.{AnyHasFailed, OneHasFailed, status_of_book_fault}
+use Rattle.warnc_run.specs.declared.run.Books.TheVariants as books
+use Rattle.warnc_cli.specs.Run.{AnyHasFailed, ByInputs, OneHasFailed, WritesSome}
+use Rattle.warnc_cli.specs.Tasks.{AlwaysWrites, Means, Refuses, RefusesOne, WritesAll, WritesDifferences}
+use Rattle.warnc_cli.specs.Tasks.{WritesFirstGroups}
 use Rattle.warnc_cli.specs.declared.command.Task.{Task}
-use Rattle.warnc_cli.specs.declared.command.Task.TheVariants.{Chart, Compile, Groups, Live, Network, Page, Pcap, Read}
-use Rattle.warnc_cli.specs.declared.command.Task.TheVariants.{Report, Tape, Verify}
-use Rattle.order_desk.specs.declared.fault.DeskFault.{DeskFault}
-use Rattle.order_desk.specs.declared.fault.DeskFault.TheVariants as desk
-use Rattle.order_desk.specs.declared.settle.SettleFault.{SettleFault}
-use Rattle.order_desk.specs.declared.settle.SettleFault.TheVariants as settle
-use Rattle.parallel_compile.specs.declared.fault.CompileFault.{CompileFault}
-use Rattle.parallel_compile.specs.declared.fault.CompileFault.TheVariants as compile
-use Rattle.warnc_run.specs.declared.fault.RunFault.{RunFault}
-use Rattle.warnc_run.specs.declared.fault.RunFault.TheVariants as run
-use Rattle.warnc_run.specs.declared.groups.GroupsFault.{GroupsFault}
-use Rattle.warnc_run.specs.declared.groups.GroupsFault.TheVariants as groups
-use Rattle.warnc_run.specs.declared.network.NetworkFault.{NetworkFault}
-use Rattle.warnc_run.specs.declared.network.NetworkFault.TheVariants as network
-use Rattle.report.specs.declared.fault.ReportFault.{ReportFault}
-use Rattle.report.specs.declared.fault.ReportFault.TheVariants as report
-use Rattle.warnc_inspect.specs.declared.read.ReadCommandFault.{ReadCommandFault}
-use Rattle.warnc_inspect.specs.declared.read.ReadCommandFault.TheVariants as table
-use Rattle.warnc_air.specs.declared.pcap.PcapFault.{PcapFault}
-use Rattle.warnc_air.specs.declared.pcap.PcapFault.TheVariants as pcap
-use Rattle.warnc_air.specs.declared.tape.TapeCommandFault.{TapeCommandFault}
-use Rattle.warnc_air.specs.declared.tape.TapeCommandFault.TheVariants as tape
-use Rattle.handset.specs.declared.tape.TapeFault.{TapeFault}
-use Rattle.handset.specs.declared.tape.TapeFault.TheVariants as tapes
-use Rattle.warnc_verify.specs.declared.fault.VerifyFault.{VerifyFault}
-use Rattle.warnc_verify.specs.declared.fault.VerifyFault.TheVariants as verify
+use Rattle.warnc_cli.specs.declared.command.Task.TheVariants as task
 
--- the words ask for what `order` says
-abbrev pub IsTaskOf : (words : List (List ℕ)) → Task → Type 0
-IsTaskOf words (Page options) = AsksForPage words options.language.now options.id options.serial
-IsTaskOf words Read = AsksForRead words
-IsTaskOf words Groups = AsksForGroups words
-IsTaskOf words (Network made slots workers) = AsksForNetwork words made slots workers.number
-IsTaskOf words (Pcap settings) = AsksForPcap words settings
-IsTaskOf words (Tape wanted) = AsksForTape words wanted
-IsTaskOf words (Compile from slots workers) = AsksForCompile words from slots workers.number
-IsTaskOf words (Report from slots workers) = AsksForReport words from slots workers.number
-IsTaskOf words (Verify from slots book workers) = AsksForVerify words from slots book.now workers.number
-IsTaskOf words (Chart slots wanted workers) = AsksForChart words slots wanted workers.number
-IsTaskOf words (Live from slots sessions workers) =
-    AsksForLive words from slots sessions.number workers.number
+-- something may be written by a task with a status
+abbrev pub MayHaveWritten : Task → (status : ℕ) → Type 0
+MayHaveWritten (task.Make run made) status =
+    (status ≡ 0) ⊎ ((status ≡ 3) ⊎ (((status ≡ 1) ⊎ (status ≡ 4)) × (run.books ≡ books.EachGroup)))
+MayHaveWritten (task.Verify from slots file workers) status = (status ≡ 0) ⊎ ((status ≡ 3) ⊎ (status ≡ 1))
+MayHaveWritten other status = (status ≡ 0) ⊎ (status ≡ 3)
 
--- the status of a fault of `read`: 1 if the input is refused, 3 if a device failed, 4 if out of memory
-abbrev pub status_of_read_fault : ReadCommandFault → ℕ
-status_of_read_fault table.Short = 1
-status_of_read_fault table.Long = 1
-status_of_read_fault table.ReadFailed = 3
-status_of_read_fault table.Refused = 4
-status_of_read_fault table.WriteFailed = 3
+-- a task reads no book beside its input
+abbrev pub IsOfOneInput : Task → Type 0
+IsOfOneInput (task.Verify from slots file workers) = ⊥
+IsOfOneInput other = ⊤
 
--- the same of a fault of `pcap`
-abbrev pub status_of_pcap_fault : PcapFault → ℕ
-status_of_pcap_fault pcap.Short = 1
-status_of_pcap_fault pcap.Long = 1
-status_of_pcap_fault pcap.ReadFailed = 3
-status_of_pcap_fault pcap.Refused = 4
-status_of_pcap_fault pcap.WriteFailed = 3
+-- what status 0 says of a task of one input
+abbrev pub IsDoneBy : {R W : Type 0} → Task → (status : ℕ) (left : R → Option (List ℕ)) (held : W → Option (List ℕ))
+    → (first : Source R) → (old new : Sink W) → Type 0
+IsDoneBy task status left held first old new =
+    status ≡ 0 → WritesOutput (Means task) (left (reader_of first)) (held (writer_of old)) (held (writer_of new))
 
--- the same of a fault of `tape`
-abbrev pub status_of_tape_fault : TapeCommandFault → ℕ
-status_of_tape_fault tape.ReadFailed = 3
-status_of_tape_fault tape.TooLong = 1
-status_of_tape_fault (tape.Air why) = 1
-status_of_tape_fault tape.Refused = 4
-status_of_tape_fault tape.WriteFailed = 3
+-- and of any that always writes something
+abbrev pub WroteSomeBy : {W : Type 0} → Task → (status : ℕ) (held : W → Option (List ℕ)) → (old new : Sink W) → Type 0
+WroteSomeBy task status held old new = status ≡ 0 → AlwaysWrites task → Writes held WritesSome old new
 
--- the status of a fault of the desk and of its settlement: 4 if out of memory, else 1
-abbrev pub status_of_desk_fault : DeskFault → ℕ
-status_of_desk_fault (desk.Memory done) = 4
-status_of_desk_fault other = 1
+-- what status 1 says of a task of one input
+abbrev pub IsRefusedBy : {R : Type 0} → Task → (status : ℕ) (left : R → Option (List ℕ)) → (first : Source R) → Type 0
+IsRefusedBy task status left first = status ≡ 1 → IfSome (left (reader_of first)) (RefusesOne task)
 
-abbrev pub status_of_settle_fault : SettleFault → ℕ
-status_of_settle_fault settle.Refused = 4
-status_of_settle_fault other = 1
+-- what statuses 1 and 4 say of what it wrote
+abbrev pub WroteFrontBy : {R W : Type 0} → Task → (status : ℕ) (left : R → Option (List ℕ))
+    (held : W → Option (List ℕ)) → (first : Source R) → (old new : Sink W) → Type 0
+WroteFrontBy task status left held first old new = (status ≡ 1) ⊎ (status ≡ 4) → Writes held Keeps old new
+    ⊎ WritesFirstGroups task None (left (reader_of first)) (held (writer_of old)) (held (writer_of new))
 
--- the status of a fault of workers: 4 if out of memory, else 1
-abbrev pub status_of_compile_fault : CompileFault → ℕ
-status_of_compile_fault compile.Refused = 4
-status_of_compile_fault other = 1
-
--- the status of a fault of a run: that of the book's fault, of the desk's, of the settlement's or of the workers', 1 if
--- the network has no such group, 3 if the writer failed, 4 if out of memory
-abbrev pub status_of_run_fault : RunFault → ℕ
-status_of_run_fault (run.Book f) = status_of_book_fault f
-status_of_run_fault (run.NoGroup groups) = 1
-status_of_run_fault (run.Desk f) = status_of_desk_fault f
-status_of_run_fault (run.Settle f) = status_of_settle_fault f
-status_of_run_fault (run.Compile f) = status_of_compile_fault f
-status_of_run_fault (run.Write failed) = 3
-status_of_run_fault run.Refused = 4
-
--- the status of a fault of a report after its run
-abbrev pub status_of_report_fault : ReportFault → ℕ
-status_of_report_fault report.Cells = 1
-status_of_report_fault report.WriteFailed = 3
-status_of_report_fault report.Refused = 4
-
--- the status of a fault of `groups`
-abbrev pub status_of_groups_fault : GroupsFault → ℕ
-status_of_groups_fault (groups.Network f) = status_of_book_fault f
-status_of_groups_fault groups.Refused = 4
-status_of_groups_fault groups.WriteFailed = 3
-
--- the status of a fault of a network
-abbrev pub status_of_network_fault : NetworkFault → ℕ
-status_of_network_fault (network.Network f) = status_of_book_fault f
-status_of_network_fault (network.Group group f) = status_of_run_fault f
-status_of_network_fault network.WriteFailed = 3
-
--- the status of a fault of tapes
-abbrev pub status_of_tapes_fault : TapeFault → ℕ
-status_of_tapes_fault tapes.Short = 1
-status_of_tapes_fault tapes.Long = 1
-status_of_tapes_fault tapes.ReadFailed = 3
-status_of_tapes_fault tapes.Refused = 4
-
--- the status of a fault of `verify`: that of the run's or of the tapes' fault, and 1 if there are differences
-abbrev pub status_of_verify_fault : VerifyFault → ℕ
-status_of_verify_fault (verify.Run f) = status_of_run_fault f
-status_of_verify_fault (verify.Tapes f) = status_of_tapes_fault f
-status_of_verify_fault (verify.Differences count) = 1
-status_of_verify_fault verify.Refused = 4
-status_of_verify_fault verify.WriteFailed = 3
-
--- what a status says of a sink: `old` and `new` are the sink before and after, and `before` and `after` what its writer
--- holds
-pub record IsStatusOfSink {W : Type 0} (status : ℕ) (old new : Sink W) (before after : Option (List ℕ)) : Type 0 where
-  -- there are five statuses
+-- what the status of a task of one input says of both ends
+pub record IsRunBetween {R W : Type 0} (task : Task) (status : ℕ) (held : W → Option (List ℕ)) (last : Source R)
+    (old new : Sink W) : Type 0 where
+  -- there are five statuses, and it is no mistake of the words
   pub statuses : status ≤ 4
-  -- with 1, 2 and 4 nothing was
-  pub nothing_written : status ≢ 0 → status ≢ 3 → Keeps before after
-  -- and the sink is as it was
-  pub untouched : status ≢ 0 → status ≢ 3 → new ≡ old
-
--- what the status of a command that was understood says of both ends. The source is that after the run
-pub record IsRunBetween {R W : Type 0} (status : ℕ) (source : Source R) (old new : Sink W)
-    (before after : Option (List ℕ)) : Type 0 where
-  pub sink : IsStatusOfSink status old new before after
-  -- it is no mistake of the words
   pub understood : status ≢ 2
+  pub nothing_written : (MayHaveWritten task status → ⊥) → Writes held Keeps old new
+  pub untouched : (MayHaveWritten task status → ⊥) → new ≡ old
   -- it is 3 only if one of the ends has failed
-  pub device : status ≡ 3 → OneHasFailed source new
+  pub device : status ≡ 3 → OneHasFailed last new
   -- and always if one has, if the sink had not failed before
-  pub failed : sink_failed old ≡ false → OneHasFailed source new → status ≡ 3
+  pub failed : sink_failed old ≡ false → OneHasFailed last new → status ≡ 3
 
 -- the same of `verify`, which reads a book, too, and writes the differences with status 1
 pub record IsVerifyRunBetween {B R W : Type 0} (status : ℕ) (first_book last_book : Source B)
-    (first last : Source R)
-    (old new : Sink W) (before after : Option (List ℕ)) : Type 0 where
+    (first last : Source R) (old new : Sink W) (before after : Option (List ℕ)) : Type 0 where
   pub statuses : status ≤ 4
   -- with 2 and 4 nothing was written, and the sink is as it was
   pub nothing_written : status ≢ 0 → status ≢ 1 → status ≢ 3 → Keeps before after
@@ -171,11 +74,33 @@ pub record IsVerifyRunBetween {B R W : Type 0} (status : ℕ) (first_book last_b
   -- and always if one has, if neither the tapes' nor the sink had failed before
   pub failed : source_failed first ≡ false → sink_failed old ≡ false → AnyHasFailed last_book last new → status ≡ 3
 
--- the same of a network's run, which has written the first groups with 1 and 4
-pub record IsNetworkRunBetween {R W : Type 0} (status : ℕ) (source : Source R) (old new : Sink W) : Type 0 where
+-- what the status of any task says, and of the book's end
+pub record HasRun {B R W : Type 0} (task : Task) (status : ℕ) (book_left : B → Option (List ℕ))
+    (left : R → Option (List ℕ)) (held : W → Option (List ℕ)) (first_book last_book : Source B)
+    (first last : Source R) (old new : Sink W) : Type 0 where
   pub statuses : status ≤ 4
-  -- it is no mistake of the words
   pub understood : status ≢ 2
-  -- it is 3 exactly if one of the ends has failed
-  pub device : status ≡ 3 → OneHasFailed source new
-  pub failed : sink_failed old ≡ false → OneHasFailed source new → status ≡ 3
+  pub done : status ≡ 0 → ByInputs book_left left held (WritesAll task) first_book first old new
+  pub wrote : status ≡ 0 → AlwaysWrites task → Writes held WritesSome old new
+  pub refused : status ≡ 1 → Refuses task (book_left (reader_of first_book)) (left (reader_of first))
+  pub nothing_written : (MayHaveWritten task status → ⊥) → Writes held Keeps old new
+  pub untouched : (MayHaveWritten task status → ⊥) → new ≡ old
+  pub of_refused : status ≡ 1 → Writes held Keeps old new
+      ⊎ (ByInputs book_left left held (WritesDifferences task) first_book first old new
+      ⊎ ByInputs book_left left held (WritesFirstGroups task) first_book first old new)
+  pub of_memory : status ≡ 4 → Writes held Keeps old new
+      ⊎ ByInputs book_left left held (WritesFirstGroups task) first_book first old new
+  pub device : status ≡ 3 → AnyHasFailed last_book last new
+  pub failed : source_failed first_book ≡ false → source_failed first ≡ false → sink_failed old ≡ false
+      → AnyHasFailed last_book last new → status ≡ 3
+  pub no_book : IsOfOneInput task → last_book ≡ first_book
+
+-- what a status says of a sink: `old` and `new` are the sink before and after, and `before` and `after` what its writer
+-- holds
+pub record IsStatusOfSink {W : Type 0} (status : ℕ) (old new : Sink W) (before after : Option (List ℕ)) : Type 0 where
+  -- there are five statuses
+  pub statuses : status ≤ 4
+  -- with 1, 2 and 4 nothing was
+  pub nothing_written : status ≢ 0 → status ≢ 3 → Keeps before after
+  -- and the sink is as it was
+  pub untouched : status ≢ 0 → status ≢ 3 → new ≡ old

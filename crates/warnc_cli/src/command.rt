@@ -5,7 +5,7 @@ ghost use Rattle.std.specs.Prelude.{slice_get};
 ghost use Rattle.warnc_cli.specs.CommandLine.{asks_for_text, begins_with, is_given, is_text_word, GivesNumber};
 ghost use Rattle.warnc_cli.specs.CommandLine.{GivesChannel, GivesSlots, GivesThreads, GivesValue, AsksForPage};
 ghost use Rattle.warnc_cli.specs.CommandLine.{GivesCell, GivesFrom, GivesWanted, IsAddress, IsCell, IsNumber};
-ghost use Rattle.warnc_cli.specs.CommandLine.{command_of, slots_given, GivesOrigin};
+ghost use Rattle.warnc_cli.specs.CommandLine.{slots_given, GivesBooks, GivesOrigin, GivesProduct};
 ghost use Rattle.warnc_cli.specs.RunSteps.{IsTaskOf};
 
 use alert_book::Origin;
@@ -15,7 +15,7 @@ use clap::{Arg, ArgAction, Command, Error, value_parser};
 use gsmtap::{Channel, Settings, Slots, Wanted};
 use std::alloc::{AllocError, Global};
 use std::convert::AsStr;
-use warnc_run::{Product, Sessions, Workers};
+use warnc_run::{Books, Product, Run, Sessions, Workers};
 
 /// The options of `page`: the language's word, the message identifier and the serial number.
 #[derive(Clone, Copy, Debug, PartialEq, Eq)]
@@ -44,32 +44,12 @@ pub enum Task<'a> {
     Tape(Wanted),
     /// `groups`.
     Groups,
-    /// `compile`.
-    Compile {
-        /// A book, or the group of a network book.
-        origin: Origin,
-        /// How many slots each cell's run has, at least 1.
-        slots: u16,
-        /// How many workers play the cells.
-        workers: Workers,
-    },
-    /// `report`.
-    Report {
-        /// A book, or the group of a network book.
-        origin: Origin,
-        /// How many slots each cell's run has, at least 1.
-        slots: u16,
-        /// How many workers play the cells and make their tapes.
-        workers: Workers,
-    },
-    /// `compile` or `report` of all groups of a network book.
-    Network {
-        /// What is made of each group.
+    /// `compile`, `live`, `report` or `chart`.
+    Make {
+        /// Which books are run, and how.
+        run: Run,
+        /// What is made of the run.
         made: Product,
-        /// How many slots each cell's run has, at least 1.
-        slots: u16,
-        /// How many groups are run side by side.
-        workers: Workers,
     },
     /// `verify`.
     Verify {
@@ -79,26 +59,6 @@ pub enum Task<'a> {
         slots: u16,
         /// The name of the book's file.
         file: &'a str,
-        /// How many workers play the cells.
-        workers: Workers,
-    },
-    /// `chart`.
-    Chart {
-        /// How many slots each cell's run has, at least 1.
-        slots: u16,
-        /// The cell that is drawn; all if it is none.
-        wanted: Option<Cell>,
-        /// How many workers play the cells and make their tapes.
-        workers: Workers,
-    },
-    /// `live`.
-    Live {
-        /// A book, or the group of a network book.
-        origin: Origin,
-        /// How many slots each cell's run has, at least 1.
-        slots: u16,
-        /// How many sessions order side by side.
-        sessions: Sessions,
         /// How many workers play the cells.
         workers: Workers,
     },
@@ -140,69 +100,33 @@ fn task_in<'a, S: AsStr>(words: &'a [S]) -> Option<Task<'a>>
             from: from_in(words)?,
         })),
         "groups" => Some(Task::Groups),
-        "compile" => compile_in(words),
-        "report" => report_in(words),
+        "compile" => run_in(words, Product::Tapes, Sessions { number: 1 }),
+        "live" => run_in(words, Product::Tapes, sessions_in(words)?),
+        "report" => run_in(words, Product::Report, Sessions { number: 1 }),
+        "chart" => run_in(words, Product::Chart(wanted_in(words)?), Sessions { number: 1 }),
         "verify" => Some(Task::Verify {
             origin: origin_in(words)?,
             slots: slots_in(words)?,
             file: value_of(words, "--book")?,
             workers: workers_in(words)?,
         }),
-        "chart" => Some(Task::Chart {
-            slots: slots_in(words)?,
-            wanted: wanted_in(words)?,
-            workers: workers_in(words)?,
-        }),
-        "live" => Some(Task::Live {
-            origin: origin_in(words)?,
-            slots: slots_in(words)?,
-            sessions: sessions_in(words)?,
-            workers: workers_in(words)?,
-        }),
         _ => None,
     }
 }
 
-/// The `compile` that the words ask for.
-fn compile_in<'a, S: AsStr>(words: &'a [S]) -> Option<Task<'a>>
-    requires { slice_get (map S.text words.now) 1 ≡ Some (codes "compile") }
+/// What the words ask to be made of the run of a book, with so many sessions.
+fn run_in<'a, S: AsStr>(words: &'a [S], made: Product, sessions: Sessions) -> Option<Task<'a>>
+    requires { GivesProduct (map S.text words.now) made sessions.number }
     ensures { IfSome result (IsTaskOf (map S.text words.now)) }
 {
-    if is_given(words, "--network") {
-        return network_in(words, Product::Tapes);
-    }
-    Some(Task::Compile {
-        origin: origin_in(words)?,
-        slots: slots_in(words)?,
-        workers: workers_in(words)?,
-    })
-}
-
-/// The `report` that the words ask for.
-fn report_in<'a, S: AsStr>(words: &'a [S]) -> Option<Task<'a>>
-    requires { slice_get (map S.text words.now) 1 ≡ Some (codes "report") }
-    ensures { IfSome result (IsTaskOf (map S.text words.now)) }
-{
-    if is_given(words, "--network") {
-        return network_in(words, Product::Report);
-    }
-    Some(Task::Report {
-        origin: origin_in(words)?,
-        slots: slots_in(words)?,
-        workers: workers_in(words)?,
-    })
-}
-
-/// What the words ask for of all groups of a network.
-fn network_in<'a, S: AsStr>(words: &'a [S], made: Product) -> Option<Task<'a>>
-    requires command { slice_get (map S.text words.now) 1 ≡ Some (command_of made) }
-    requires all { is_given (map S.text words.now) (codes "--network") ≡ true }
-    ensures { IfSome result (IsTaskOf (map S.text words.now)) }
-{
-    Some(Task::Network {
+    Some(Task::Make {
+        run: Run {
+            books: books_in(words)?,
+            slots: slots_in(words)?,
+            sessions,
+            workers: workers_in(words)?,
+        },
         made,
-        slots: slots_in(words)?,
-        workers: workers_in(words)?,
     })
 }
 
@@ -335,6 +259,17 @@ fn origin_in<S: AsStr>(words: &[S]) -> Option<Origin>
     }
     let group = number_of(words, "--group")?;
     Some(Origin::Group(group))
+}
+
+/// Which books the words want.
+fn books_in<S: AsStr>(words: &[S]) -> Option<Books>
+    ensures { IfSome result (GivesBooks (map S.text words.now)) }
+{
+    if is_given(words, "--network") {
+        return Some(Books::EachGroup);
+    }
+    let origin = origin_in(words)?;
+    Some(Books::One(origin))
 }
 
 /// The number of slots that the words give.
@@ -518,6 +453,8 @@ fn chart<'a>(alloc: Global) -> Result<Command<'a>, AllocError> {
         )
         .after_help("Example: warnc chart --slots 4096 < book.csv > chart.html")
         .arg(slots(alloc))?
+        .arg(group(alloc))?
+        .arg(network(alloc)?)?
         .arg(charted_cell(alloc))?
         .arg(workers(alloc))
 }
@@ -569,6 +506,7 @@ fn live<'a>(alloc: Global) -> Result<Command<'a>, AllocError> {
         )
         .arg(slots(alloc))?
         .arg(group(alloc))?
+        .arg(network(alloc)?)?
         .arg(sessions(alloc))?
         .arg(workers(alloc))
 }

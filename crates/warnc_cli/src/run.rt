@@ -1,35 +1,21 @@
 //! One run of the program: words in, a status out.
 
-ghost use Rattle.std.specs.Prelude.{◌≡◌, ◌≢◌, ◌<◌, ◌≤◌, ◌⊎◌, ℕ, List, None, Some, codes, false, true, map, slice_get};
-ghost use Rattle.std.specs.Prelude.{IfSome};
-ghost use Rattle.std.specs.Io.KnownBytes.{Appends, Keeps};
-ghost use Rattle.device_ends.specs.Moves.{WritesOutput};
+ghost use Rattle.std.specs.Prelude.{◌≡◌, ◌≢◌, ◌≤◌, ◌⊎◌, IfSome, None, Some, codes, false, true, map, slice_get};
+ghost use Rattle.std.specs.Io.KnownBytes.{Keeps};
 ghost use Rattle.device_ends.specs.Sink.{sink_failed, writer_of};
 ghost use Rattle.device_ends.specs.Source.{reader_of, source_failed};
-ghost use Rattle.warnc_run.specs.Charted.{IsCharted};
-ghost use Rattle.warnc_run.specs.Compiled.{IsCompiledFrom};
-ghost use Rattle.warnc_run.specs.Groups.{IsGroupCount};
-ghost use Rattle.warnc_run.specs.Live.{IsLiveFrom};
-ghost use Rattle.warnc_run.specs.Network.{AreFirstParts, IsOfNetwork};
-ghost use Rattle.warnc_run.specs.Reported.{IsReportedFrom};
-ghost use Rattle.gsmtap.specs.Capture.{IsCapture};
-ghost use Rattle.gsmtap.specs.TapeOfCapture.{IsTapeOfCapture};
-ghost use Rattle.warnc_inspect.specs.PageOutput.{IsPageOutput};
-ghost use Rattle.warnc_inspect.specs.ReadOutput.{IsReadOutput};
-ghost use Rattle.warnc_verify.specs.Verified.{HasDifferences, IsVerified};
-ghost use Rattle.warnc_cli.specs.RunSteps.{IsNetworkRunBetween, IsRunBetween, IsStatusOfSink, IsVerifyRunBetween};
-ghost use Rattle.warnc_cli.specs.Status.{IsNoAir, IsNoNetwork, IsNoNetworkRun, IsNoRun, IsNoTapes, IsRefused};
-ghost use Rattle.warnc_cli.specs.Status.{AnyHasFailed, RefusesInput};
-ghost use Rattle.warnc_cli.specs.Status.{IsNotVerified, MayWrite, WritesSome, WroteOfRefused};
-ghost use Rattle.warnc_cli.specs.Status.{ByInputs, WritesOutputOfBoth, WritesSomeUnlessTapes, WroteWhatIsAsked};
-ghost use Rattle.warnc_cli.specs.Status.{WroteWithoutMemory};
 ghost use Rattle.device_ends.specs.Stream.{Writes};
+ghost use Rattle.warnc_cli.specs.Run.{AnyHasFailed, ByInputs, MayWrite, RefusesInput, WritesSome};
+ghost use Rattle.warnc_cli.specs.Run.{WritesSomeUnlessTapes, WroteOfRefused, WroteWhatIsAsked, WroteWithoutMemory};
+ghost use Rattle.warnc_cli.specs.RunSteps.{HasRun, IsDoneBy, IsRefusedBy, IsRunBetween, IsStatusOfSink};
+ghost use Rattle.warnc_cli.specs.RunSteps.{IsVerifyRunBetween, WroteFrontBy, WroteSomeBy};
+ghost use Rattle.warnc_cli.specs.Tasks.{IsNotVerified, WritesOutputOfBoth};
+ghost use Rattle.warnc_verify.specs.Verified.{HasDifferences, IsVerified};
 
 use crate::command::{PageOptions, Task, asks_for_text, task_of};
 use crate::status::{DEVICE, DONE, MEMORY, REFUSED_INPUT, USAGE, failed, failed_with_book};
 use crate::unreadable::Unreadable;
 use alert_book::Origin;
-use cbsp_wire::Cell;
 use clap::Error;
 use clap::error::ErrorKind;
 use device_ends::{Sink, Source, write_all};
@@ -44,10 +30,7 @@ use warnc_air::pcap::pcap_stream;
 use warnc_air::tape::tape_stream;
 use warnc_inspect::page::page_stream;
 use warnc_inspect::read::read_stream;
-use warnc_run::{
-    Product, ReportRunFault, Sessions, Workers, chart_stream, compile_from, groups_stream,
-    live_from, network_stream, report_from,
-};
+use warnc_run::{Product, Run, Workers, groups_stream, run_product};
 use warnc_verify::verify_stream;
 
 /// Runs the command that the words ask for (the first is the program's name), from a reader to a writer, and returns
@@ -132,45 +115,7 @@ pub fn run_between<
 {
     let alloc = rt.alloc();
     match task_of(alloc, words) {
-        Ok(Some(order)) => match order {
-            Task::Page(options) => run_page(alloc, &options, source, sink, faults),
-            Task::Read => run_read(alloc, source, sink, faults),
-            Task::Pcap(settings) => run_pcap(alloc, settings, source, sink, faults),
-            Task::Tape(wanted) => run_tape(alloc, &wanted, source, sink, faults),
-            Task::Groups => run_groups(rt, source, sink, faults),
-            Task::Compile {
-                origin,
-                slots,
-                workers,
-            } => run_compile(rt, origin, slots, workers, source, sink, faults),
-            Task::Report {
-                origin,
-                slots,
-                workers,
-            } => run_report(rt, origin, slots, workers, source, sink, faults),
-            Task::Network {
-                made,
-                slots,
-                workers,
-            } => run_network(rt, made, slots, workers, source, sink, faults),
-            Task::Verify {
-                origin,
-                slots,
-                file,
-                workers,
-            } => run_verify(rt, origin, slots, file, workers, book, source, sink, faults),
-            Task::Chart {
-                slots,
-                wanted,
-                workers,
-            } => run_chart(rt, slots, wanted, workers, source, sink, faults),
-            Task::Live {
-                origin,
-                slots,
-                sessions,
-                workers,
-            } => run_live(rt, origin, slots, sessions, workers, source, sink, faults),
-        },
+        Ok(Some(task)) => run_task(rt, task, book, source, sink, faults),
         Ok(None) => {
             let _ = writeln!(
                 faults,
@@ -182,22 +127,48 @@ pub fn run_between<
     }
 }
 
-/// Runs `page`, and returns the status.
-fn run_page<R: Read, W: Write, F: Write>(
-    alloc: Global,
-    options: &PageOptions,
+/// Runs a task, and returns the status.
+fn run_task<T: AllocGlobal + Threads + Wait + Sync, B: Read, R: Read, W: Write, F: Write>(
+    rt: &T,
+    task: Task<'_>,
+    book: &mut Source<B>,
     source: &mut Source<R>,
     sink: &mut Sink<W>,
     faults: &mut F,
 ) -> u8
-    ensures done { result ≡ DONE →
-        WritesOutput (IsPageOutput options.now.language.now options.now.id options.now.serial)
-        (R.remaining (reader_of source.old)) (W.contents (writer_of sink.old)) (W.contents (writer_of sink.new)) }
-    ensures any_ends { IsRunBetween result source.new sink.old sink.new
-        (W.contents (writer_of sink.old)) (W.contents (writer_of sink.new)) }
-    ensures wrote { result ≡ DONE → WritesSome (W.contents (writer_of sink.old)) (W.contents (writer_of sink.new)) }
-    ensures refused { result ≡ REFUSED_INPUT → IfSome (R.remaining (reader_of source.old))
-        (IsRefused options.now.language.now) }
+    ensures { HasRun task result B.remaining R.remaining W.contents book.old book.new source.old source.new
+        sink.old sink.new }
+{
+    let alloc = rt.alloc();
+    match task {
+        Task::Page(options) => run_page(alloc, options, source, sink, faults),
+        Task::Read => run_read(alloc, source, sink, faults),
+        Task::Pcap(settings) => run_pcap(alloc, settings, source, sink, faults),
+        Task::Tape(wanted) => run_tape(alloc, wanted, source, sink, faults),
+        Task::Groups => run_groups(rt, source, sink, faults),
+        Task::Make { run, made } => run_books(rt, run, made, source, sink, faults),
+        Task::Verify {
+            origin,
+            slots,
+            file,
+            workers,
+        } => run_verify(rt, origin, slots, file, workers, book, source, sink, faults),
+    }
+}
+
+/// Runs `page`, and returns the status.
+fn run_page<R: Read, W: Write, F: Write>(
+    alloc: Global,
+    options: PageOptions<'_>,
+    source: &mut Source<R>,
+    sink: &mut Sink<W>,
+    faults: &mut F,
+) -> u8
+    ensures done { IsDoneBy (Task.Page options) result R.remaining W.contents source.old sink.old sink.new }
+    ensures wrote { WroteSomeBy (Task.Page options) result W.contents sink.old sink.new }
+    ensures refused { IsRefusedBy (Task.Page options) result R.remaining source.old }
+    ensures front { WroteFrontBy (Task.Page options) result R.remaining W.contents source.old sink.old sink.new }
+    ensures ends { IsRunBetween (Task.Page options) result W.contents source.new sink.old sink.new }
 {
     match page_stream(
         alloc,
@@ -219,12 +190,11 @@ fn run_read<R: Read, W: Write, F: Write>(
     sink: &mut Sink<W>,
     faults: &mut F,
 ) -> u8
-    ensures done { result ≡ DONE → WritesOutput IsReadOutput
-        (R.remaining (reader_of source.old)) (W.contents (writer_of sink.old)) (W.contents (writer_of sink.new)) }
-    ensures any_ends { IsRunBetween result source.new sink.old sink.new
-        (W.contents (writer_of sink.old)) (W.contents (writer_of sink.new)) }
-    ensures wrote { result ≡ DONE → WritesSome (W.contents (writer_of sink.old)) (W.contents (writer_of sink.new)) }
-    ensures refused { result ≡ REFUSED_INPUT → IfSome (R.remaining (reader_of source.old)) IsNoTapes }
+    ensures done { IsDoneBy Task.Read result R.remaining W.contents source.old sink.old sink.new }
+    ensures wrote { WroteSomeBy Task.Read result W.contents sink.old sink.new }
+    ensures refused { IsRefusedBy Task.Read result R.remaining source.old }
+    ensures front { WroteFrontBy Task.Read result R.remaining W.contents source.old sink.old sink.new }
+    ensures ends { IsRunBetween Task.Read result W.contents source.new sink.old sink.new }
 {
     match read_stream(alloc, source, sink) {
         Ok(()) => DONE,
@@ -240,12 +210,11 @@ fn run_pcap<R: Read, W: Write, F: Write>(
     sink: &mut Sink<W>,
     faults: &mut F,
 ) -> u8
-    ensures done { result ≡ DONE → WritesOutput (IsCapture settings)
-        (R.remaining (reader_of source.old)) (W.contents (writer_of sink.old)) (W.contents (writer_of sink.new)) }
-    ensures any_ends { IsRunBetween result source.new sink.old sink.new
-        (W.contents (writer_of sink.old)) (W.contents (writer_of sink.new)) }
-    ensures wrote { result ≡ DONE → WritesSome (W.contents (writer_of sink.old)) (W.contents (writer_of sink.new)) }
-    ensures refused { result ≡ REFUSED_INPUT → IfSome (R.remaining (reader_of source.old)) IsNoTapes }
+    ensures done { IsDoneBy (Task.Pcap settings) result R.remaining W.contents source.old sink.old sink.new }
+    ensures wrote { WroteSomeBy (Task.Pcap settings) result W.contents sink.old sink.new }
+    ensures refused { IsRefusedBy (Task.Pcap settings) result R.remaining source.old }
+    ensures front { WroteFrontBy (Task.Pcap settings) result R.remaining W.contents source.old sink.old sink.new }
+    ensures ends { IsRunBetween (Task.Pcap settings) result W.contents source.new sink.old sink.new }
 {
     match pcap_stream(alloc, source, sink, settings) {
         Ok(()) => DONE,
@@ -256,19 +225,18 @@ fn run_pcap<R: Read, W: Write, F: Write>(
 /// Runs `tape`, and returns the status.
 fn run_tape<R: Read, W: Write, F: Write>(
     alloc: Global,
-    wanted: &Wanted,
+    wanted: Wanted,
     source: &mut Source<R>,
     sink: &mut Sink<W>,
     faults: &mut F,
 ) -> u8
-    ensures done { result ≡ DONE → WritesOutput (IsTapeOfCapture wanted.now)
-        (R.remaining (reader_of source.old)) (W.contents (writer_of sink.old)) (W.contents (writer_of sink.new)) }
-    ensures any_ends { IsRunBetween result source.new sink.old sink.new
-        (W.contents (writer_of sink.old)) (W.contents (writer_of sink.new)) }
-    ensures wrote { result ≡ DONE → WritesSome (W.contents (writer_of sink.old)) (W.contents (writer_of sink.new)) }
-    ensures refused { result ≡ REFUSED_INPUT → IfSome (R.remaining (reader_of source.old)) (IsNoAir wanted.now) }
+    ensures done { IsDoneBy (Task.Tape wanted) result R.remaining W.contents source.old sink.old sink.new }
+    ensures wrote { WroteSomeBy (Task.Tape wanted) result W.contents sink.old sink.new }
+    ensures refused { IsRefusedBy (Task.Tape wanted) result R.remaining source.old }
+    ensures front { WroteFrontBy (Task.Tape wanted) result R.remaining W.contents source.old sink.old sink.new }
+    ensures ends { IsRunBetween (Task.Tape wanted) result W.contents source.new sink.old sink.new }
 {
-    match tape_stream(alloc, source, sink, wanted) {
+    match tape_stream(alloc, source, sink, &wanted) {
         Ok(()) => DONE,
         Err(fault) => failed(&fault, faults),
     }
@@ -281,12 +249,11 @@ fn run_groups<T: AllocGlobal + Threads + Sync, R: Read, W: Write, F: Write>(
     sink: &mut Sink<W>,
     faults: &mut F,
 ) -> u8
-    ensures done { result ≡ DONE → WritesOutput IsGroupCount
-        (R.remaining (reader_of source.old)) (W.contents (writer_of sink.old)) (W.contents (writer_of sink.new)) }
-    ensures any_ends { IsRunBetween result source.new sink.old sink.new
-        (W.contents (writer_of sink.old)) (W.contents (writer_of sink.new)) }
-    ensures wrote { result ≡ DONE → WritesSome (W.contents (writer_of sink.old)) (W.contents (writer_of sink.new)) }
-    ensures refused { result ≡ REFUSED_INPUT → IfSome (R.remaining (reader_of source.old)) (IsNoNetwork 0) }
+    ensures done { IsDoneBy Task.Groups result R.remaining W.contents source.old sink.old sink.new }
+    ensures wrote { WroteSomeBy Task.Groups result W.contents sink.old sink.new }
+    ensures refused { IsRefusedBy Task.Groups result R.remaining source.old }
+    ensures front { WroteFrontBy Task.Groups result R.remaining W.contents source.old sink.old sink.new }
+    ensures ends { IsRunBetween Task.Groups result W.contents source.new sink.old sink.new }
 {
     match groups_stream(rt, source, sink) {
         Ok(()) => DONE,
@@ -294,137 +261,24 @@ fn run_groups<T: AllocGlobal + Threads + Sync, R: Read, W: Write, F: Write>(
     }
 }
 
-/// Runs `compile`, and returns the status.
-fn run_compile<T: AllocGlobal + Threads + Wait + Sync, R: Read, W: Write, F: Write>(
+/// Runs `compile`, `live`, `report` or `chart`, and returns the status.
+fn run_books<T: AllocGlobal + Threads + Wait + Sync, R: Read, W: Write, F: Write>(
     rt: &T,
-    origin: Origin,
-    slots: u16,
-    workers: Workers,
-    source: &mut Source<R>,
-    sink: &mut Sink<W>,
-    faults: &mut F,
-) -> u8
-    ensures done { result ≡ DONE → WritesOutput (IsCompiledFrom origin slots)
-        (R.remaining (reader_of source.old)) (W.contents (writer_of sink.old)) (W.contents (writer_of sink.new)) }
-    ensures any_ends { IsRunBetween result source.new sink.old sink.new
-        (W.contents (writer_of sink.old)) (W.contents (writer_of sink.new)) }
-    ensures refused { result ≡ REFUSED_INPUT → IfSome (R.remaining (reader_of source.old)) (IsNoRun origin slots 1) }
-{
-    match compile_from(rt, source, sink, origin, slots, workers.number) {
-        Ok(()) => DONE,
-        Err(fault) => failed(&fault, faults),
-    }
-}
-
-/// Runs `live`, and returns the status.
-fn run_live<T: AllocGlobal + Threads + Wait + Sync, R: Read, W: Write, F: Write>(
-    rt: &T,
-    origin: Origin,
-    slots: u16,
-    sessions: Sessions,
-    workers: Workers,
-    source: &mut Source<R>,
-    sink: &mut Sink<W>,
-    faults: &mut F,
-) -> u8
-    ensures done { result ≡ DONE → WritesOutput (IsLiveFrom origin slots sessions.number)
-        (R.remaining (reader_of source.old)) (W.contents (writer_of sink.old)) (W.contents (writer_of sink.new)) }
-    ensures any_ends { IsRunBetween result source.new sink.old sink.new
-        (W.contents (writer_of sink.old)) (W.contents (writer_of sink.new)) }
-    ensures refused { result ≡ REFUSED_INPUT → IfSome (R.remaining (reader_of source.old))
-        (IsNoRun origin slots sessions.number) }
-{
-    match live_from(
-        rt,
-        source,
-        sink,
-        origin,
-        slots,
-        sessions.number,
-        workers.number,
-        &Open,
-    ) {
-        Ok(()) => DONE,
-        Err(fault) => failed(&fault, faults),
-    }
-}
-
-/// Runs `report`, and returns the status.
-fn run_report<T: AllocGlobal + Threads + Wait + Sync, R: Read, W: Write, F: Write>(
-    rt: &T,
-    origin: Origin,
-    slots: u16,
-    workers: Workers,
-    source: &mut Source<R>,
-    sink: &mut Sink<W>,
-    faults: &mut F,
-) -> u8
-    ensures done { result ≡ DONE → WritesOutput (IsReportedFrom origin slots)
-        (R.remaining (reader_of source.old)) (W.contents (writer_of sink.old)) (W.contents (writer_of sink.new)) }
-    ensures any_ends { IsRunBetween result source.new sink.old sink.new
-        (W.contents (writer_of sink.old)) (W.contents (writer_of sink.new)) }
-    ensures wrote { result ≡ DONE → origin ≡ Origin.Book
-        → WritesSome (W.contents (writer_of sink.old)) (W.contents (writer_of sink.new)) }
-    ensures refused { result ≡ REFUSED_INPUT → IfSome (R.remaining (reader_of source.old)) (IsNoRun origin slots 1) }
-{
-    match report_from(rt, source, sink, origin, slots, workers.number) {
-        Ok(()) => DONE,
-        Err(ReportRunFault::Run(fault)) => failed(&fault, faults),
-        Err(ReportRunFault::Report(fault)) => failed(&fault, faults),
-    }
-}
-
-/// Runs `compile` or `report` of all groups of a network, and returns the status.
-fn run_network<T: AllocGlobal + Threads + Wait + Sync, R: Read, W: Write, F: Write>(
-    rt: &T,
+    run: Run,
     made: Product,
-    slots: u16,
-    workers: Workers,
     source: &mut Source<R>,
     sink: &mut Sink<W>,
     faults: &mut F,
 ) -> u8
-    ensures done { result ≡ DONE → WritesOutput (IsOfNetwork made slots)
-        (R.remaining (reader_of source.old)) (W.contents (writer_of sink.old)) (W.contents (writer_of sink.new)) }
-    ensures any_ends { IsNetworkRunBetween result source.new sink.old sink.new }
-    ensures wrote { result ≡ DONE → made ≡ Product.Report
-        → WritesSome (W.contents (writer_of sink.old)) (W.contents (writer_of sink.new)) }
-    ensures refused { result ≡ REFUSED_INPUT → IfSome (R.remaining (reader_of source.old)) (IsNoNetworkRun slots) }
-    ensures first_groups { result ≡ REFUSED_INPUT → Keeps (W.contents (writer_of sink.old))
-        (W.contents (writer_of sink.new)) ⊎ ((count : ℕ) × WritesOutput (AreFirstParts made slots count)
-        (R.remaining (reader_of source.old)) (W.contents (writer_of sink.old)) (W.contents (writer_of sink.new))) }
-    ensures memory { result ≡ MEMORY → Keeps (W.contents (writer_of sink.old))
-        (W.contents (writer_of sink.new)) ⊎ ((count : ℕ) × WritesOutput (AreFirstParts made slots count)
-        (R.remaining (reader_of source.old)) (W.contents (writer_of sink.old)) (W.contents (writer_of sink.new))) }
+    ensures done { IsDoneBy (Task.Make run made) result R.remaining W.contents source.old sink.old sink.new }
+    ensures wrote { WroteSomeBy (Task.Make run made) result W.contents sink.old sink.new }
+    ensures refused { IsRefusedBy (Task.Make run made) result R.remaining source.old }
+    ensures front { WroteFrontBy (Task.Make run made) result R.remaining W.contents source.old sink.old sink.new }
+    ensures ends { IsRunBetween (Task.Make run made) result W.contents source.new sink.old sink.new }
 {
-    match network_stream(rt, source, sink, made, slots, workers) {
+    match run_product(rt, source, sink, &run, made, &Open) {
         Ok(()) => DONE,
         Err(fault) => failed(&fault, faults),
-    }
-}
-
-/// Runs `chart`, and returns the status.
-fn run_chart<T: AllocGlobal + Threads + Wait + Sync, R: Read, W: Write, F: Write>(
-    rt: &T,
-    slots: u16,
-    wanted: Option<Cell>,
-    workers: Workers,
-    source: &mut Source<R>,
-    sink: &mut Sink<W>,
-    faults: &mut F,
-) -> u8
-    ensures done { result ≡ DONE → WritesOutput (IsCharted slots wanted)
-        (R.remaining (reader_of source.old)) (W.contents (writer_of sink.old)) (W.contents (writer_of sink.new)) }
-    ensures any_ends { IsRunBetween result source.new sink.old sink.new
-        (W.contents (writer_of sink.old)) (W.contents (writer_of sink.new)) }
-    ensures wrote { result ≡ DONE → WritesSome (W.contents (writer_of sink.old)) (W.contents (writer_of sink.new)) }
-    ensures refused { result ≡ REFUSED_INPUT → IfSome (R.remaining (reader_of source.old))
-        (IsNoRun Origin.Book slots 1) }
-{
-    match chart_stream(rt, source, sink, slots, wanted, workers.number) {
-        Ok(()) => DONE,
-        Err(ReportRunFault::Run(fault)) => failed(&fault, faults),
-        Err(ReportRunFault::Report(fault)) => failed(&fault, faults),
     }
 }
 
@@ -443,7 +297,7 @@ fn run_verify<T: AllocGlobal + Threads + Wait + Sync, B: Read, R: Read, W: Write
     ensures done { result ≡ DONE → WritesOutputOfBoth (IsVerified origin slots)
         (B.remaining (reader_of book.old)) (R.remaining (reader_of tapes.old))
         (W.contents (writer_of sink.old)) (W.contents (writer_of sink.new)) }
-    ensures any_ends { IsVerifyRunBetween result book.old book.new tapes.old tapes.new sink.old sink.new
+    ensures ends { IsVerifyRunBetween result book.old book.new tapes.old tapes.new sink.old sink.new
         (W.contents (writer_of sink.old)) (W.contents (writer_of sink.new)) }
     ensures wrote { result ≡ DONE → WritesSome (W.contents (writer_of sink.old)) (W.contents (writer_of sink.new)) }
     ensures refused { result ≡ REFUSED_INPUT → IfSome (B.remaining (reader_of book.old)) (λ octets.

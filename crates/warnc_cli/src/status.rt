@@ -1,25 +1,22 @@
 //! The statuses of a run, and which fault ends one with which status.
 
 ghost use Rattle.std.specs.Prelude.{◌≡◌, ℕ};
-ghost use Rattle.warnc_cli.specs.RunSteps.{status_of_groups_fault, status_of_network_fault, status_of_pcap_fault};
-ghost use Rattle.warnc_cli.specs.RunSteps.{status_of_read_fault};
-ghost use Rattle.warnc_cli.specs.RunSteps.{status_of_run_fault, status_of_tape_fault, status_of_tapes_fault};
-ghost use Rattle.warnc_cli.specs.RunSteps.{status_of_report_fault, status_of_verify_fault};
-ghost use Rattle.warnc_cli.specs.Status.{status_of_book_fault, status_of_page_fault};
+ghost use Rattle.warnc_cli.specs.Status.{status_of_book_fault, status_of_page_fault, status_of_pcap_fault};
+ghost use Rattle.warnc_cli.specs.Status.{status_of_product_fault, status_of_read_fault, status_of_run_fault};
+ghost use Rattle.warnc_cli.specs.Status.{status_of_tape_fault, status_of_tapes_fault, status_of_verify_fault};
 
 use alert_book::{BookFault, BookFaultKind};
 use cbs_page::TextFault;
 use handset::TapeFault;
 use order_desk::{DeskFault, SettleFault};
 use parallel_compile::CompileFault;
-use report::ReportFault;
 use std::fmt::Display;
 use std::io::Write;
 use warnc_air::pcap::PcapFault;
 use warnc_air::tape::TapeCommandFault;
 use warnc_inspect::page::PageFault;
 use warnc_inspect::read::ReadCommandFault;
-use warnc_run::{GroupsFault, NetworkFault, RunFault};
+use warnc_run::{ProductFault, RunFault};
 use warnc_verify::VerifyFault;
 
 /// All was done, or help was written.
@@ -56,7 +53,7 @@ pub(crate) fn failed<E: Fault, F: Write>(fault: &E, faults: &mut F) -> u8
     fault.status()
 }
 
-/// The same of `verify`: a book that couldn't be read is named by its file, since the tapes are another input.
+/// Reports a fault of `verify`: a book that couldn't be read is named by its file, since the tapes are another input.
 pub(crate) fn failed_with_book<F: Write>(fault: &VerifyFault, file: &str, faults: &mut F) -> u8
     ensures { result ≡ status_of_verify_fault fault.now }
 {
@@ -141,26 +138,13 @@ impl Fault for RunFault {
     }
 }
 
-impl Fault for GroupsFault {
-    ghost status_of = { status_of_groups_fault };
+impl Fault for ProductFault {
+    ghost status_of = { status_of_product_fault };
 
     fn status(&self) -> u8 {
         match *self {
-            GroupsFault::Network(fault) => status_of_book(fault),
-            GroupsFault::Refused => MEMORY,
-            GroupsFault::WriteFailed => DEVICE,
-        }
-    }
-}
-
-impl Fault for NetworkFault {
-    ghost status_of = { status_of_network_fault };
-
-    fn status(&self) -> u8 {
-        match *self {
-            NetworkFault::Network(fault) => status_of_book(fault),
-            NetworkFault::Group { fault, .. } => fault.status(),
-            NetworkFault::WriteFailed => DEVICE,
+            ProductFault::Run(fault) | ProductFault::Group { fault, .. } => fault.status(),
+            ProductFault::WriteFailed => DEVICE,
         }
     }
 }
@@ -187,18 +171,6 @@ impl Fault for VerifyFault {
             VerifyFault::Differences(_) => REFUSED_INPUT,
             VerifyFault::Refused => MEMORY,
             VerifyFault::WriteFailed => DEVICE,
-        }
-    }
-}
-
-impl Fault for ReportFault {
-    ghost status_of = { status_of_report_fault };
-
-    fn status(&self) -> u8 {
-        match *self {
-            ReportFault::Cells => REFUSED_INPUT,
-            ReportFault::WriteFailed => DEVICE,
-            ReportFault::Refused => MEMORY,
         }
     }
 }

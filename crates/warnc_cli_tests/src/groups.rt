@@ -60,6 +60,32 @@ run -> 3
 err -> warnc: write failed
 all -> lac,ci,id,serial,start,end,completed,shown
 
+args chart --slots 2 --network --cell 1-64
+run -> 0
+out -> <!DOCTYPE html>
+past it is full.</p> -> yes
+out -> <details>
+out -> <summary>Group 1</summary>
+out -> <details open>
+out -> <summary>Cell 1-64</summary>
+past </details> -> yes
+out -> </details>
+out -> </body>
+out -> </html>
+args chart --slots 2 --network
+run -> 0
+past <summary>Group 0</summary> -> yes
+past <summary>Cell 1-0</summary> -> yes
+past <summary>Group 1</summary> -> yes
+past <summary>Cell 1-64</summary> -> yes
+past </html> -> yes
+args chart --slots 2 --group 1
+run -> 0
+past it is full.</p> -> yes
+out -> <details open>
+out -> <summary>Cell 1-64</summary>
+past </html> -> yes
+
 # and is no book of 64 cells
 args report --slots 2
 fails -> 1 warnc: row 65: too many rows
@@ -74,6 +100,9 @@ fails -> 1 warnc: no such group: the network has 2
 in cell,1,64
 in write,0,a,4370,0,1,en,2,2,1,*,@
 args compile --slots 2 --network --workers 64
+run -> 0
+all -> worked
+args live --slots 2 --network --sessions 2 --workers 2
 run -> 0
 all -> worked
 args groups

@@ -75,7 +75,7 @@ args live --slots 4 --group first
 usage -> 2 error:
 args read --group 0
 usage -> 2 error:
-args chart --slots 4 --group 0
+args chart --slots 4 --network --group 0
 usage -> 2 error:
 args report --slots 4 --network --group 0
 usage -> 2 error:
@@ -83,7 +83,7 @@ args compile --slots 4 --group 0 --network
 usage -> 2 error:
 args report --slots 4 --network=0
 usage -> 2 error:
-args live --slots 4 --network
+args live --slots 4 --network --group 0
 usage -> 2 error:
 args groups --network
 usage -> 2 error:

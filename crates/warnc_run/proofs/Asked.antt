@@ -33,7 +33,7 @@ use Rattle.order_desk.specs.declared.note.Note.{Note}
 use Rattle.order_desk.specs.Desk.{IsRefusedOrder, DeskState}
 use Rattle.cbsp_wire.proofs.Tests.{and_parts}
 use Rattle.order_desk.proofs.Walked.{all_last}
-use Rattle.warnc_run.specs.Compiled.{IsDeskFault}
+use Rattle.warnc_run.specs.Faults.{IsDeskFault}
 
 -- one more turn
 pub gone_on : (turns : List Turn) (from to : Standing) (request : Request) (reply : Message)

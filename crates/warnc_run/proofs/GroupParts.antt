@@ -17,12 +17,11 @@ use Rattle.alert_book.specs.Book.{Contents}
 use Rattle.alert_book.specs.Network.{HasGroups, HasNoBookIn, IsGroupBook, IsNoNetworkBook, RefusesNetwork}
 use Rattle.alert_book.specs.NetworkLaws.{CountsAreOne, NetworksAreRight}
 use Rattle.warnc_run.specs.declared.fault.RunFault.{RunFault}
-use Rattle.warnc_run.specs.declared.network.NetworkFault.{NetworkFault}
-use Rattle.warnc_run.specs.declared.network.NetworkFault.TheVariants as fault
-use Rattle.warnc_run.specs.declared.network.Product.{Product}
+use Rattle.warnc_run.specs.declared.product.ProductFault.{ProductFault}
+use Rattle.warnc_run.specs.declared.product.ProductFault.TheVariants as fault
 use Rattle.warnc_run.specs.declared.parts.Part.{Part}
-use Rattle.warnc_run.specs.Compiled.{Makes}
-use Rattle.warnc_run.specs.Network.{joined_parts, ArePartsFrom, HasNoPart, IsNetworkFault, IsOfNetwork, IsPartOf}
+use Rattle.warnc_run.specs.Made.{Makes}
+use Rattle.warnc_run.specs.Network.{joined_parts, ArePartsFrom, GroupRuns, HasNoPart, IsNetworkFault, IsOfNetwork, IsPartOf}
 use Rattle.warnc_run.specs.NetworkSteps.{octets_of_part, AreMadeFrom, HasNoEmptyTape, IsMadeOf, IsWritten, StopsAt}
 use Rattle.warnc_run.specs.NetworkSteps.{StopsParts, WritesFrontOf, WritesParts, WritesPartsFront}
 use Rattle.warnc_run.specs.RunSteps.{IsSomeBook, TakesFront}
@@ -69,49 +68,49 @@ front_of_tapes tapes written old new some taken =
         ∙ ap (λ (octets : List ℕ). front ++ octets) (take-append-le written tape rest (omega (arith, less)))
 
 -- parts of some groups, and of those after them
-parts_join : (made : Product) (slots : ℕ) (input : List ℕ) (group : ℕ) (front back : List (List ℕ))
-    → ArePartsFrom made slots input group front
-    → ArePartsFrom made slots input (group + length front) back
-    → ArePartsFrom made slots input group (front ++ back)
-parts_join made slots input group [] back each more =
+parts_join : (runs : GroupRuns) (input : List ℕ) (group : ℕ) (front back : List (List ℕ))
+    → ArePartsFrom runs input group front
+    → ArePartsFrom runs input (group + length front) back
+    → ArePartsFrom runs input group (front ++ back)
+parts_join runs input group [] back each more =
     let same : group + 0 ≡ group = omega arith in
-    subst (λ (g : ℕ). ArePartsFrom made slots input g back) same more
-parts_join made slots input group (part ∷ front) back each more =
+    subst (λ (g : ℕ). ArePartsFrom runs input g back) same more
+parts_join runs input group (part ∷ front) back each more =
     let same : group + length (part ∷ front) ≡ group + 1 + length front = omega arith in (
       each.0,
-      parts_join made slots input (group + 1) front back each.1
-          (subst (λ (g : ℕ). ArePartsFrom made slots input g back) same more),
+      parts_join runs input (group + 1) front back each.1
+          (subst (λ (g : ℕ). ArePartsFrom runs input g back) same more),
     )
 
 -- parts that were written, and those written after them
-pub parts_after : (made : Product) (slots group n m from : ℕ) (input : List ℕ) (a b c : Option (List ℕ))
+pub parts_after : (runs : GroupRuns) (group n m from : ℕ) (input : List ℕ) (a b c : Option (List ℕ))
     → from ≡ group + n
-    → WritesParts made slots group n input a b
-    → WritesParts made slots from m input b c
-    → WritesParts made slots group (n + m) input a c
-parts_after made slots group n m from input a b c at before after =
+    → WritesParts runs group n input a b
+    → WritesParts runs from m input b c
+    → WritesParts runs group (n + m) input a c
+parts_after runs group n m from input a b c at before after =
     let same : from ≡ group + length before.parts = omega (arith, at, before.count_is) in record {
       parts = before.parts ++ after.parts;
       count_is = let both = length-append before.parts after.parts in
           omega (arith, both, before.count_is, after.count_is);
-      each = parts_join made slots input group before.parts after.parts before.each
-          (subst (λ (g : ℕ). ArePartsFrom made slots input g after.parts) same after.each);
+      each = parts_join runs input group before.parts after.parts before.each
+          (subst (λ (g : ℕ). ArePartsFrom runs input g after.parts) same after.each);
       appended = subst (Appends a c)
           (sym (flat_map-append (λ (part : List ℕ). part) before.parts after.parts))
           (Appends-trans a b c (joined_parts before.parts) (joined_parts after.parts) before.appended after.appended);
     }
 
 -- at first none is
-pub no_parts : (made : Product) (slots group : ℕ) (input : List ℕ) (a : Option (List ℕ))
-    → WritesParts made slots group 0 input a a
-no_parts made slots group input a = record { parts = []; count_is = refl; each = tt; appended = Appends-nil a }
+pub no_parts : (runs : GroupRuns) (group : ℕ) (input : List ℕ) (a : Option (List ℕ))
+    → WritesParts runs group 0 input a a
+no_parts runs group input a = record { parts = []; count_is = refl; each = tt; appended = Appends-nil a }
 
 -- one part
-one_part : (made : Product) (slots group : ℕ) (input octets : List ℕ) (a b : Option (List ℕ))
-    → IsPartOf made slots group input octets
+one_part : (runs : GroupRuns) (group : ℕ) (input octets : List ℕ) (a b : Option (List ℕ))
+    → IsPartOf runs group input octets
     → Appends a b octets
-    → WritesParts made slots group 1 input a b
-one_part made slots group input octets a b is wrote = record {
+    → WritesParts runs group 1 input a b
+one_part runs group input octets a b is wrote = record {
   parts = octets ∷ [];
   count_is = refl;
   each = (is, tt);
@@ -119,23 +118,23 @@ one_part made slots group input octets a b is wrote = record {
 }
 
 -- and one more
-pub part_after : (made : Product) (slots group i : ℕ) (input : List ℕ) (part : Part) (a b c : Option (List ℕ))
-    → WritesParts made slots group i input a b
-    → IsPartOf made slots (group + i) input (octets_of_part part)
+pub part_after : (runs : GroupRuns) (group i : ℕ) (input : List ℕ) (part : Part) (a b c : Option (List ℕ))
+    → WritesParts runs group i input a b
+    → IsPartOf runs (group + i) input (octets_of_part part)
     → Appends b c (octets_of_part part)
-    → WritesParts made slots group (i + 1) input a c
-part_after made slots group i input part a b c before is wrote =
-    parts_after made slots group i 1 (group + i) input a b c refl before
-    (one_part made slots (group + i) input (octets_of_part part) b c is wrote)
+    → WritesParts runs group (i + 1) input a c
+part_after runs group i input part a b c before is wrote =
+    parts_after runs group i 1 (group + i) input a b c refl before
+    (one_part runs (group + i) input (octets_of_part part) b c is wrote)
 
 -- whole parts, and then a front of some
-front_after : (made : Product) (slots group n m most from : ℕ) (input : List ℕ) (a b c : Option (List ℕ))
+front_after : (runs : GroupRuns) (group n m most from : ℕ) (input : List ℕ) (a b c : Option (List ℕ))
     → from ≡ group + n
-    → WritesParts made slots group n input a b
-    → WritesPartsFront made slots from m input b c
+    → WritesParts runs group n input a b
+    → WritesPartsFront runs from m input b c
     → n + m ≤ most
-    → WritesPartsFront made slots group most input a c
-front_after made slots group n m most from input a b c at before after fits =
+    → WritesPartsFront runs group most input a c
+front_after runs group n m most from input a b c at before after fits =
     let same : from ≡ group + length before.parts = omega (arith, at, before.count_is) in
     let whole = joined_parts before.parts in
     let both = length-append before.parts after.parts in
@@ -149,8 +148,8 @@ front_after made slots group n m most from input a b c at before after fits =
     ∙ take-append-add whole (joined_parts after.parts) after.front.0 in record {
       parts = before.parts ++ after.parts;
       few = omega (arith, both, before.count_is, after.few, fits);
-      each = parts_join made slots input group before.parts after.parts before.each
-          (subst (λ (g : ℕ). ArePartsFrom made slots input g after.parts) same after.each);
+      each = parts_join runs input group before.parts after.parts before.each
+          (subst (λ (g : ℕ). ArePartsFrom runs input g after.parts) same after.each);
       front = (
         length whole + after.front.0,
         omega (arith, long, sum, after.front.1),
@@ -160,66 +159,68 @@ front_after made slots group n m most from input a b c at before after fits =
     }
 
 -- a stop after whole parts
-pub stop_after : (made : Product) (slots group n m most from : ℕ) (input : List ℕ) (a b c : Option (List ℕ))
-    (f : NetworkFault)
+pub stop_after : (runs : GroupRuns) (group n m most from : ℕ) (input : List ℕ) (a b c : Option (List ℕ))
+    (f : ProductFault)
     → from ≡ group + n
-    → WritesParts made slots group n input a b
-    → StopsParts made slots from m input b c f
+    → WritesParts runs group n input a b
+    → StopsParts runs from m input b c f
     → n + m ≤ most
-    → StopsParts made slots group most input a c f
-stop_after made slots group n m most from input a b c (fault.Network f) at before stops fits = absurd stops
-stop_after made slots group n m most from input a b c (fault.Group g f) at before (done, is, less, wrote, none) fits = (
+    → StopsParts runs group most input a c f
+stop_after runs group n m most from input a b c (fault.Run f) at before stops fits = absurd stops
+stop_after runs group n m most from input a b c (fault.Group g f) at before (done, is, less, wrote, none) fits = (
   n + done,
   omega (arith, is, at),
   omega (arith, less, fits),
-  parts_after made slots group n done from input a b c at before wrote,
+  parts_after runs group n done from input a b c at before wrote,
   none,
 )
-stop_after made slots group n m most from input a b c fault.WriteFailed at before stops fits =
-    front_after made slots group n m most from input a b c at before stops fits
+stop_after runs group n m most from input a b c fault.WriteFailed at before stops fits =
+    front_after runs group n m most from input a b c at before stops fits
 
 -- a group that has no part, or whose part a writer didn't take, stops the parts
-pub stop_at : (made : Product) (slots group i number count : ℕ) (input : List ℕ) (came : Result Part RunFault)
-    (a b c : Option (List ℕ)) (f : NetworkFault)
+pub stop_at : (runs : GroupRuns) (group i number count : ℕ) (input : List ℕ) (came : Result Part RunFault)
+    (a b c : Option (List ℕ)) (f : ProductFault)
     → i < count
     → number ≡ group + i
-    → WritesParts made slots group i input a b
-    → IsMadeOf made slots (group + i) input came
+    → WritesParts runs group i input a b
+    → IsMadeOf runs (group + i) input came
     → StopsAt came number b c f
-    → StopsParts made slots group count input a c f
-stop_at made slots group i number count input came a b c (fault.Network f) less at before of stops = absurd stops
-stop_at made slots group i number count input came a b c (fault.Group g f) less at before of (is, none, kept) = (
+    → StopsParts runs group count input a c f
+stop_at runs group i number count input came a b c (fault.Run f) less at before of stops = absurd stops
+stop_at runs group i number count input came a b c (fault.Group g f) less at before of (is, none, kept) = (
   i,
   is ∙ at,
   less,
-  subst (WritesParts made slots group i input a) kept before,
-  subst (λ (n : ℕ). HasNoPart slots n input f) (sym (is ∙ at))
-      (subst (IsMadeOf made slots (group + i) input) none of),
+  subst (WritesParts runs group i input a) kept before,
+  subst (λ (n : ℕ). HasNoPart runs.slots runs.parts n input f) (sym (is ∙ at))
+      (subst (IsMadeOf runs (group + i) input) none of),
 )
-stop_at made slots group i number count input came a b c fault.WriteFailed less at before of (part, is, front) =
-    front_after made slots group i 1 count (group + i) input a b c refl before
+stop_at runs group i number count input came a b c fault.WriteFailed less at before of (part, is, front) =
+    front_after runs group i 1 count (group + i) input a b c refl before
     (record {
       parts = octets_of_part part ∷ [];
       few = omega arith;
-      each = ((subst (IsMadeOf made slots (group + i) input) is of).0, tt);
+      each = ((subst (IsMadeOf runs (group + i) input) is of).0, tt);
       front = subst (λ (octets : List ℕ). WritesFrontOf octets b c) (sym (append-nil (octets_of_part part))) front;
     }) (omega (arith, less))
 
 -- the parts of all groups are the network's
-pub of_network : (made : Product) (slots groups : ℕ) (input : List ℕ) (first last old new : Option (List ℕ))
+pub of_network : (runs : GroupRuns) (input : List ℕ) (first last old new : Option (List ℕ))
     → Consumes first last input
     → IsAtEnd last
-    → HasGroups 0 input groups
-    → WritesParts made slots 0 groups input old new
-    → Makes (IsOfNetwork made slots) first last old new
-of_network made slots groups input first last old new read ended counted wrote = record {
+    → HasGroups 0 input runs.groups
+    → WritesParts runs 0 runs.groups input old new
+    → Makes (IsOfNetwork runs.made runs.slots runs.parts) first last old new
+of_network runs input first last old new read ended counted wrote = record {
   input = input;
   output = joined_parts wrote.parts;
   read = read;
   ended = ended;
   meant = record {
+    groups = runs.groups;
+    counted = counted;
     parts = wrote.parts;
-    counted = subst (HasGroups 0 input) (sym wrote.count_is) counted;
+    as_many = wrote.count_is;
     each = wrote.each;
     written = refl;
   };
@@ -227,36 +228,34 @@ of_network made slots groups input first last old new read ended counted wrote =
 }
 
 -- and a stop is a fault of it
-pub fault_of_parts : (made : Product) (slots groups : ℕ) (input : List ℕ) (first last old new : Option (List ℕ))
-    (f : NetworkFault)
+pub fault_of_parts : (runs : GroupRuns) (input : List ℕ) (first last old new : Option (List ℕ)) (f : ProductFault)
     → Consumes first last input
     → IsAtEnd last
-    → HasGroups 0 input groups
-    → StopsParts made slots 0 groups input old new f
-    → IsNetworkFault made slots first last old new f
-fault_of_parts made slots groups input first last old new (fault.Network f) read ended counted stops = absurd stops
-fault_of_parts made slots groups input first last old new (fault.Group g f) read ended counted
-    (done, is, less, wrote, none) = (
-      record {
-        input = input;
-        output = joined_parts wrote.parts;
-        read = read;
-        ended = ended;
-        meant = record {
-          groups = groups;
-          counted = counted;
-          few = omega (arith, is, less);
-          parts = wrote.parts;
-          as_many = omega (arith, is, wrote.count_is);
-          each = wrote.each;
-          written = refl;
-        };
-        appended = wrote.appended;
-      },
-      omega (arith, is, less),
-      none,
-    )
-fault_of_parts made slots groups input first last old new fault.WriteFailed read ended counted stops = (
+    → HasGroups 0 input runs.groups
+    → StopsParts runs 0 runs.groups input old new f
+    → IsNetworkFault runs.made runs.slots runs.parts first last old new f
+fault_of_parts runs input first last old new (fault.Run f) read ended counted stops = absurd stops
+fault_of_parts runs input first last old new (fault.Group g f) read ended counted (done, is, less, wrote, none) = (
+  record {
+    input = input;
+    output = joined_parts wrote.parts;
+    read = read;
+    ended = ended;
+    meant = record {
+      groups = runs.groups;
+      counted = counted;
+      few = omega (arith, is, less);
+      parts = wrote.parts;
+      as_many = omega (arith, is, wrote.count_is);
+      each = wrote.each;
+      written = refl;
+    };
+    appended = wrote.appended;
+  },
+  omega (arith, is, less),
+  none,
+)
+fault_of_parts runs input first last old new fault.WriteFailed read ended counted stops = (
   length stops.parts,
   record {
     input = input;
@@ -264,7 +263,7 @@ fault_of_parts made slots groups input first last old new fault.WriteFailed read
     read = read;
     ended = ended;
     meant = record {
-      groups = groups;
+      groups = runs.groups;
       counted = counted;
       few = stops.few;
       parts = stops.parts;
@@ -272,9 +271,7 @@ fault_of_parts made slots groups input first last old new fault.WriteFailed read
       each = stops.each;
       written = refl;
     };
-    taken = stops.front.0;
-    some_left = λ some. stops.front.1;
-    front = stops.front.2;
+    front = (stops.front.0, λ some. stops.front.1, stops.front.2);
   },
 )
 
@@ -328,60 +325,60 @@ only_memory_fails law group groups input f why counted is none =
     by_case (inr (inr wrong)) = absurd (law 0 group input groups why counted wrong)
 
 -- no tape of a part is empty
-pub no_empty_tape : (made : Product) (slots group : ℕ) (input : List ℕ) (came : Result Part RunFault)
-    → IsMadeOf made slots group input came
+pub no_empty_tape : (runs : GroupRuns) (group : ℕ) (input : List ℕ) (came : Result Part RunFault)
+    → IsMadeOf runs group input came
     → IfOk came HasNoEmptyTape
-no_empty_tape made slots group input (Ok part) of = of.1
-no_empty_tape made slots group input (Err f) of = tt
+no_empty_tape runs group input (Ok part) of = of.1
+no_empty_tape runs group input (Err f) of = tt
 
 -- a part that was written is one more
-pub written_after : (made : Product) (slots group i : ℕ) (input : List ℕ) (came : Result Part RunFault)
+pub written_after : (runs : GroupRuns) (group i : ℕ) (input : List ℕ) (came : Result Part RunFault)
     (a b c : Option (List ℕ))
-    → WritesParts made slots group i input a b
-    → IsMadeOf made slots (group + i) input came
+    → WritesParts runs group i input a b
+    → IsMadeOf runs (group + i) input came
     → IsWritten came b c
-    → WritesParts made slots group (i + 1) input a c
-written_after made slots group i input (Ok part) a b c before of wrote =
-    part_after made slots group i input part a b c before of.0 wrote
-written_after made slots group i input (Err f) a b c before of wrote = absurd wrote
+    → WritesParts runs group (i + 1) input a c
+written_after runs group i input (Ok part) a b c before of wrote =
+    part_after runs group i input part a b c before of.0 wrote
+written_after runs group i input (Err f) a b c before of wrote = absurd wrote
 
 -- what came of the group at a place
-pub made_at : (made : Product) (slots group : ℕ) (input : List ℕ) (all shown : List (Result Part RunFault)) (i : ℕ)
+pub made_at : (runs : GroupRuns) (group : ℕ) (input : List ℕ) (all shown : List (Result Part RunFault)) (i : ℕ)
     (came : Result Part RunFault)
-    → AreMadeFrom made slots group input all
+    → AreMadeFrom runs group input all
     → shown ≡ all
     → i < length shown
     → came ≡ get_or shown i came
-    → IsMadeOf made slots (group + i) input came
-made_at made slots group input all shown i came each same within is =
+    → IsMadeOf runs (group + i) input came
+made_at runs group input all shown i came each same within is =
     let at : came ≡ get_or all i came =
     subst (λ (rs : List (Result Part RunFault)). came ≡ get_or rs i came) same is in
-    subst (IsMadeOf made slots (group + i) input) (sym at)
+    subst (IsMadeOf runs (group + i) input) (sym at)
     (each i came (subst (λ (rs : List (Result Part RunFault)). i < length rs) same within))
 
 -- the faults of a run of the groups whose octets were read
-pub faults_of_parts : (made : Product) (slots groups : ℕ) (octets judged shown : List ℕ)
-    (first last old new : Option (List ℕ)) (r : Result (Unit {0}) NetworkFault)
+pub faults_of_parts : (runs : GroupRuns) (octets judged shown : List ℕ) (first last old new : Option (List ℕ))
+    (r : Result (Unit {0}) ProductFault)
     → ReadsUpTo first last octets 67108864
     → judged ≡ octets
     → shown ≡ octets
-    → HasGroups 0 judged groups
-    → IfErr r (StopsParts made slots 0 groups shown old new)
-    → IfErr r (IsNetworkFault made slots first last old new)
-faults_of_parts made slots groups octets judged shown first last old new (Ok done) read is same counted stops = tt
-faults_of_parts made slots groups octets judged shown first last old new (Err f) read is same counted stops =
-    let network = subst (λ (i : List ℕ). HasGroups 0 i groups) is counted in
-    fault_of_parts made slots groups octets first last old new f read.consumed (read.ended network.network.bounded)
-    network (subst (λ (i : List ℕ). StopsParts made slots 0 groups i old new f) same stops)
+    → HasGroups 0 judged runs.groups
+    → IfErr r (StopsParts runs 0 runs.groups shown old new)
+    → IfErr r (IsNetworkFault runs.made runs.slots runs.parts first last old new)
+faults_of_parts runs octets judged shown first last old new (Ok done) read is same counted stops = tt
+faults_of_parts runs octets judged shown first last old new (Err f) read is same counted stops =
+    let network = subst (λ (i : List ℕ). HasGroups 0 i runs.groups) is counted in
+    fault_of_parts runs octets first last old new f read.consumed (read.ended network.network.bounded) network
+    (subst (λ (i : List ℕ). StopsParts runs 0 runs.groups i old new f) same stops)
 
 -- a writer that had failed before takes nothing
-pub nothing_taken : (made : Product) (slots groups : ℕ) (octets judged : List ℕ) (first last old : Option (List ℕ))
+pub nothing_taken : (runs : GroupRuns) (octets judged : List ℕ) (first last old : Option (List ℕ))
     → ReadsUpTo first last octets 67108864
     → judged ≡ octets
-    → HasGroups 0 judged groups
-    → IsNetworkFault made slots first last old old fault.WriteFailed
-nothing_taken made slots groups octets judged first last old read is counted =
-    let network = subst (λ (i : List ℕ). HasGroups 0 i groups) is counted in (
+    → HasGroups 0 judged runs.groups
+    → IsNetworkFault runs.made runs.slots runs.parts first last old old fault.WriteFailed
+nothing_taken runs octets judged first last old read is counted =
+    let network = subst (λ (i : List ℕ). HasGroups 0 i runs.groups) is counted in (
       0,
       record {
         input = octets;
@@ -389,7 +386,7 @@ nothing_taken made slots groups octets judged first last old read is counted =
         read = read.consumed;
         ended = read.ended network.network.bounded;
         meant = record {
-          groups = groups;
+          groups = runs.groups;
           counted = network;
           few = omega arith;
           parts = [];
@@ -397,8 +394,6 @@ nothing_taken made slots groups octets judged first last old read is counted =
           each = tt;
           written = refl;
         };
-        taken = 0;
-        some_left = λ some. some;
-        front = Appends-nil old;
+        front = (0, λ some. some, Appends-nil old);
       },
     )

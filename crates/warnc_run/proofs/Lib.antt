@@ -3,6 +3,5 @@ pub mod Serving
 pub mod Written
 pub mod Asked
 pub mod FirstFault
-mod OneOutput
-pub mod RecordsOf
+pub mod OneOutput
 pub mod GroupParts

@@ -1,94 +1,84 @@
--- A book has one run, so one list of tapes and one report are written for it.
-use Rattle.std.proofs.Common.{◌≡◌, ℕ, ◌+◌, List, [], ◌∷◌, length, map, ap, arith, refl, sym, ◌∙◌}
-use Rattle.std.specs.List.{flat_map}
+-- A book has one run with one session, so one output is written for it, and one for each group of a network.
+use Rattle.std.proofs.Common.{◌≡◌, ℕ, ◌+◌, List, [], ◌∷◌, length, ap, arith, refl, subst, sym, ◌∙◌}
 use Rattle.bsc_table.specs.Record.{Record}
-use Rattle.cbch_blocks.specs.RecordBlocks.{tape_of_record}
+use Rattle.alert_book.specs.declared.network.Origin.{Origin}
 use Rattle.alert_book.specs.declared.network.Origin.TheVariants as origin
-use Rattle.alert_book.specs.Book.{Contents}
 use Rattle.alert_book.specs.NetworkLaws.{CountsAreOne}
 use Rattle.book_runs.specs.Live.{IsLiveRun}
 use Rattle.book_runs.specs.LiveLaws.{OneSessionIsARun}
 use Rattle.book_runs.specs.OneRun.{RunsAreOne}
 use Rattle.book_runs.specs.Run.{Exchange, IsRun}
-use Rattle.chart.specs.ChartText.{chart_text}
-use Rattle.report.specs.ReportText.{part_text}
-use Rattle.report.specs.Rows.{report_rows}
-use Rattle.warnc_run.specs.Network.{joined_parts, ArePartsFrom, IsPartOf}
-use Rattle.warnc_run.specs.OneOutput.{ChartedIsOne, CompiledIsOne, LiveOfOneIsCompiled, NetworkIsOne, ReportedIsOne}
-use Rattle.warnc_run.specs.Reported.{is_headed, reading_of_record}
-use Rattle.warnc_run.specs.declared.network.Product.{Product}
-use Rattle.warnc_run.specs.declared.network.Product.TheVariants as product
-
--- a book has one compiled output
-pub compiled_is_one : RunsAreOne → CompiledIsOne
-compiled_is_one runs from slots input output other one two =
-    let same = runs from input one.book two.book slots one.exchanges two.exchanges one.records two.records one.is_book
-    two.is_book one.run two.run in
-    one.written ∙ ap (λ (records : List Record). flat_map tape_of_record records) same.1 ∙ sym two.written
-
--- a book has one report
-pub reported_is_one : RunsAreOne → ReportedIsOne
-reported_is_one runs from slots input output other one two =
-    let same = runs from input one.book two.book slots one.exchanges two.exchanges one.records two.records one.is_book
-    two.is_book one.run two.run in
-    one.written ∙ ap (λ (records : List Record). part_text (is_headed from)
-    (report_rows records (map reading_of_record records)))
-    same.1
-    ∙ sym two.written
-
--- a book has one chart
-pub charted_is_one : RunsAreOne → ChartedIsOne
-charted_is_one runs slots wanted input output other one two =
-    let same = runs origin.Book input one.book two.book slots one.exchanges two.exchanges one.records two.records
-    one.is_book
-    two.is_book one.run two.run in
-    one.written
-    ∙ ap (λ (records : List Record). chart_text slots wanted records (map reading_of_record records)) same.1
-    ∙ sym two.written
-
--- a group has one part
-part_is_one : RunsAreOne → (made : Product) (slots group : ℕ) (input output other : List ℕ)
-    → IsPartOf made slots group input output
-    → IsPartOf made slots group input other
-    → output ≡ other
-part_is_one runs product.Tapes slots group = compiled_is_one runs (origin.Group group) slots
-part_is_one runs product.Report slots group = reported_is_one runs (origin.Group group) slots
-
--- and as many groups from one on have one list of parts
-parts_are_one : RunsAreOne → (made : Product) (slots : ℕ) (input : List ℕ) (group : ℕ) (parts others : List (List ℕ))
-    → length parts ≡ length others
-    → ArePartsFrom made slots input group parts
-    → ArePartsFrom made slots input group others
-    → parts ≡ others
-parts_are_one runs made slots input group [] [] as_many each all = refl
-parts_are_one runs made slots input group [] (other ∷ others) as_many each all = absurd (omega (arith, as_many))
-parts_are_one runs made slots input group (part ∷ parts) [] as_many each all = absurd (omega (arith, as_many))
-parts_are_one runs made slots input group (part ∷ parts) (other ∷ others) as_many each all =
-    let here = part_is_one runs made slots group input part other each.0 all.0 in
-    let later = parts_are_one runs made slots input (group + 1) parts others (omega (arith, as_many)) each.1 all.1 in
-    ap (λ (p : List ℕ). p ∷ parts) here ∙ ap (λ (ps : List (List ℕ)). other ∷ ps) later
-
--- so a network has one output, as it has one number of groups
-pub network_is_one : RunsAreOne → CountsAreOne → NetworkIsOne
-network_is_one runs counts made slots input output other one two =
-    let as_many = counts 0 0 input (length one.parts) (length two.parts) one.counted two.counted in
-    one.written
-    ∙ ap joined_parts (parts_are_one runs made slots input 0 one.parts two.parts as_many one.each two.each)
-    ∙ sym two.written
+use Rattle.warnc_run.specs.Network.{joined_parts, octets_of_group, ArePartsFrom, GroupRuns, IsPartOf}
+use Rattle.warnc_run.specs.OneOutput.{OutputIsOne}
+use Rattle.warnc_run.specs.Products.{octets_of, RunOf}
+use Rattle.warnc_run.specs.declared.run.Books.TheVariants as books
+use Rattle.warnc_run.specs.declared.product.Product.{Product}
+use Rattle.warnc_run.proofs.Written.{only}
 
 -- a run of one session is a run of the book
-one_session : OneSessionIsARun → (book : Contents) (slots : ℕ) (sessions : List (List Exchange))
-    (records : List Record) → length sessions ≡ 1 → IsLiveRun book slots sessions records
-    → (exchanges : List Exchange) × IsRun book slots exchanges records
-one_session law book slots [] records one run = absurd (omega (arith, one))
-one_session law book slots (exchanges ∷ []) records one run = (exchanges, law book slots exchanges records run)
-one_session law book slots (exchanges ∷ (more ∷ sessions)) records one run = absurd (omega (arith, one))
+pub run_of_one : OneSessionIsARun → (from : Origin) (slots : ℕ) (input : List ℕ) (records : List Record)
+    → (made : RunOf from slots 1 input records)
+    → (exchanges : List Exchange) × IsRun made.book slots exchanges records
+run_of_one law from slots input records made =
+    let session = only made.sessions made.parted in (
+      session.0,
+      law made.book slots session.0 records
+          (subst (λ (sessions : List (List Exchange)). IsLiveRun made.book slots sessions records) session.1 made.run),
+    )
 
--- a live run of one session writes what compile writes
-pub live_of_one_is_compiled : RunsAreOne → OneSessionIsARun → LiveOfOneIsCompiled
-live_of_one_is_compiled runs law from slots input output other one two =
-    let run = one_session law one.book slots one.sessions one.records one.parted one.run in
-    let same = runs from input one.book two.book slots run.0 two.exchanges one.records two.records one.is_book
-    two.is_book
-    run.1 two.run in
-    one.written ∙ ap (λ (records : List Record). flat_map tape_of_record records) same.1 ∙ sym two.written
+-- so a book has one list of records
+pub records_are_one : RunsAreOne → OneSessionIsARun → (from : Origin) (slots : ℕ) (input : List ℕ)
+    (records others : List Record)
+    → RunOf from slots 1 input records
+    → RunOf from slots 1 input others
+    → records ≡ others
+records_are_one runs law from slots input records others one two =
+    let first = run_of_one law from slots input records one in
+    let second = run_of_one law from slots input others two in
+    (runs from input one.book two.book slots first.0 second.0 records others one.is_book two.is_book first.1 second.1).1
+
+-- and a group one part
+part_is_one : RunsAreOne → OneSessionIsARun → (made : Product) (slots groups group : ℕ) (input output other : List ℕ)
+    → IsPartOf (record { made = made; slots = slots; parts = 1; groups = groups }) group input output
+    → IsPartOf (record { made = made; slots = slots; parts = 1; groups = groups }) group input other
+    → output ≡ other
+part_is_one runs law made slots groups group input output other one two =
+    one.written
+    ∙ ap (octets_of_group made slots groups group)
+    (records_are_one runs law (origin.Group group) slots input one.records two.records one.run two.run)
+    ∙ sym two.written
+
+-- and as many groups from one on have one list of parts
+parts_are_one : RunsAreOne → OneSessionIsARun → (made : Product) (slots groups : ℕ) (input : List ℕ) (group : ℕ)
+    (parts others : List (List ℕ))
+    → length parts ≡ length others
+    → ArePartsFrom (record { made = made; slots = slots; parts = 1; groups = groups }) input group parts
+    → ArePartsFrom (record { made = made; slots = slots; parts = 1; groups = groups }) input group others
+    → parts ≡ others
+parts_are_one runs law made slots groups input group [] [] as_many each all = refl
+parts_are_one runs law made slots groups input group [] (other ∷ others) as_many each all =
+    absurd (omega (arith, as_many))
+parts_are_one runs law made slots groups input group (part ∷ parts) [] as_many each all =
+    absurd (omega (arith, as_many))
+parts_are_one runs law made slots groups input group (part ∷ parts) (other ∷ others) as_many each all =
+    let here = part_is_one runs law made slots groups group input part other each.0 all.0 in
+    let later = parts_are_one runs law made slots groups input (group + 1) parts others (omega (arith, as_many)) each.1
+    all.1 in
+    ap (λ (p : List ℕ). p ∷ parts) here ∙ ap (λ (ps : List (List ℕ)). other ∷ ps) later
+
+-- a network has one number of groups, so one output
+pub output_is_one : RunsAreOne → OneSessionIsARun → CountsAreOne → OutputIsOne
+output_is_one runs law counts made (books.One from) slots input output other one two =
+    one.written
+    ∙ ap (octets_of made from slots)
+    (records_are_one runs law from slots input one.records two.records one.run two.run)
+    ∙ sym two.written
+output_is_one runs law counts made books.EachGroup slots input output other one two =
+    let same = counts 0 0 input one.groups two.groups one.counted two.counted in
+    let others = subst
+    (λ (n : ℕ). ArePartsFrom (record { made = made; slots = slots; parts = 1; groups = n }) input 0 two.parts)
+    (sym same) two.each in
+    one.written
+    ∙ ap joined_parts (parts_are_one runs law made slots one.groups input 0 one.parts two.parts
+    (one.as_many ∙ same ∙ sym two.as_many) one.each others)
+    ∙ sym two.written

@@ -29,16 +29,16 @@ use Rattle.bsc_table.specs.Promised.{IsServed, LegalHistoriesAreServed}
 use Rattle.bsc_table.specs.Record.{Record}
 use Rattle.cbch_blocks.specs.RecordBlocks.{tape_of_record}
 use Rattle.book_runs.specs.Live.{IsLiveRun, IsRunBy}
-use Rattle.book_runs.specs.LiveLaws.{LiveRunsAcceptWhatWasOrdered, LiveRunsShowTheBook, OneSessionIsARun}
-use Rattle.book_runs.specs.Ordered.{AreThoseStarted}
-use Rattle.book_runs.specs.Run.{Exchange}
+use Rattle.book_runs.specs.LiveLaws.{LiveRunsAcceptWhatWasOrdered, LiveRunsShowTheBook}
 use Rattle.warnc_run.specs.declared.fault.RunFault.{RunFault}
 use Rattle.warnc_run.specs.declared.fault.RunFault.TheVariants as run
 use Rattle.parallel_compile.specs.declared.fault.CompileFault.TheVariants as compile
-use Rattle.warnc_run.specs.Compiled.{tape_size, HasReadFrom, IsCompiledFrom, IsRunFault, IsSettleFault, IsWriteFault}
-use Rattle.warnc_run.specs.Compiled.{Makes}
-use Rattle.warnc_run.specs.Live.{IsLiveFrom}
+use Rattle.warnc_run.specs.Faults.{HasReadFrom, IsOfBook, IsOfProduct, IsRunFault, IsSettleFault, IsWriteFault}
+use Rattle.warnc_run.specs.Made.{tape_size}
+use Rattle.warnc_run.specs.Products.{IsLiveFrom, RunOf}
 use Rattle.warnc_run.specs.RunSteps.{AreTapesOf, HasNoBookToRun, HaveRunLive, IsOfTapes, StopsAtTape, TakesFront}
+use Rattle.warnc_run.specs.declared.product.Product.{Product}
+use Rattle.warnc_run.specs.declared.product.Product.TheVariants as product
 
 -- tapes, one after the other
 abbrev pub joined : List (List ℕ) → List ℕ
@@ -266,7 +266,25 @@ only [] count = absurd (omega (arith, count))
 only (x ∷ []) count = (x, refl)
 only (x ∷ (y ∷ rest)) count = absurd (omega (arith, count))
 
--- a run of several sessions of the book whose octets were read is compiled to its tapes
+-- the records of a run of the book whose octets were read
+pub run_of_book : LiveRunsShowTheBook → LiveRunsAcceptWhatWasOrdered → LegalHistoriesAreServed
+    → (from : Origin) (input : List ℕ) (book : Contents) (slots parts : ℕ) (records : List Record)
+    → slots ≤ 65535
+    → IsBookFrom from input book
+    → HaveRunLive book slots parts records
+    → RunOf from slots parts input records
+run_of_book law orders keeps from input book slots parts records few is_book live = record {
+  book = book;
+  is_book = is_book;
+  sessions = live.sessions;
+  parted = live.parted;
+  run = live.run;
+  meant = law from input book slots live.sessions records is_book few live.run;
+  accepted = orders from input book slots live.sessions records is_book live.run;
+  served = All-weaker (IsRunBy slots live.sessions) IsServed (λ r run. keeps r run.legal) records live.run.each;
+}
+
+-- its tapes
 pub made_live : LiveRunsShowTheBook → LiveRunsAcceptWhatWasOrdered → LegalHistoriesAreServed
     → (from : Origin) (input : List ℕ) (book : Contents) (slots parts : ℕ) (tapes : List (List ℕ))
     → slots ≤ 65535
@@ -274,16 +292,8 @@ pub made_live : LiveRunsShowTheBook → LiveRunsAcceptWhatWasOrdered → LegalHi
     → AreTapesOf book slots parts tapes
     → IsLiveFrom from slots parts input (joined tapes)
 made_live law orders keeps from input book slots parts tapes few is_book are = record {
-  book = book;
-  is_book = is_book;
-  sessions = are.live.sessions;
-  parted = are.live.parted;
   records = are.records;
-  run = are.live.run;
-  meant = law from input book slots are.live.sessions are.records is_book few are.live.run;
-  accepted = orders from input book slots are.live.sessions are.records is_book are.live.run;
-  served = All-weaker (IsRunBy slots are.live.sessions) IsServed (λ r run. keeps r run.legal) are.records
-      are.live.run.each;
+  run = run_of_book law orders keeps from input book slots parts are.records few is_book are.live;
   written = ap joined are.made ∙ joined_tapes are.records;
 }
 
@@ -303,61 +313,50 @@ taken_of_run law from input book slots parts tapes written old new few is_book a
     (All-weaker (IsRunBy slots are.live.sessions) (λ (r : Record). r.slots ≡ slots) (λ r run. run.run) are.records
     are.live.run.each))) taken
 
--- what one session makes of a book is what the book's session makes of it
-pub made_by_one : OneSessionIsARun → (from : Origin) (slots : ℕ) (input output : List ℕ)
-    → IsLiveFrom from slots 1 input output
-    → IsCompiledFrom from slots input output
-made_by_one one from slots input output live =
-    let session = only live.sessions live.parted in record {
-      book = live.book;
-      is_book = live.is_book;
-      exchanges = session.0;
-      records = live.records;
-      run = one live.book slots session.0 live.records
-          (subst (λ (sessions : List (List Exchange)). IsLiveRun live.book slots sessions live.records) session.1
-          live.run);
-      meant = live.meant;
-      accepted = subst (λ (exchanges : List Exchange). All (AreThoseStarted live.book exchanges) live.records)
-          (ap (flat_map (λ (exchanges : List Exchange). exchanges)) session.1 ∙ append-nil session.0) live.accepted;
-      served = live.served;
-      written = live.written;
-    }
+-- a fault of a run under way isn't the writer's, nor a wrong tape's, and is one of the tapes
+pub of_any_product : (book : Contents) (slots parts : ℕ) (made : Product) (f : RunFault) → IsOfBook book slots parts f
+    → IsOfProduct f made × IsOfTapes book slots parts f
+of_any_product book slots parts made (run.Book f) is = absurd is
+of_any_product book slots parts made (run.NoGroup groups) is = absurd is
+of_any_product book slots parts made (run.Desk f) is = (tt, is)
+of_any_product book slots parts made (run.Settle f) is = (tt, is)
+of_any_product book slots parts made (run.Compile compile.Workers) is = absurd (apart is)
+  where
+    apart : compile.Workers ≡ compile.Refused → ⊥
+    apart h = search (rules, h)
+of_any_product book slots parts made (run.Compile compile.Refused) is = (tt, λ h. search (rules, h))
+of_any_product book slots parts made (run.Compile (compile.Piece index)) is = absurd (apart is)
+  where
+    apart : compile.Piece index ≡ compile.Refused → ⊥
+    apart h = search (rules, h)
+of_any_product book slots parts made (run.Write failed) is = absurd is
+of_any_product book slots parts made run.Refused is = (tt, is)
 
--- and so are the tapes that were written, and the front of them
-pub makes_by_one : OneSessionIsARun → (from : Origin) (slots : ℕ) (first last old new : Option (List ℕ))
-    → Makes (IsLiveFrom from slots 1) first last old new
-    → Makes (IsCompiledFrom from slots) first last old new
-makes_by_one one from slots first last old new makes = record {
-  input = makes.input;
-  output = makes.output;
-  read = makes.read;
-  ended = makes.ended;
-  meant = made_by_one one from slots makes.input makes.output makes.meant;
-  appended = makes.appended;
-}
+-- nor is one of the book that was to be read
+pub of_no_product : (from : Origin) (first last : Option (List ℕ)) (made : Product) (f : RunFault)
+    → HasNoBookToRun from first last f
+    → IsOfProduct f made
+of_no_product from first last made (run.Book f) is = tt
+of_no_product from first last made (run.NoGroup groups) is = tt
+of_no_product from first last made (run.Desk f) is = absurd is
+of_no_product from first last made (run.Settle f) is = absurd is
+of_no_product from first last made (run.Compile f) is = absurd is
+of_no_product from first last made (run.Write failed) is = absurd is
+of_no_product from first last made run.Refused is = absurd is
 
--- and the faults
-pub fault_by_one : OneSessionIsARun → (from : Origin) (slots : ℕ) (first last old new : Option (List ℕ))
-    (fault : RunFault)
-    → IsRunFault from slots 1 (IsLiveFrom from slots 1) first last old new fault
-    → IsRunFault from slots 1 (IsCompiledFrom from slots) first last old new fault
-fault_by_one one from slots first last old new (run.Book f) is = is
-fault_by_one one from slots first last old new (run.NoGroup groups) is = is
-fault_by_one one from slots first last old new (run.Desk f) is = is
-fault_by_one one from slots first last old new (run.Settle f) is = is
-fault_by_one one from slots first last old new (run.Compile f) is = is
-fault_by_one one from slots first last old new run.Refused is = is
-fault_by_one one from slots first last old new (run.Write failed) is = record {
-  input = is.input;
-  output = is.output;
-  read = is.read;
-  ended = is.ended;
-  meant = made_by_one one from slots is.input is.output is.meant;
-  whole = is.whole;
-  under_way = is.under_way;
-  some_left = is.some_left;
-  front = is.front;
-}
+-- any fault of tapes is one of that product
+pub of_tapes : (book : Contents) (slots parts : ℕ) (old new : Option (List ℕ)) (f : RunFault)
+    → StopsAtTape book slots parts old new f
+    → IsOfProduct f product.Tapes
+of_tapes book slots parts old new (run.Book f) is = absurd is
+of_tapes book slots parts old new (run.NoGroup groups) is = absurd is
+of_tapes book slots parts old new (run.Desk f) is = tt
+of_tapes book slots parts old new (run.Settle f) is = tt
+of_tapes book slots parts old new (run.Compile compile.Workers) is = absurd (is refl)
+of_tapes book slots parts old new (run.Compile compile.Refused) is = tt
+of_tapes book slots parts old new (run.Compile (compile.Piece index)) is = tt
+of_tapes book slots parts old new (run.Write failed) is = tt
+of_tapes book slots parts old new run.Refused is = tt
 
 -- a fault of the run of a book whose octets were read, with nothing written
 pub fault_of_run : (from : Origin) (slots parts : ℕ) (Means : (input output : List ℕ) → Type 0)

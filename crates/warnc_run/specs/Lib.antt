@@ -1,10 +1,10 @@
-pub mod Compiled
-pub mod Live
+pub mod Products
+pub mod Made
+pub mod Faults
 pub mod Records
-pub mod Reported
-pub mod Charted
 pub mod Groups
-pub mod RunSteps
-pub mod OneOutput
 pub mod Network
+pub mod Engine
+pub mod RunSteps
 pub mod NetworkSteps
+pub mod OneOutput

@@ -10,17 +10,15 @@ use Rattle.bsc_table.specs.Record.{Record}
 use Rattle.cbch_blocks.specs.RecordBlocks.{tape_of_record}
 use Rattle.book_runs.specs.Live.{IsLiveRun}
 use Rattle.book_runs.specs.Run.{Exchange}
-use Rattle.handset.specs.Tape.{TapeReading}
+use Rattle.chart.specs.ChartText.{chart_part, chart_text}
 use Rattle.parallel_compile.specs.declared.fault.CompileFault.TheVariants as compile
-use Rattle.report.specs.Rows.{report_rows}
-use Rattle.report.specs.declared.row.Row.{Row}
-use Rattle.report.specs.declared.fault.ReportFault.TheVariants as report
-use Rattle.warnc_run.specs.Compiled.{IsOfBook, IsOfRun}
-use Rattle.warnc_run.specs.Reported.{reading_of_record}
+use Rattle.report.specs.ReportText.{part_text}
+use Rattle.warnc_run.specs.Faults.{IsOfBook}
+use Rattle.warnc_run.specs.Products.{own_rows, reading_of_record}
 use Rattle.warnc_run.specs.declared.fault.RunFault.{RunFault}
 use Rattle.warnc_run.specs.declared.fault.RunFault.TheVariants as fault
-use Rattle.warnc_run.specs.declared.report_run.ReportRunFault.{ReportRunFault}
-use Rattle.warnc_run.specs.declared.report_run.ReportRunFault.TheVariants as reports
+use Rattle.warnc_run.specs.declared.text.Text.{Text}
+use Rattle.warnc_run.specs.declared.text.Text.TheVariants as text
 
 -- a book, or a group's
 abbrev pub IsSomeBook : Contents → Type 0
@@ -53,16 +51,6 @@ pub record TakesFront (tapes : List (List ℕ)) (written : ℕ) (old new : Optio
   pub appended : Appends old new
       (flat_map (λ (tape : List ℕ). tape) (take place tapes) ++ take written (slice_index_or tapes place []))
 
--- a fault of the readings of tapes: of threads, or of memory
-abbrev pub IsOfReport : ReportRunFault → Type 0
-IsOfReport (reports.Run f) = IsOfRun f
-IsOfReport (reports.Report f) = f ≡ report.Refused
-
--- a fault of the report of a book under way: of the book's run, or of memory
-abbrev pub IsOfBookReport : (book : Contents) (slots : ℕ) → ReportRunFault → Type 0
-IsOfBookReport book slots (reports.Run f) = IsOfBook book slots 1 f
-IsOfBookReport book slots (reports.Report f) = f ≡ report.Refused
-
 -- the records of a run of a book with a session for each part
 pub record HaveRunLive (book : Contents) (slots parts : ℕ) (records : List Record) : Type 0 where
   pub sessions : List (List Exchange)
@@ -92,18 +80,15 @@ abbrev pub StopsAtTape : (book : Contents) (slots parts : ℕ) (old new : Option
 StopsAtTape book slots parts old new (fault.Write failed) = HasWrittenFront book slots parts failed.written old new
 StopsAtTape book slots parts old new other = IsOfTapes book slots parts other
 
--- these are the records of such a run of one session, and what handsets read of their blocks
-pub record AreReadings (book : Contents) (slots : ℕ) (records : List Record) (readings : List TapeReading) : Type 0
-  where
-    pub live : HaveRunLive book slots 1 records
-    pub read : readings ≡ map reading_of_record records
+-- the octets of a text that is made of the records of a run
+abbrev pub octets_of_text : Text → (slots : ℕ) → List Record → List ℕ
+octets_of_text (text.Report headed) slots records = part_text headed (own_rows records)
+octets_of_text (text.Chart wanted) slots records = chart_text slots wanted records (map reading_of_record records)
+octets_of_text (text.ChartPart group last wanted) slots records =
+    chart_part slots group last wanted records (map reading_of_record records)
 
--- the rows of records by what handsets read of their blocks
-abbrev pub own_rows : List Record → List Row
-own_rows records = report_rows records (map reading_of_record records)
-
--- these are the rows of the report of a run of one session
-pub record AreReportRows (book : Contents) (slots : ℕ) (rows : List Row) : Type 0 where
+-- this is such a text of such a run
+pub record IsTextOf (made : Text) (book : Contents) (slots parts : ℕ) (octets : List ℕ) : Type 0 where
   pub records : List Record
-  pub live : HaveRunLive book slots 1 records
-  pub made : rows ≡ own_rows records
+  pub live : HaveRunLive book slots parts records
+  pub made_of : octets ≡ octets_of_text made slots records

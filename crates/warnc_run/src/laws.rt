@@ -1,24 +1,14 @@
 //! Laws of what is written.
 
-ghost use Rattle.warnc_run.specs.OneOutput.{ChartedIsOne, CompiledIsOne, LiveOfOneIsCompiled, NetworkIsOne};
-ghost use Rattle.warnc_run.specs.OneOutput.{ReportedIsOne};
+ghost use Rattle.warnc_run.specs.OneOutput.{OutputIsOne};
 
-/// States, as its contract, that what is written for a book is a function of the book's octets and of the number of
-/// slots. Does nothing: its body names the laws that carry it.
+/// States, as its contract, that what is written of a run with one session is a function of the octets that were read
+/// and of the number of slots. With more sessions, in which order they come to a cell is chance, and the tapes may
+/// differ. Does nothing: its body names the laws that carry it.
 pub fn output_laws()
-    // The tapes are the same whatever the number of workers, the machine and the day.
-    ensures compiled { CompiledIsOne }
-
-    // And so are the report and the chart.
-    ensures reported { ReportedIsOne }
-    ensures charted { ChartedIsOne }
-
-    // And so is what is written of all groups of a network.
-    ensures network { NetworkIsOne }
-
-    // With one session, `live` writes the tapes that `compile` writes. With more, in which order they come to a cell is
-    // chance, and the tapes may differ.
-    ensures live { LiveOfOneIsCompiled }
+    // Tapes, reports and charts, of a book, of a group and of a network, are the same whatever the number of workers,
+    // the machine and the day.
+    ensures { OutputIsOne }
 {
     alert_book::network_laws();
     book_runs::one_run_law();

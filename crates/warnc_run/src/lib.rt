@@ -1,45 +1,40 @@
-//! The engines of the commands `compile`, `live`, `report` and `chart`, from a reader to a writer: a book of alerts to
-//! the tapes of its cells, to the report of them, or to their chart.
+//! The engine of all commands over a book, from a reader to a writer: which books are run, how, and what is made of
+//! them.
 //!
-//! [`live_stream`] reads all of the book, has the cells of a desk carry out what its sessions order, each in a thread
-//! of its own, has workers play the cells to their ends and hand on their pages, of which it puts the tapes together
-//! while the desk is open, settles the desk, compares the tapes with the records, and writes them. One worker hands on
-//! nothing: each tape is made of its record when it is written. [`compile_stream`] is that with one session, and
-//! [`report_stream`] makes the tapes of one session's records, reads them and writes what became of each order, which
-//! [`chart_stream`] draws.
-//! [`compile_from`], [`live_from`] and [`report_from`] do the same for a group of a network book, and
-//! [`network_stream`] does it for all groups. What was written is said by definitions of the book's octets alone
-//! (`IsCompiled`, `IsLive`, `IsReported`, `IsCharted`), which know of no worker: which orders each cell answered, at
-//! which slot, and what a handset shows that reads its tape.
+//! [`run_product`] reads a book, or a network book for one of its groups or for all, has the cells of a desk carry out
+//! what its sessions order, each in a thread of its own, settles the desk, and writes what is to be made of the cells'
+//! records: their tapes, the report of what became of each order, or their chart. Several workers play the cells and
+//! hand on their pages, of which the tapes are put together while the desk is open, and compared with the records when
+//! it is settled; one worker hands on nothing: each tape is made of its record when it is written.
+//! [`live_stream`] and [`compile_stream`] are that for the tapes of a book, and [`run_book`] gives the records.
+//!
+//! What was written is said by definitions of the book's octets alone (`IsMadeBy`), which know of no worker: which
+//! orders each cell answered, at which slot, and what a handset shows that reads its tape.
 #![tactic(auto)]
 
 mod book;
-pub mod chart_run;
-pub mod compile;
-pub mod counts;
-pub mod fault;
+mod fault;
 mod finish;
-pub mod groups;
+mod groups;
 mod laws;
-pub mod live;
-pub mod network;
+mod live;
+mod network;
 mod output;
 mod parts;
+pub mod product;
 mod records;
-pub mod report_run;
+mod run;
 mod session;
 mod sessions;
 mod settled;
 mod tapes;
+mod text;
 mod workers;
 
-pub use chart_run::chart_stream;
-pub use compile::{compile_from, compile_stream};
-pub use counts::{Sessions, Workers};
 pub use fault::RunFault;
-pub use groups::{GroupsFault, groups_stream};
+pub use groups::groups_stream;
 pub use laws::output_laws;
-pub use live::{live_from, live_stream};
-pub use network::{NetworkFault, Product, network_stream};
+pub use live::{compile_stream, live_stream};
+pub use product::{Product, ProductFault, run_product};
 pub use records::run_book;
-pub use report_run::{ReportRunFault, report_from, report_stream};
+pub use run::{Books, Run, Sessions, Workers};

@@ -1,23 +1,66 @@
-//! The command `live`: a book of alerts, whose parts are ordered side by side, to the tapes of its cells.
+//! The engines whose tapes a contract of its own describes: a book of alerts, whose parts are ordered side by side, to
+//! the tapes of its cells.
 
 ghost use Rattle.std.specs.Prelude.{◌≡◌, ◌↔◌, ◌<◌, ◌≤◌, IfErr, IsErrOf, OnOk};
 ghost use Rattle.device_ends.specs.Stream.{Between, FaultBetween};
 ghost use Rattle.parallel_compile.specs.declared.fault.CompileFault.TheVariants as compile;
-ghost use Rattle.warnc_run.specs.Compiled.{AreWorkers, IsMade, IsPieceFault, IsRunAtEnds, IsUnmade, Makes};
-ghost use Rattle.warnc_run.specs.Live.{IsLive, IsLiveFault, IsLiveFaultFrom, IsLiveFrom};
+ghost use Rattle.warnc_run.specs.Faults.{AreWorkers, IsCompileRunFault, IsLiveFault, IsOfProduct, IsPieceFault};
+ghost use Rattle.warnc_run.specs.Faults.{IsRunAtEnds, IsRunFault};
+ghost use Rattle.warnc_run.specs.Made.{IsMade, IsUnmade, Makes};
+ghost use Rattle.warnc_run.specs.Products.{IsCompiled, IsLive, IsLiveFrom};
 ghost use Rattle.warnc_run.specs.declared.fault.RunFault.TheVariants as faults;
+ghost use Rattle.warnc_run.specs.declared.product.Product.TheVariants as product;
 
 use crate::book::book_from;
-use crate::counts::{Sessions, Workers};
+use crate::run::{Sessions, Workers};
 use crate::fault::RunFault;
 use crate::output::write_run;
 use alert_book::Origin;
 use device_ends::{Sink, Source};
-use order_desk::Gate;
+use order_desk::{Gate, Open};
 use parallel_compile::CompileFault;
+use std::alloc::AllocGlobal;
 use std::io::{Read, Write};
 use std::sync::Wait;
 use std::thread::Threads;
+
+/// Reads a book, and has the cells of a desk carry out what its one session orders, in runs of `slots` slots, as
+/// [`live_stream`] does with one session: `workers` workers, 1 to 64, play the cells.
+///
+/// What was written is what the book means (`IsCompiled`): there is one session, whose messages are those of the book's
+/// rows by the replies that it gets; each cell's log has what the messages order of it, in order, once each and nothing
+/// else, each at the least slot that is neither before its message's nor before the entry before it; and all else is as
+/// for several sessions.
+///
+/// # Errors
+///
+/// Returns the faults of [`live_stream`].
+pub fn compile_stream<T: AllocGlobal + Threads + Wait + Sync, R: Read, W: Write>(
+    rt: &T,
+    source: &mut Source<R>,
+    sink: &mut Sink<W>,
+    slots: u16,
+    workers: u64,
+) -> Result<(), RunFault>
+    ensures ok { OnOk result (Between R.remaining W.contents (Makes (IsCompiled slots)) source.old source.new sink.old
+        sink.new) }
+    ensures err { IfErr result (FaultBetween R.remaining W.contents (IsCompileRunFault slots) source.old source.new
+        sink.old sink.new) }
+
+    // The number of workers is judged first, and nothing is done if it is wrong.
+    ensures workers { IsErrOf result (faults.Compile compile.Workers) ↔ (AreWorkers workers → ⊥) }
+    ensures untried { IsErrOf result (faults.Compile compile.Workers)
+        → (source.new ≡ source.old) × (sink.new ≡ sink.old) }
+
+    // One worker sends no pages, so no tape of its is another record's.
+    ensures no_piece { workers ≡ 1 → IfErr result (λ fault. IsPieceFault fault → ⊥) }
+
+    // At any reader and any writer.
+    ensures any_ends { AreWorkers workers
+        → IsRunAtEnds result W.contents source.old source.new sink.old sink.new }
+{
+    live_stream(rt, source, sink, slots, 1, workers, &Open)
+}
 
 /// Reads a book, and has the cells of a desk carry out what the sessions of its parts order, in runs of `slots` slots:
 /// there are `sessions` of them, 1 to 64, each in a thread of its own with a pass of its own. Once they have ended,
@@ -72,7 +115,11 @@ pub fn live_stream<T: AllocGlobal + Threads + Wait + Sync, R: Read, W: Write, G:
     ensures any_ends { AreWorkers workers
         → IsRunAtEnds result W.contents source.old source.new sink.old sink.new }
 {
-    live_from(
+    let Some(workers) = Workers::new(workers) else {
+        return Err(RunFault::Compile(CompileFault::Workers));
+    };
+    let sessions = Sessions { number: sessions };
+    write_tapes_from(
         rt,
         source,
         sink,
@@ -84,50 +131,35 @@ pub fn live_stream<T: AllocGlobal + Threads + Wait + Sync, R: Read, W: Write, G:
     )
 }
 
-/// Does for the book that it reads, or for the book of a group of the network book, what
-/// [`live_stream`](crate::live_stream) does for a book.
+/// Does for the book that it reads, or for the book of a group of the network book, what [`live_stream`] does for a
+/// book.
 ///
 /// # Errors
 ///
-/// Returns the faults of [`live_stream`](crate::live_stream), and [`RunFault::NoGroup`] with nothing written.
-pub fn live_from<T: AllocGlobal + Threads + Wait + Sync, R: Read, W: Write, G: Gate>(
+/// Returns the faults of [`live_stream`], and [`RunFault::NoGroup`] with nothing written.
+pub(crate) fn write_tapes_from<T: AllocGlobal + Threads + Wait + Sync, R: Read, W: Write, G: Gate>(
     rt: &T,
     source: &mut Source<R>,
     sink: &mut Sink<W>,
     origin: Origin,
     slots: u16,
-    sessions: u16,
-    workers: u64,
+    sessions: Sessions,
+    workers: Workers,
     gate: &G,
 ) -> Result<(), RunFault>
-    requires some { 0 < sessions }
-    requires few { sessions ≤ 64 }
-    ensures ok { IsMade result R.remaining W.contents (IsLiveFrom origin slots sessions) source.old source.new sink.old
-        sink.new }
-    ensures err { IsUnmade result R.remaining W.contents (IsLiveFaultFrom origin slots sessions) source.old source.new
+    ensures ok { IsMade result R.remaining W.contents (IsLiveFrom origin slots sessions.number) source.old source.new
         sink.old sink.new }
-
-    // The number of workers is judged first, and nothing is done if it is wrong.
-    ensures workers { IsErrOf result (faults.Compile compile.Workers) ↔ (AreWorkers workers → ⊥) }
-    ensures untried { IsErrOf result (faults.Compile compile.Workers)
-        → (source.new ≡ source.old) × (sink.new ≡ sink.old) }
-
-    // One worker sends no pages, so no tape of its is another record's.
-    ensures no_piece { workers ≡ 1 → IfErr result (λ fault. IsPieceFault fault → ⊥) }
-
-    // At any reader and any writer.
-    ensures any_ends { AreWorkers workers
-        → IsRunAtEnds result W.contents source.old source.new sink.old sink.new }
+    ensures err { IsUnmade result R.remaining W.contents (IsRunFault origin slots sessions.number
+        (IsLiveFrom origin slots sessions.number)) source.old source.new sink.old sink.new }
+    ensures of_tapes { IfErr result (λ fault. IsOfProduct fault product.Tapes) }
+    ensures no_piece { workers.number ≡ 1 → IfErr result (λ fault. IsPieceFault fault → ⊥) }
+    ensures any_ends { IsRunAtEnds result W.contents source.old source.new sink.old sink.new }
 {
     // A handset is shown what the book means, whatever the cells answered, and whichever session came first; and each
     // cell keeps the guarantee.
     book_runs::session_laws();
     bsc_table::legal_histories();
-    let Some(workers) = Workers::new(workers) else {
-        return Err(RunFault::Compile(CompileFault::Workers));
-    };
     let book = book_from(rt, source, origin)?;
-    let sessions = Sessions { number: sessions };
     write_run(rt, book, sink, slots, sessions, workers, gate)?;
     Ok(())
 }

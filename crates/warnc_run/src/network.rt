@@ -1,98 +1,78 @@
-//! The commands `compile --network` and `report --network`: a network book to the parts of all its groups.
+//! A network book to the parts of all its groups.
 
-ghost use Rattle.std.specs.Prelude.{◌≡◌, ◌↔◌, false, true, IfErr, IfOk, IsErrOf, IsTrue, OnOk};
+ghost use Rattle.std.specs.Prelude.{◌≡◌, ◌↔◌, ◌≤◌, false, true, IfErr, IfOk, IsErrOf, IsTrue, OnOk};
 ghost use Rattle.device_ends.specs.Moves.{ReadsUpTo};
 ghost use Rattle.device_ends.specs.Source.{reader_of, source_failed};
 ghost use Rattle.alert_book.specs.Book.{unread};
 ghost use Rattle.alert_book.specs.Network.{RefusesNetwork};
-ghost use Rattle.warnc_run.specs.Compiled.{IsMade, IsUnmade};
-ghost use Rattle.warnc_run.specs.Network.{IsNetworkAtEnds, IsNetworkFault, IsOfNetwork};
-ghost use Rattle.warnc_run.specs.declared.network.NetworkFault.TheVariants as faults;
+ghost use Rattle.warnc_run.specs.Engine.{IsEngineAtEnds};
+ghost use Rattle.warnc_run.specs.Made.{IsMade, IsUnmade};
+ghost use Rattle.warnc_run.specs.Network.{IsNetworkFault, IsOfNetwork};
 
-use crate::counts::Workers;
+use crate::run::{Run, Sessions};
 use crate::fault::RunFault;
-use crate::parts::{Network, write_groups};
+use crate::parts::write_groups;
+use crate::product::{Product, ProductFault};
 use alert_book::{BookFault, BookFaultKind, MAX_NETWORK, groups_in};
 use device_ends::{ReadFault, Sink, Source, read_up_to};
 use std::alloc::{AllocGlobal, Global};
 use std::io::{Read, Write};
 use std::sync::Wait;
 use std::thread::Threads;
-use thiserror::Error;
 
-/// What is made of each group of a network.
-#[derive(Clone, Copy, Debug, PartialEq, Eq)]
-pub enum Product {
-    /// The tapes of its cells.
-    Tapes,
-    /// The report of them; that of the first group begins with the line of the columns' names.
-    Report,
+/// A network book whose groups are run, each by itself and by one worker.
+#[derive(Clone, Copy)]
+pub(crate) struct Network<'a> {
+    pub(crate) octets: &'a [u8],
+    pub(crate) groups: u16,
+    pub(crate) made: Product,
+    pub(crate) slots: u16,
+    pub(crate) sessions: Sessions,
+    pub(crate) ghost few_groups: { groups ≤ 65535 },
+    pub(crate) ghost few_slots: { slots ≤ 65535 },
 }
 
-/// Why the parts of a network's groups aren't all written.
-#[derive(Clone, Copy, Debug, PartialEq, Eq, Error)]
-pub enum NetworkFault {
-    /// The network book can't be read, or is refused.
-    #[error("{0}")]
-    Network(BookFault),
-    /// The run of a group's book ended early, or was out of memory. The parts of the groups before it are out.
-    #[error("group {group}: {fault}")]
-    Group {
-        /// The number of the group, from 0.
-        group: u16,
-        /// Why its run ended.
-        fault: RunFault,
-    },
-    /// The writer failed. A front of the parts is out.
-    #[error("write failed")]
-    WriteFailed,
-}
-
-/// Reads a network book, runs the book of each of its groups as [`compile_from`](crate::compile_from) and
-/// [`report_from`](crate::report_from) do, `workers` of them side by side, and writes the parts of the groups in their
-/// order, a few at a time: the tapes of as many groups as there are workers, or the reports of eight times as many.
-///
-/// What was written is the network's (`IsOfNetwork`): the part of each group, one after the other. It does not depend
-/// on the number of workers.
+/// Reads a network book, runs the book of each of its groups by itself and by one worker, as many of them side by side
+/// as there are workers, and writes the parts of the groups in their order, a few at a time: the tapes of as many groups
+/// as there are workers, or the texts of eight times as many.
 ///
 /// # Errors
 ///
-/// [`NetworkFault::Network`] with the fault of the network book and nothing written, [`NetworkFault::Group`] with the
-/// first group that has no part, after those before it are written, and [`NetworkFault::WriteFailed`] with a front of
-/// the parts of the first groups, and not all of them. The fault of a group is one that the run of its book by one
-/// worker has, or `Refused`.
-pub fn network_stream<T: AllocGlobal + Threads + Wait + Sync, R: Read, W: Write>(
+/// Those that [`run_product`](crate::run_product) names for a network.
+pub(crate) fn write_network<T: AllocGlobal + Threads + Wait + Sync, R: Read, W: Write>(
     rt: &T,
     source: &mut Source<R>,
     sink: &mut Sink<W>,
+    run: &Run,
     made: Product,
-    slots: u16,
-    workers: Workers,
-) -> Result<(), NetworkFault>
-    ensures ok { IsMade result R.remaining W.contents (IsOfNetwork made slots) source.old source.new sink.old sink.new }
-    ensures err { IsUnmade result R.remaining W.contents (IsNetworkFault made slots) source.old source.new sink.old
-        sink.new }
+) -> Result<(), ProductFault>
+    ensures ok { IsMade result R.remaining W.contents (IsOfNetwork made run.now.slots run.now.sessions.number) source.old
+        source.new sink.old sink.new }
+    ensures err { IsUnmade result R.remaining W.contents (IsNetworkFault made run.now.slots run.now.sessions.number)
+        source.old source.new sink.old sink.new }
 
     // At any reader and any writer.
-    ensures any_ends { IsNetworkAtEnds result W.contents source.old source.new sink.old sink.new }
+    ensures any_ends { IsEngineAtEnds result W.contents source.old source.new sink.old sink.new }
 {
     let octets = match octets_of_network(rt.alloc(), source) {
         Ok(octets) => octets,
-        Err(fault) => return Err(NetworkFault::Network(fault)),
+        Err(fault) => return Err(ProductFault::Run(RunFault::Book(fault))),
     };
     let groups = match groups_in(rt, &octets) {
         Ok(groups) => groups,
-        Err(fault) => return Err(NetworkFault::Network(fault)),
+        Err(fault) => return Err(ProductFault::Run(RunFault::Book(fault))),
     };
     if sink.failed() {
-        return Err(NetworkFault::WriteFailed);
+        return Err(ProductFault::WriteFailed);
     }
     let network = Network {
         octets: &octets,
         groups,
-        slots,
+        made,
+        slots: run.slots,
+        sessions: run.sessions,
     };
-    write_groups(rt, &network, made, workers, sink)
+    write_groups(rt, &network, run.workers, sink)
 }
 
 /// Reads octets to their end, or one more than a network book may have.

@@ -2,10 +2,10 @@
 
 ghost use Rattle.std.specs.Prelude.{◌≡◌, false, true, IfErr, OnOk};
 ghost use Rattle.device_ends.specs.Sink.{sink_failed, writer_of};
-ghost use Rattle.warnc_run.specs.Compiled.{IsPieceFault, IsWriteFault};
+ghost use Rattle.warnc_run.specs.Faults.{IsPieceFault, IsWriteFault};
 ghost use Rattle.warnc_run.specs.RunSteps.{HasWritten, IsSomeBook, StopsAtTape};
 
-use crate::counts::{Sessions, Workers};
+use crate::run::{Sessions, Workers};
 use crate::fault::RunFault;
 use crate::finish::{write_in_turn, write_tapes};
 use crate::tapes::{records_after, tapes_by_several};

@@ -1,49 +1,43 @@
 //! The parts of a network's groups: made side by side, and written in order.
 
-ghost use Rattle.std.specs.Prelude.{◌≡◌, ◌+◌, ◌-◌, ◌<◌, ◌≤◌, false, true, is_err, length, min, vec_len, All, IfErr};
+ghost use Rattle.std.specs.Prelude.{◌≡◌, ◌+◌, ◌-◌, ◌<◌, ◌≤◌, false, true, is_err, length, min, vec_len, All, IfErr, List};
 ghost use Rattle.std.specs.Prelude.{IfOk, OnErr, OnOk};
 ghost use Rattle.std.specs.Io.KnownBytes.{Appends};
 ghost use Rattle.device_ends.specs.Sink.{sink_failed, writer_of};
 ghost use Rattle.alert_book.specs.Network.{HasGroups, IsGroupBook};
-ghost use Rattle.warnc_run.specs.Network.{joined_parts, HasNoPart, IsPartOf};
-ghost use Rattle.warnc_run.specs.NetworkSteps.{groups_together, is_of_writer, octets_of_part, AreMadeFrom};
+ghost use Rattle.bsc_table.specs.Record.{Record};
+ghost use Rattle.warnc_run.specs.Engine.{IsText};
+ghost use Rattle.warnc_run.specs.Network.{joined_parts, octets_of_group};
+ghost use Rattle.warnc_run.specs.NetworkSteps.{groups_together, is_of_writer, octets_of_part, runs_of, AreMadeFrom};
 ghost use Rattle.warnc_run.specs.NetworkSteps.{HasNoEmptyTape, IsMadeOf, IsWritten, StopsAt, StopsParts};
 ghost use Rattle.warnc_run.specs.NetworkSteps.{WritesFrontOf, WritesParts};
+ghost use Rattle.warnc_run.specs.RunSteps.{octets_of_text};
 ghost use Rattle.warnc_run.specs.declared.fault.RunFault.TheVariants as faults;
 
-use crate::counts::Workers;
+use crate::run::Workers;
 use crate::fault::RunFault;
 use crate::finish::write_tapes;
-use crate::network::{NetworkFault, Product};
-use crate::report_run::{ReportRunFault, is_headed, rows_of_book};
+use crate::network::Network;
+use crate::product::{Product, ProductFault};
 use crate::tapes::tapes_by_one;
-use alert_book::{Book, BookFault, BookFaultKind, GroupFault, Origin, group_in};
+use crate::text::{Text, text_of_book};
+use alert_book::{Book, BookFault, BookFaultKind, GroupFault, group_in};
 use cbch_blocks::Tape;
 use device_ends::{Failed, Sink, write_all};
-use report::text_of;
+use order_desk::Open;
 use std::alloc::{AllocError, AllocGlobal, Global};
 use std::io::Write;
 use std::sync::Wait;
 use std::thread;
 use std::thread::Threads;
 
-/// A network book whose groups are run, each by itself and by one worker.
-#[derive(Clone, Copy)]
-pub(crate) struct Network<'a> {
-    pub(crate) octets: &'a [u8],
-    pub(crate) groups: u16,
-    pub(crate) slots: u16,
-    pub(crate) ghost few_groups: { groups ≤ 65535 },
-    pub(crate) ghost few_slots: { slots ≤ 65535 },
-}
-
 /// The part of a group, before it is written.
 #[derive(Drop)]
 enum Part {
     /// The tapes of its cells.
     Tapes(Vec<Tape>),
-    /// The text of its report.
-    Report(Vec<u8>),
+    /// The text that is made of them.
+    Text(Vec<u8>),
 }
 
 impl Part {
@@ -59,12 +53,12 @@ impl Part {
     {
         match self {
             Part::Tapes(tapes) => write_all_tapes(tapes, sink),
-            Part::Report(text) => write_text(text, sink),
+            Part::Text(text) => write_text(text, sink),
         }
     }
 }
 
-/// Writes the text of a report. That of a later group in which no cell was asked anything is empty, and is not written.
+/// Writes a text. That of a later group in which no cell was asked anything, or is drawn, is empty, and is not written.
 fn write_text<W: Write>(text: &[u8], sink: &mut Sink<W>) -> Result<(), Failed>
     requires open { sink_failed sink.old ≡ false }
     ensures ok { OnOk result (Appends (W.contents (writer_of sink.old)) (W.contents (writer_of sink.new)) text.now) }
@@ -121,64 +115,72 @@ impl Network<'_> {
         }
     }
 
+    /// The text that is made of a group.
+    fn text(&self, group: u16) -> Text
+        requires text { IsText self.now.made }
+        requires there { group < self.now.groups }
+        ensures { (records : List Record) → octets_of_text result self.now.slots records
+            ≡ octets_of_group self.now.made self.now.slots self.now.groups group records }
+    {
+        match self.made {
+            Product::Tapes => unreachable!(),
+            Product::Report => Text::Report(group == 0),
+            Product::Chart(wanted) => Text::ChartPart(group, group + 1 == self.groups, wanted),
+        }
+    }
+
     /// The tapes of a group's cells.
-    fn tapes<T: AllocGlobal + Threads + Wait + Sync>(
+    fn tapes_part<T: AllocGlobal + Threads + Wait + Sync>(
         &self,
         rt: &T,
         group: u16,
     ) -> Result<Part, RunFault>
+        requires tapes { self.now.made ≡ Product.Tapes }
         requires there { group < self.now.groups }
         requires counted { HasGroups 0 self.now.octets.now self.now.groups }
-        ensures { IsMadeOf Product.Tapes self.now.slots group self.now.octets.now result }
+        ensures { IsMadeOf (runs_of self.now) group self.now.octets.now result }
     {
-        // A handset is shown what the book means, a run of one session is a run of the book, and each cell keeps the
-        // guarantee.
+        // A handset is shown what the book means, and each cell keeps the guarantee.
         book_runs::session_laws();
         bsc_table::legal_histories();
         let book = self.book(rt, group)?;
-        let tapes = tapes_by_one(rt, book, self.slots)?;
+        let tapes = tapes_by_one(rt, book, self.slots, self.sessions)?;
         Ok(Part::Tapes(tapes))
     }
 
-    /// The text of a group's report.
-    fn report<T: AllocGlobal + Threads + Wait + Sync>(
+    /// The text of a group's cells.
+    fn text_part<T: AllocGlobal + Threads + Wait + Sync>(
         &self,
         rt: &T,
         group: u16,
     ) -> Result<Part, RunFault>
+        requires text { IsText self.now.made }
         requires there { group < self.now.groups }
         requires counted { HasGroups 0 self.now.octets.now self.now.groups }
-        ensures { IsMadeOf Product.Report self.now.slots group self.now.octets.now result }
+        ensures { IsMadeOf (runs_of self.now) group self.now.octets.now result }
     {
-        // A handset is shown what the book means, whatever the cells answered.
-        book_runs::run_laws();
-        book_runs::order_laws();
         book_runs::session_laws();
+        bsc_table::legal_histories();
         let book = self.book(rt, group)?;
+        let text = self.text(group);
         let alone = Workers { number: 1 };
-        let rows = match rows_of_book(rt, book, self.slots, alone) {
-            Ok(rows) => rows,
-            Err(ReportRunFault::Run(fault)) => return Err(fault),
-            Err(ReportRunFault::Report(_)) => return Err(RunFault::Refused),
-        };
-        let text = text_of(rt.alloc(), is_headed(Origin::Group(group)), &rows)?;
-        Ok(Part::Report(text))
+        let octets = text_of_book(rt, book, text, self.slots, self.sessions, alone, &Open)?;
+        Ok(Part::Text(octets))
     }
 
     /// The part of a group.
     fn part<T: AllocGlobal + Threads + Wait + Sync>(
         &self,
         rt: &T,
-        made: Product,
         group: u16,
     ) -> Result<Part, RunFault>
         requires there { group < self.now.groups }
         requires counted { HasGroups 0 self.now.octets.now self.now.groups }
-        ensures { IsMadeOf made self.now.slots group self.now.octets.now result }
+        ensures { IsMadeOf (runs_of self.now) group self.now.octets.now result }
     {
-        match made {
-            Product::Tapes => self.tapes(rt, group),
-            Product::Report => self.report(rt, group),
+        match self.made {
+            Product::Tapes => self.tapes_part(rt, group),
+            Product::Report | Product::Chart(_) => self.text_part(rt, group),
         }
     }
 
@@ -186,7 +188,6 @@ impl Network<'_> {
     fn parts_from<T: AllocGlobal + Threads + Wait + Sync>(
         &self,
         rt: &T,
-        made: Product,
         first: u16,
         count: u16,
         workers: Workers,
@@ -194,7 +195,7 @@ impl Network<'_> {
         requires few { first + count ≤ self.now.groups }
         requires counted { HasGroups 0 self.now.octets.now self.now.groups }
         ensures count { IfOk result (λ all. length all.items ≡ count) }
-        ensures each { IfOk result (λ all. AreMadeFrom made self.now.slots first self.now.octets.now all.items) }
+        ensures each { IfOk result (λ all. AreMadeFrom (runs_of self.now) first self.now.octets.now all.items) }
     {
         let network = *self;
         let mut all = none_yet(rt.alloc(), count)?;
@@ -205,9 +206,9 @@ impl Network<'_> {
             &|place: usize, part: &mut Result<Part, RunFault>|
                 requires there { first + place < network.groups }
                 requires counted { HasGroups 0 network.octets.now network.groups }
-                ensures { IsMadeOf made network.entry.slots (first + place) network.entry.octets.now part.new }
+                ensures { IsMadeOf (runs_of network.entry) (first + place) network.entry.octets.now part.new }
             {
-                *part = network.part(rt, made, first + place as u16);
+                *part = network.part(rt, first + place as u16);
             },
         );
         Ok(all)
@@ -217,26 +218,25 @@ impl Network<'_> {
     fn write_batch<T: AllocGlobal + Threads + Wait + Sync, W: Write>(
         &self,
         rt: &T,
-        made: Product,
         first: u16,
         count: u16,
         workers: Workers,
         sink: &mut Sink<W>,
-    ) -> Result<(), NetworkFault>
-        requires as_many { count ≡ min (self.now.groups - first) (groups_together made workers.number) }
+    ) -> Result<(), ProductFault>
+        requires as_many { count ≡ min (self.now.groups - first) (groups_together self.now.made workers.number) }
         requires some { 0 < count }
         requires few { first + count ≤ self.now.groups }
         requires counted { HasGroups 0 self.now.octets.now self.now.groups }
         requires open { sink_failed sink.old ≡ false }
-        ensures ok { OnOk result (WritesParts made self.now.slots first count self.now.octets.now
+        ensures ok { OnOk result (WritesParts (runs_of self.now) first count self.now.octets.now
             (W.contents (writer_of sink.old)) (W.contents (writer_of sink.new))) }
-        ensures err { IfErr result (StopsParts made self.now.slots first count self.now.octets.now
+        ensures err { IfErr result (StopsParts (runs_of self.now) first count self.now.octets.now
             (W.contents (writer_of sink.old)) (W.contents (writer_of sink.new))) }
         ensures open { OnOk result (sink_failed sink.new ≡ false) }
         ensures failed { IfErr result (λ fault. sink_failed sink.new ≡ is_of_writer fault) }
     {
-        let Ok(all) = self.parts_from(rt, made, first, count, workers) else {
-            return Err(NetworkFault::Group {
+        let Ok(all) = self.parts_from(rt, first, count, workers) else {
+            return Err(ProductFault::Group {
                 group: first,
                 fault: RunFault::Refused,
             });
@@ -269,7 +269,7 @@ fn groups_at_once(made: Product, workers: Workers) -> u16
     let each = workers.number as u16;
     match made {
         Product::Tapes => each,
-        Product::Report => 8 * each,
+        Product::Report | Product::Chart(_) => 8 * each,
     }
 }
 
@@ -278,7 +278,7 @@ fn write_one<W: Write>(
     part: &Result<Part, RunFault>,
     group: u16,
     sink: &mut Sink<W>,
-) -> Result<(), NetworkFault>
+) -> Result<(), ProductFault>
     requires some { IfOk part.now HasNoEmptyTape }
     requires open { sink_failed sink.old ≡ false }
     ensures ok { OnOk result (IsWritten part.now (W.contents (writer_of sink.old)) (W.contents (writer_of sink.new))) }
@@ -290,9 +290,9 @@ fn write_one<W: Write>(
     match part {
         Ok(part) => match part.write(sink) {
             Ok(()) => Ok(()),
-            Err(Failed) => Err(NetworkFault::WriteFailed),
+            Err(Failed) => Err(ProductFault::WriteFailed),
         },
-        Err(fault) => Err(NetworkFault::Group {
+        Err(fault) => Err(ProductFault::Group {
             group,
             fault: *fault,
         }),
@@ -303,23 +303,22 @@ fn write_one<W: Write>(
 pub(crate) fn write_groups<T: AllocGlobal + Threads + Wait + Sync, W: Write>(
     rt: &T,
     network: &Network,
-    made: Product,
     workers: Workers,
     sink: &mut Sink<W>,
-) -> Result<(), NetworkFault>
+) -> Result<(), ProductFault>
     requires counted { HasGroups 0 network.now.octets.now network.now.groups }
     requires open { sink_failed sink.old ≡ false }
-    ensures ok { OnOk result (WritesParts made network.now.slots 0 network.now.groups network.now.octets.now
+    ensures ok { OnOk result (WritesParts (runs_of network.now) 0 network.now.groups network.now.octets.now
         (W.contents (writer_of sink.old)) (W.contents (writer_of sink.new))) }
-    ensures err { IfErr result (StopsParts made network.now.slots 0 network.now.groups network.now.octets.now
+    ensures err { IfErr result (StopsParts (runs_of network.now) 0 network.now.groups network.now.octets.now
         (W.contents (writer_of sink.old)) (W.contents (writer_of sink.new))) }
     ensures open { OnOk result (sink_failed sink.new ≡ false) }
     ensures failed { IfErr result (λ fault. sink_failed sink.new ≡ is_of_writer fault) }
 {
     let mut first = 0;
     while first < network.groups {
-        let count = (network.groups - first).min(groups_at_once(made, workers));
-        network.write_batch(rt, made, first, count, workers, sink)?;
+        let count = (network.groups - first).min(groups_at_once(network.made, workers));
+        network.write_batch(rt, first, count, workers, sink)?;
         first += count;
     }
     Ok(())

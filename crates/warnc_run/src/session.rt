@@ -1,7 +1,7 @@
 //! A session of a book at a desk: its orders, and the replies to them.
 
 ghost use Rattle.std.specs.Prelude.{◌<◌, ℕ, IfErr, List};
-ghost use Rattle.warnc_run.specs.Compiled.{IsOfRun};
+ghost use Rattle.warnc_run.specs.Faults.{IsOfRun};
 ghost use Rattle.warnc_run.specs.RunSteps.{IsSomeBook};
 
 use crate::fault::RunFault;

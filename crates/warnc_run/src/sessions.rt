@@ -1,11 +1,11 @@
 //! The sessions of a book's parts, side by side.
 
 ghost use Rattle.std.specs.Prelude.{◌≡◌, ◌⊎◌, ◌<◌, ℕ, map, vec_len, All, IfErr, IfOk, List};
-ghost use Rattle.warnc_run.specs.Compiled.{IsOfRun};
+ghost use Rattle.warnc_run.specs.Faults.{IsOfRun};
 ghost use Rattle.warnc_run.specs.RunSteps.{IsFirstUserFault, IsSomeBook};
 ghost use Rattle.warnc_run.specs.declared.fault.RunFault.TheVariants as faults;
 
-use crate::counts::Sessions;
+use crate::run::Sessions;
 use crate::fault::RunFault;
 use crate::session::run_session;
 use alert_book::Book;

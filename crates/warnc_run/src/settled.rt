@@ -2,10 +2,10 @@
 
 ghost use Rattle.std.specs.Prelude.{◌≡◌, ◌≤◌, ℕ, List, length, IfErr, IfOk};
 ghost use Rattle.book_runs.specs.Live.{IsLiveRun};
-ghost use Rattle.warnc_run.specs.Compiled.{IsOfBook};
+ghost use Rattle.warnc_run.specs.Faults.{IsOfBook};
 ghost use Rattle.warnc_run.specs.RunSteps.{HaveRunLive, IsSomeBook};
 
-use crate::counts::Sessions;
+use crate::run::Sessions;
 use crate::fault::RunFault;
 use alert_book::Book;
 use bsc_table::CellRecord;

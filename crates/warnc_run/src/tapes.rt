@@ -2,10 +2,10 @@
 
 ghost use Rattle.std.specs.Prelude.{◌≡◌, ℕ, List, IfErr, IfOk, map};
 ghost use Rattle.cbch_blocks.specs.RecordBlocks.{tape_of_record};
-ghost use Rattle.warnc_run.specs.Compiled.{IsOfBook};
+ghost use Rattle.warnc_run.specs.Faults.{IsOfBook};
 ghost use Rattle.warnc_run.specs.RunSteps.{AreTapesOf, HaveRunLive, IsOfTapes, IsSomeBook};
 
-use crate::counts::{Sessions, Workers};
+use crate::run::{Sessions, Workers};
 use crate::fault::RunFault;
 use crate::sessions::run_sessions;
 use crate::settled::settled_records;
@@ -41,21 +41,6 @@ pub(crate) fn records_after<T: AllocGlobal + Threads + Wait + Sync, G: Gate>(
     settled_records(rt.alloc(), book, desk, sessions, &passes)
 }
 
-/// The records of a book's cells after its one session, played out by workers.
-pub(crate) fn records_of_book<T: AllocGlobal + Threads + Wait + Sync>(
-    rt: &T,
-    book: &Book,
-    slots: u16,
-    workers: Workers,
-) -> Result<Vec<CellRecord>, RunFault>
-    requires book { IsSomeBook book.now }
-    ensures ok { IfOk result (λ records. HaveRunLive book.now slots 1 records.items) }
-    ensures err { IfErr result (IsOfBook book.now slots 1) }
-{
-    let one = Sessions { number: 1 };
-    records_after(rt, book, slots, one, workers, &Open)
-}
-
 /// The tapes of records, in their order. A record is dropped once its tape is made, so that the log of one cell alone
 /// stands beside the tapes at their end. The only error is out of memory.
 fn tapes_of(alloc: Global, records: Vec<CellRecord>) -> Result<Vec<Tape>, AllocError>
@@ -68,18 +53,19 @@ fn tapes_of(alloc: Global, records: Vec<CellRecord>) -> Result<Vec<Tape>, AllocE
     Ok(tapes)
 }
 
-/// The tapes of a book's cells after its one session, by one worker. It has nobody to hand pages to while the desk is
-/// open, so the tapes are made of the settled records, each once, and there is nothing to compare.
+/// The tapes of a book's cells after the sessions of its parts, by one worker. It has nobody to hand pages to while the
+/// desk is open, so the tapes are made of the settled records, each once, and there is nothing to compare.
 pub(crate) fn tapes_by_one<T: AllocGlobal + Threads + Wait + Sync>(
     rt: &T,
     book: Book,
     slots: u16,
+    sessions: Sessions,
 ) -> Result<Vec<Tape>, RunFault>
     requires book { IsSomeBook book }
-    ensures ok { IfOk result (λ tapes. AreTapesOf book slots 1 tapes.items) }
-    ensures err { IfErr result (IsOfBook book slots 1) }
+    ensures ok { IfOk result (λ tapes. AreTapesOf book slots sessions.number tapes.items) }
+    ensures err { IfErr result (IsOfBook book slots sessions.number) }
 {
-    let records = records_of_book(rt, &book, slots, Workers { number: 1 })?;
+    let records = records_after(rt, &book, slots, sessions, Workers { number: 1 }, &Open)?;
     // what the book holds is free for the tapes
     drop(book);
     Ok(tapes_of(rt.alloc(), records)?)

@@ -2,9 +2,9 @@
 
 ghost use Rattle.std.specs.Prelude.{◌≡◌, ◌<◌, ◌≤◌, length, All, IfErr, IfOk};
 ghost use Rattle.tickets.specs.Draws.{first_seat, IsSeatOf};
-ghost use Rattle.warnc_run.specs.Compiled.{IsOfRun};
+ghost use Rattle.warnc_run.specs.Faults.{IsOfRun};
 
-use crate::counts::Workers;
+use crate::run::Workers;
 use crate::fault::RunFault;
 use crate::sessions::{UserEnd, passes_or_fault};
 use order_desk::{Desk, Gate, Pass};

@@ -18,7 +18,7 @@ use Rattle.cbsp_wire.specs.Range.{are_distinct, cells_are_valid}
 use Rattle.handset.specs.Recording.{AreJoinedRecordings, AreRecordings, HoldsRecording}
 use Rattle.verification_laws.specs.OwnTapes.{AreOwnTapes, OwnTapesHaveNoRows, recording_of}
 use Rattle.verification_laws.specs.Recorded.{RecordsAreRecorded}
-use Rattle.warnc_run.specs.Compiled.{IsCompiledFrom}
+use Rattle.warnc_run.specs.Products.{IsCompiledFrom}
 use Rattle.warnc_verify.specs.Laws.{CompiledDiffersNowhere}
 
 -- the tapes of records are their recordings, one after another
@@ -42,7 +42,7 @@ cells-of : (from : Origin) (slots : ℕ) (input output : List ℕ) (compiled : I
 cells-of from slots input output compiled valid =
     let cells : List Cell = map (λ (r : Record). r.cell) compiled.records in
     let says : cells_are_valid (map (λ (r : Record). r.cell) compiled.records) ≡ true =
-    ap cells_are_valid compiled.run.cells ∙ valid from input compiled.book compiled.is_book in
+    ap cells_are_valid compiled.run.run.cells ∙ valid from input compiled.run.book compiled.run.is_book in
     let parts = and_parts (nat_le (length (map (λ (r : Record). r.cell) compiled.records)) 64)
     (are_distinct (map (λ (r : Record). r.cell) compiled.records)) says in
     (leb-true (length (map (λ (r : Record). r.cell) compiled.records)) 64 parts.0, parts.1)
@@ -51,8 +51,8 @@ own-tapes : (from : Origin) (slots : ℕ) (input output : List ℕ) (compiled : 
     → CellsAreValid →
     AreOwnTapes compiled.records (map recording_of compiled.records)
 own-tapes from slots input output compiled valid = record {
-  legal = λ k d within. (compiled.run.each k d within).legal;
-  ended = λ k d within. (compiled.run.each k d within).over ∙ sym (compiled.run.each k d within).run;
+  legal = λ k d within. (compiled.run.run.each k d within).legal;
+  ended = λ k d within. (compiled.run.run.each k d within).over ∙ sym (compiled.run.run.each k d within).run;
   distinct = (cells-of from slots input output compiled valid).1;
   own = IsPermutation-refl (map recording_of compiled.records);
 }
@@ -67,7 +67,7 @@ recordings from slots input output compiled few valid recorded =
           (joined compiled.records
           (recursion_from_All (λ (r : Record). HoldsRecording (tape_of_record r) (recording_of r)) compiled.records
           (λ k d within.
-          let r = compiled.run.each k d within in
+          let r = compiled.run.run.each k d within in
           let run = r.run in
           recorded _ r.legal (r.over ∙ sym r.run) (omega (arith, run, few)))));
       few = omega (
@@ -83,14 +83,7 @@ pub compiled-differs-nowhere : CellsAreValid → RecordsAreRecorded → OwnTapes
 compiled-differs-nowhere valid recorded rows from slots input output few compiled = (
   record {
     records = compiled.records;
-    run = record {
-      book = compiled.book;
-      is_book = compiled.is_book;
-      exchanges = compiled.exchanges;
-      run = compiled.run;
-      meant = compiled.meant;
-      accepted = compiled.accepted;
-    };
+    run = compiled.run;
     recordings = map recording_of compiled.records;
     recordings_are = recordings from slots input output compiled few valid recorded;
     rows_are = rows compiled.records (map recording_of compiled.records)

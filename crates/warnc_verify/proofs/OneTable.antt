@@ -1,5 +1,6 @@
 -- A book has one run, and tapes hold one list of recordings: so there is one list of rows, and one table.
 use Rattle.std.proofs.Common.{◌≡◌, List, [], ap, arith, length, sym, subst, ◌∙◌}
+use Rattle.book_runs.specs.LiveLaws.{OneSessionIsARun}
 use Rattle.book_runs.specs.OneRun.{RunsAreOne}
 use Rattle.bsc_table.specs.Record.{Record}
 use Rattle.handset.specs.Laws.{RecordingsAreOne}
@@ -8,16 +9,15 @@ use Rattle.verification.specs.RowText.{rows_text}
 use Rattle.verification.specs.Rows.{AreRows}
 use Rattle.verification.specs.declared.row.Row.{Row}
 use Rattle.verification_laws.specs.OneList.{TapesHaveOneListOfRows}
+use Rattle.warnc_run.proofs.OneOutput.{records_are_one}
 use Rattle.warnc_verify.specs.Laws.{VerdictsExclude, VerifiedIsOne}
 
 -- the rows and the table of a book and of tapes are one
-pub verified-is-one : RunsAreOne → RecordingsAreOne → TapesHaveOneListOfRows → VerifiedIsOne
-verified-is-one runs recordings lists from slots rows others book tapes output other one two =
+pub verified-is-one : RunsAreOne → OneSessionIsARun → RecordingsAreOne → TapesHaveOneListOfRows → VerifiedIsOne
+verified-is-one runs law recordings lists from slots rows others book tapes output other one two =
     let a = one.0 in
     let b = two.0 in
-    let records : a.records ≡ b.records =
-    (runs from book a.run.book b.run.book slots a.run.exchanges b.run.exchanges a.records b.records a.run.is_book
-    b.run.is_book a.run.run b.run.run).1 in
+    let records = records_are_one runs law from slots book a.records b.records a.run b.run in
     let held : a.recordings ≡ b.recordings =
     recordings tapes a.recordings b.recordings a.recordings_are b.recordings_are in
     let rows_b : AreRows a.records a.recordings others =

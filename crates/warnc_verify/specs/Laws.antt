@@ -3,7 +3,7 @@ use Rattle.std.specs.Prelude.{◌≡◌, ℕ, ◌≤◌, List, []}
 use Rattle.alert_book.specs.declared.network.Origin.{Origin}
 use Rattle.verification.specs.RowText.{rows_text}
 use Rattle.verification.specs.declared.row.Row.{Row}
-use Rattle.warnc_run.specs.Compiled.{IsCompiledFrom}
+use Rattle.warnc_run.specs.Products.{IsCompiledFrom}
 use Rattle.warnc_verify.specs.Verified.{HasDifferences, IsTableOf, IsVerified}
 
 -- the differences of tapes from a book are one list of rows, and one table

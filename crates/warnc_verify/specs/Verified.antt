@@ -1,5 +1,5 @@
 -- What `warnc verify` makes of a book and of tapes: the table of what the tapes have otherwise. Own.
-use Rattle.std.specs.Prelude.{◌≡◌, ◌≢◌, ⊤, ℕ, ◌<◌, List, [], Option, IfSome, length}
+use Rattle.std.specs.Prelude.{◌≡◌, ⊤, ℕ, ◌<◌, List, [], Option, IfSome, length}
 use Rattle.std.specs.Io.KnownBytes.{Appends, Consumes, IsAtEnd}
 use Rattle.alert_book.specs.declared.network.Origin.{Origin}
 use Rattle.device_ends.specs.Moves.{AppendsFront}
@@ -11,10 +11,8 @@ use Rattle.bsc_table.specs.Record.{Record}
 use Rattle.verification.specs.Rows.{AreRows}
 use Rattle.verification.specs.RowText.{rows_text}
 use Rattle.verification.specs.declared.row.Row.{Row}
-use Rattle.parallel_compile.specs.declared.fault.CompileFault.TheVariants as compile
-use Rattle.warnc_run.specs.Records.{AreRecordsFrom, HasRunBook, IsRecordsFault}
-use Rattle.warnc_run.specs.declared.fault.RunFault.{RunFault}
-use Rattle.warnc_run.specs.declared.fault.RunFault.TheVariants as run
+use Rattle.warnc_run.specs.Products.{RunOf}
+use Rattle.warnc_run.specs.Records.{HasRunBook, IsRecordsFault}
 use Rattle.warnc_verify.specs.declared.fault.VerifyFault.{VerifyFault}
 use Rattle.warnc_verify.specs.declared.fault.VerifyFault.TheVariants as faults
 
@@ -42,14 +40,14 @@ RunsBook from slots ends records = HasRunBook from slots ends.book_first ends.bo
 -- asked: none, if they don't
 pub record DiffersBy (from : Origin) (slots : ℕ) (rows : List Row) (book tapes : List ℕ) : Type 0 where
   pub records : List Record
-  pub run : AreRecordsFrom from slots book records
+  pub run : RunOf from slots 1 book records
   pub recordings : List TapeRecording
   pub recordings_are : AreRecordings tapes recordings
   pub rows_are : AreRows records recordings rows
 
 -- the octets are a book, or a network book whose group has one, and the book has a run
 abbrev pub HasRun : (from : Origin) (slots : ℕ) (book : List ℕ) → Type 0
-HasRun from slots book = (records : List Record) × AreRecordsFrom from slots book records
+HasRun from slots book = (records : List Record) × RunOf from slots 1 book records
 
 -- there is one row at least
 abbrev pub Differs : (from : Origin) (slots : ℕ) → (book tapes : List ℕ) → Type 0
@@ -85,14 +83,10 @@ FindsAndWrites from slots ends old new rows = Finds from slots ends rows × Appe
 abbrev pub FindsAndWritesFront : (from : Origin) (slots : ℕ) → Readers → (old new : Option (List ℕ)) → List Row → Type 0
 FindsAndWritesFront from slots ends old new rows = Finds from slots ends rows × AppendsFront old new (rows_text rows)
 
--- why there are no records of a book; there can be so many workers
-abbrev pub IsBookFault : (from : Origin) (slots : ℕ) (first last : Option (List ℕ)) → RunFault → Type 0
-IsBookFault from slots first last f = (f ≢ run.Compile compile.Workers) × IsRecordsFault from slots first last f
-
 -- why it isn't so that there are no differences: the book has no run; or it has one, and the tapes are none; or there
 -- are as many differences, one or more, and they were written; or memory ran out; or the writer failed
 abbrev pub IsVerifyFault : (from : Origin) (slots : ℕ) → Readers → (old new : Option (List ℕ)) → VerifyFault → Type 0
-IsVerifyFault from slots ends old new (faults.Run f) = IsBookFault from slots ends.book_first ends.book_last f
+IsVerifyFault from slots ends old new (faults.Run f) = IsRecordsFault from slots ends.book_first ends.book_last f
 IsVerifyFault from slots ends old new (faults.Tapes f) =
     (records : List Record) × RunsBook from slots ends records × IfSome ends.tapes_first (λ input. IsTapesFault input f)
 IsVerifyFault from slots ends old new (faults.Differences count) =

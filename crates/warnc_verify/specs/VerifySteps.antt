@@ -6,13 +6,14 @@ use Rattle.handset.specs.Tape.{IsTapesFault}
 use Rattle.bsc_table.specs.Record.{Record}
 use Rattle.verification.specs.RowText.{rows_text}
 use Rattle.verification.specs.declared.row.Row.{Row}
-use Rattle.warnc_verify.specs.Verified.{Readers, IsBookFault, RunsBook}
+use Rattle.warnc_run.specs.Records.{IsRecordsFault}
+use Rattle.warnc_verify.specs.Verified.{Readers, RunsBook}
 use Rattle.warnc_verify.specs.declared.fault.VerifyFault.{VerifyFault}
 use Rattle.warnc_verify.specs.declared.fault.VerifyFault.TheVariants as faults
 
 -- why there are no rows
 abbrev pub IsRowsFault : (from : Origin) (slots : ℕ) → Readers → VerifyFault → Type 0
-IsRowsFault from slots ends (faults.Run f) = IsBookFault from slots ends.book_first ends.book_last f
+IsRowsFault from slots ends (faults.Run f) = IsRecordsFault from slots ends.book_first ends.book_last f
 IsRowsFault from slots ends (faults.Tapes f) =
     (records : List Record) × RunsBook from slots ends records × IfSome ends.tapes_first (λ input. IsTapesFault input f)
 IsRowsFault from slots ends faults.Refused = ⊤

@@ -16,6 +16,7 @@ pub fn verify_laws()
 {
     alert_book::book_laws();
     book_runs::one_run_law();
+    book_runs::session_laws();
     handset::recording_laws();
     verification_laws::verification_laws();
 }

@@ -28,7 +28,7 @@ use verification::{Findings, Row, text_of};
 use warnc_run::{Workers, run_book};
 
 /// Reads a book, or a network book for a group, has its cells carry out what its one session orders, in runs of `slots`
-/// slots, as [`compile_from`](warnc_run::compile_from) does, reads tapes up to their end, and writes a row for each
+/// slots, as [`compile_stream`](warnc_run::compile_stream) does, reads tapes up to their end, and writes a row for each
 /// difference between what the cells were asked and what the tapes send, and for each cell without a tape and tape
 /// without a cell (`AreRows`). Nothing is written before all is known. `workers` workers play the cells.
 ///
@@ -99,7 +99,7 @@ fn rows_of<T: AllocGlobal + Threads + Wait + Sync, B: Read, R: Read>(
     ensures tapes_stay { source_failed tapes.old ≡ true → tapes.new ≡ tapes.old }
 {
     let alloc = rt.alloc();
-    let records = run_book(rt, book, origin, slots, workers.number)?;
+    let records = run_book(rt, book, origin, slots, workers)?;
     let mut judge = Judge {
         findings: Findings::new(alloc, records)?,
     };

@@ -1,4 +1,4 @@
-use Rattle.warnc_cli.specs.Status.{WritesSome}
+use Rattle.warnc_cli.specs.Run.{WritesSome}
 use Rattle.warnc_inspect.proofs.OutputLaws.{some_output}
 use Rattle.warnc_cli.proofs.run.run_page.Goals as goal
 
@@ -7,8 +7,7 @@ returns-in-Ok-clause-wrote g c =
     let wrote = c.in-Ok.ensures.ok.of_some in
     let some : WritesSome _ _ = (
       wrote.1,
-      some_output c.args.options.now.language.now c.args.options.now.id c.args.options.now.serial wrote.0 wrote.1
-          wrote.2,
+      some_output c.args.options.language.now c.args.options.id c.args.options.serial wrote.0 wrote.1 wrote.2,
       wrote.3,
     ) in
-    λ done. some
+    λ done always. some

@@ -1,4 +1,4 @@
-use Rattle.warnc_cli.specs.Status.{WritesSome}
+use Rattle.warnc_cli.specs.Run.{WritesSome}
 use Rattle.gsmtap.proofs.SomeOutput.{some_capture}
 use Rattle.warnc_cli.proofs.run.run_pcap.Goals as goal
 
@@ -6,4 +6,4 @@ pub returns-in-Ok-clause-wrote : goal.returns-in-Ok-clause-wrote
 returns-in-Ok-clause-wrote g c =
     let wrote = c.in-Ok.ensures.ok.of_some in
     let some : WritesSome _ _ = (wrote.1, some_capture c.args.settings wrote.0 wrote.1 wrote.2, wrote.3) in
-    λ done. some
+    λ done always. some

@@ -1,24 +1,27 @@
-use Rattle.std.proofs.Common.{◌≤◌, refl}
+use Rattle.std.proofs.Common.{◌≤◌, ◌≡◌, Err, None, refl, rules}
 use native.Mathlib.Omega.{arith}
+use Rattle.std.proofs.KnownBytes.{Keeps-refl}
 use Rattle.std.proofs.lemmas.Result.{IfErr-weaker, IfOk-weaker}
-use Rattle.warnc_run.specs.Compiled.{HasReadFrom}
-use Rattle.warnc_run.proofs.RecordsOf.{fault_of_records, records_made}
+use Rattle.warnc_run.specs.Faults.{HasReadFrom}
+use Rattle.warnc_run.specs.declared.product.Product.TheVariants as product
+use Rattle.warnc_run.proofs.Written.{fault_of_reading, fault_of_run, of_any_product, of_no_product, run_of_book}
+use Rattle.warnc_run.proofs.Written.{where_it_is}
 use Rattle.warnc_run.proofs.records.run_book.Goals as goal
 
 pub returns-clause-ok : goal.returns-clause-ok
 returns-clause-ok g c =
     let read = c.in_ok-book.ensures.ok in
     let few : c.args.slots ≤ 65535 = omega (arith, c.ranges.slots.fits) in
-    IfOk-weaker c.records_of_book.result _ _
+    IfOk-weaker c.records_after.result _ _
     (λ records live. record {
       input = read.input;
       read = read.consumed;
       ended = read.ended;
-      made = records_made c.session_laws.ensures.one c.run_laws.ensures c.order_laws.ensures c.args.origin
-          read.input c.in_ok-book.book
-          c.args.slots _ few read.meant live;
+      made = run_of_book c.session_laws.ensures.shown c.session_laws.ensures.accepted
+          c.legal_histories.ensures.legal_histories_are_served c.args.origin read.input c.in_ok-book.book c.args.slots 1
+          _ few read.meant live;
     })
-    c.records_of_book.ensures.ok
+    c.records_after.ensures.ok
 
 pub returns-clause-err : goal.returns-clause-err
 returns-clause-err g c =
@@ -30,6 +33,20 @@ returns-clause-err g c =
       ended = read.ended;
       is_book = read.meant;
     } in
-    IfErr-weaker c.records_of_book.result _ _
-    (λ fault of_book. fault_of_records c.args.origin c.args.slots _ _ c.in_ok-book.book fault whole refl of_book)
-    c.records_of_book.ensures.err
+    IfErr-weaker c.records_after.result _ _
+    (λ fault of_book.
+    let other = of_any_product c.in_ok-book.book c.args.slots 1 product.Report fault of_book in (
+      other.0,
+      fault_of_run c.args.origin c.args.slots 1 (λ input output. ⊥) _ _ None None c.in_ok-book.book fault whole refl
+          other.1 (Keeps-refl None),
+    ))
+    c.records_after.ensures.err
+
+pub returns-in_err-book-clause-err : goal.returns-in_err-book-clause-err
+returns-in_err-book-clause-err g c =
+    let is : c.from_residual.result ≡ Err c.in_err-book.field-0.0 = search (rules, c.from_residual.ensures) in
+    where_it_is _ c.from_residual.result c.in_err-book.field-0.0 is (
+      of_no_product c.args.origin _ _ product.Report c.in_err-book.field-0.0 c.in_err-book.ensures.err,
+      fault_of_reading c.args.origin c.args.slots 1 (λ input output. ⊥) _ _ None None c.in_err-book.field-0.0
+          c.in_err-book.ensures.err (Keeps-refl None),
+    )

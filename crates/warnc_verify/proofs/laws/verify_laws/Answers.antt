@@ -4,7 +4,7 @@ use Rattle.warnc_verify.proofs.laws.verify_laws.Goals as goal
 
 pub returns : goal.returns
 returns c =
-    let one = verified-is-one c.one_run_law.ensures c.recording_laws.ensures.one
+    let one = verified-is-one c.one_run_law.ensures c.session_laws.ensures.one c.recording_laws.ensures.one
     c.verification_laws.ensures.tapes_have_one_list_of_rows in record {
       verified_is_one = one;
       verdicts_exclude = verdicts-exclude one;

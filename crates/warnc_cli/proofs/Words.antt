@@ -1,0 +1,84 @@
+-- What the words say of the task that they ask for.
+use Rattle.std.proofs.Common.{◌≡◌, ◌≢◌, ◌⊎◌, ℕ, List, Some, codes, false, true, inl, inr, refl, rules, subst, sym, ◌∙◌}
+use Rattle.std.specs.Prelude.{slice_get}
+use Rattle.alert_book.specs.declared.network.Origin.TheVariants as origin
+use Rattle.warnc_run.specs.declared.run.Books.{Books}
+use Rattle.warnc_run.specs.declared.run.Books.TheVariants as books
+use Rattle.warnc_run.specs.declared.product.Product.{Product}
+use Rattle.warnc_run.specs.declared.product.Product.TheVariants as product
+use Rattle.warnc_cli.specs.CommandLine.{is_given, GivesBooks, GivesProduct}
+use Rattle.warnc_cli.specs.Run.{MayWrite}
+use Rattle.warnc_cli.specs.RunSteps.{IsOfOneInput, MayHaveWritten}
+use Rattle.warnc_cli.specs.Tasks.{AlwaysWrites, IsHeaded, IsTaskOf}
+use Rattle.warnc_cli.specs.declared.command.Task.{Task}
+use Rattle.warnc_cli.specs.declared.command.Task.TheVariants as task
+
+-- no other command than `verify` reads a book beside its input
+pub of_one_input : (words : List (List ℕ)) (t : Task) → IsTaskOf words t
+    → slice_get words 1 ≢ Some (codes "verify")
+    → IsOfOneInput t
+of_one_input words (task.Verify from slots file workers) asked other = absurd (other asked.command)
+of_one_input words (task.Page options) asked other = tt
+of_one_input words task.Read asked other = tt
+of_one_input words (task.Pcap settings) asked other = tt
+of_one_input words (task.Tape wanted) asked other = tt
+of_one_input words task.Groups asked other = tt
+of_one_input words (task.Make run made) asked other = tt
+
+-- what a task may have written, its words say that it may
+pub may_write : (words : List (List ℕ)) (t : Task) (status : ℕ) → IsTaskOf words t → MayHaveWritten t status
+    → MayWrite words status
+may_write words (task.Make run made) status asked (inl done) = inl done
+may_write words (task.Make run made) status asked (inr (inl device)) = inr (inl device)
+may_write words (task.Make run made) status asked (inr (inr early)) =
+    inr (inr (inr (early.0, subst (GivesBooks words) early.1 asked.books_given)))
+may_write words (task.Verify from slots file workers) status asked (inl done) = inl done
+may_write words (task.Verify from slots file workers) status asked (inr (inl device)) = inr (inl device)
+may_write words (task.Verify from slots file workers) status asked (inr (inr differ)) =
+    inr (inr (inl (differ, asked.command)))
+may_write words (task.Page options) status asked (inl done) = inl done
+may_write words (task.Page options) status asked (inr device) = inr (inl device)
+may_write words task.Read status asked (inl done) = inl done
+may_write words task.Read status asked (inr device) = inr (inl device)
+may_write words (task.Pcap settings) status asked (inl done) = inl done
+may_write words (task.Pcap settings) status asked (inr device) = inr (inl device)
+may_write words (task.Tape wanted) status asked (inl done) = inl done
+may_write words (task.Tape wanted) status asked (inr device) = inr (inl device)
+may_write words task.Groups status asked (inl done) = inl done
+may_write words task.Groups status asked (inr device) = inr (inl device)
+
+-- a book's report is headed, and so is a network's
+headed : (words : List (List ℕ)) (b : Books) → GivesBooks words b → is_given words (codes "--group") ≡ false
+    → IsHeaded b
+headed words (books.One origin.Book) given alone = tt
+headed words (books.One (origin.Group group)) given alone = absurd (apart (given.1.book alone))
+  where
+    apart : origin.Group group ≡ origin.Book → ⊥
+    apart h = search (rules, h)
+headed words books.EachGroup given alone = tt
+
+-- tapes are made by two commands
+of_tapes : (words : List (List ℕ)) (sessions : ℕ) → GivesProduct words product.Tapes sessions
+    → slice_get words 1 ≢ Some (codes "compile")
+    → slice_get words 1 ≢ Some (codes "live")
+    → ⊥
+of_tapes words sessions (inl compile) other more = other compile.0
+of_tapes words sessions (inr live) other more = more live.0
+
+-- all others write something
+pub writes_some : (words : List (List ℕ)) (t : Task) → IsTaskOf words t
+    → slice_get words 1 ≢ Some (codes "compile")
+    → slice_get words 1 ≢ Some (codes "live")
+    → (slice_get words 1 ≡ Some (codes "report") → is_given words (codes "--group") ≡ false)
+    → AlwaysWrites t
+writes_some words (task.Make run product.Tapes) asked compile live report =
+    absurd (of_tapes words run.sessions.number asked.made_given compile live)
+writes_some words (task.Make run product.Report) asked compile live report =
+    headed words run.books asked.books_given (report asked.made_given.0)
+writes_some words (task.Make run (product.Chart wanted)) asked compile live report = tt
+writes_some words (task.Verify from slots file workers) asked compile live report = tt
+writes_some words (task.Page options) asked compile live report = tt
+writes_some words task.Read asked compile live report = tt
+writes_some words (task.Pcap settings) asked compile live report = tt
+writes_some words (task.Tape wanted) asked compile live report = tt
+writes_some words task.Groups asked compile live report = tt

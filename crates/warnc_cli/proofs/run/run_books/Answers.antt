@@ -1,0 +1,29 @@
+use Rattle.std.proofs.Common.{sym, ◌∙◌}
+use native.Mathlib.Omega.{arith}
+use Rattle.warnc_run.specs.Engine.{IsMadeBy}
+use Rattle.warnc_cli.proofs.NoRun.{refused_product}
+use Rattle.warnc_cli.proofs.Products.{fault_between, front_written, some_product, written_of}
+use Rattle.warnc_cli.proofs.run.run_books.Goals as goal
+
+pub returns-in-Ok-clause-done : goal.returns-in-Ok-clause-done
+returns-in-Ok-clause-done g c = λ done. written_of (IsMadeBy c.args.run c.args.made) _ _ _ _ c.in-Ok.ensures.ok
+
+pub returns-in-Ok-clause-wrote : goal.returns-in-Ok-clause-wrote
+returns-in-Ok-clause-wrote g c = λ done always. some_product c.args.run c.args.made _ _ _ _ c.in-Ok.ensures.ok always
+
+pub returns-in-Err-clause-refused : goal.returns-in-Err-clause-refused
+returns-in-Err-clause-refused g c =
+    λ is. refused_product c.args.run.books c.args.run.slots c.args.run.sessions.number c.args.made _ _ _ _
+    c.in-Err.fault c.in-Err.ensures.err (sym c.failed.ensures ∙ is)
+
+pub returns-in-Err-clause-front : goal.returns-in-Err-clause-front
+returns-in-Err-clause-front g c =
+    let ends = fault_between c.args.run c.args.made _ _ _ _ c.in-Err.fault c.failed.result g.W.Write.contents _ _ _ _
+    c.failed.ensures c.in-Err.ensures.err c.in-Err.ensures.any_ends in
+    front_written c.args.run c.args.made _ _ c.in-Err.fault c.failed.result g.W.Write.contents _ _ _
+    c.failed.ensures c.in-Err.ensures.err ends
+
+pub returns-in-Err-clause-ends : goal.returns-in-Err-clause-ends
+returns-in-Err-clause-ends g c =
+    fault_between c.args.run c.args.made _ _ _ _ c.in-Err.fault c.failed.result g.W.Write.contents _ _ _ _
+    c.failed.ensures c.in-Err.ensures.err c.in-Err.ensures.any_ends

@@ -1,0 +1,168 @@
+-- What a command writes and refuses: by the task that the words ask for. Own.
+use Rattle.std.specs.Prelude.{◌≡◌, ⊤, ℕ, ◌<◌, ◌≤◌, ◌⊎◌, List, length, Option, IfSome}
+use Rattle.std.specs.Io.KnownBytes.{Appends}
+use Rattle.alert_book.specs.declared.fault.BookFault.{BookFault}
+use Rattle.alert_book.specs.declared.fault.BookFaultKind.{BookFaultKind}
+use Rattle.alert_book.specs.declared.network.Origin.{Origin}
+use Rattle.alert_book.specs.declared.network.Origin.TheVariants as origin
+use Rattle.alert_book.specs.Book.{Contents, IsWrong, max_book}
+use Rattle.alert_book.specs.Network.{HasGroups, IsGroupBook, IsWrongNetwork, max_network}
+use Rattle.alert_book.specs.Origin.{IsBookFrom}
+use Rattle.device_ends.specs.Moves.{WritesOutput}
+use Rattle.gsmtap.specs.Capture.{IsCapture}
+use Rattle.gsmtap.specs.TapeOfCapture.{IsAirFault, IsTapeOfCapture}
+use Rattle.gsmtap.specs.declared.fault.AirFault.{AirFault}
+use Rattle.gsmtap.specs.declared.tape.Wanted.{Wanted}
+use Rattle.handset.specs.Tape.{IsShort, IsLong}
+use Rattle.warnc_air.specs.TapeOutput.{max_capture}
+use Rattle.warnc_inspect.specs.PageOutput.{IsPageFault, IsPageOutput}
+use Rattle.warnc_inspect.specs.ReadOutput.{IsReadOutput}
+use Rattle.warnc_inspect.specs.declared.page.PageFault.{PageFault}
+use Rattle.warnc_run.specs.declared.fault.RunFault.{RunFault}
+use Rattle.warnc_run.specs.declared.run.Books.{Books}
+use Rattle.warnc_run.specs.declared.run.Books.TheVariants as books
+use Rattle.warnc_run.specs.declared.product.Product.TheVariants as product
+use Rattle.warnc_run.specs.Engine.{IsMadeBy}
+use Rattle.warnc_run.specs.Faults.{StopsRun}
+use Rattle.warnc_run.specs.Groups.{IsGroupCount}
+use Rattle.warnc_run.specs.Network.{AreFirstParts}
+use Rattle.warnc_verify.specs.Verified.{Differs, HasDifferences, HasRun, IsVerified}
+use Rattle.warnc_cli.specs.CommandLine.{AsksForGroups, AsksForPage, AsksForPcap, AsksForRead, AsksForRun, AsksForTape}
+use Rattle.warnc_cli.specs.CommandLine.{AsksForVerify}
+use Rattle.warnc_cli.specs.Status.{status_of_book_fault, status_of_page_fault}
+use Rattle.warnc_cli.specs.declared.command.Task.{Task}
+use Rattle.warnc_cli.specs.declared.command.Task.TheVariants as task
+
+-- the words ask for this task
+abbrev pub IsTaskOf : (words : List (List ℕ)) → Task → Type 0
+IsTaskOf words (task.Page options) = AsksForPage words options.language.now options.id options.serial
+IsTaskOf words task.Read = AsksForRead words
+IsTaskOf words (task.Pcap settings) = AsksForPcap words settings
+IsTaskOf words (task.Tape wanted) = AsksForTape words wanted
+IsTaskOf words task.Groups = AsksForGroups words
+IsTaskOf words (task.Make run made) = AsksForRun words run made
+IsTaskOf words (task.Verify from slots file workers) = AsksForVerify words from slots file.now workers.number
+
+-- What is written with status 0.
+
+-- what a command of one input makes of it
+abbrev pub Means : Task → (input output : List ℕ) → Type 0
+Means (task.Page options) = IsPageOutput options.language.now options.id options.serial
+Means task.Read = IsReadOutput
+Means (task.Pcap settings) = IsCapture settings
+Means (task.Tape wanted) = IsTapeOfCapture wanted
+Means task.Groups = IsGroupCount
+Means (task.Make run made) = IsMadeBy run made
+Means (task.Verify from slots file workers) = λ input output. ⊥
+
+-- a writer was given the output of a book and of tapes: of those that the readers had left, if they are known, and else
+-- of some
+pub record WritesOutputOfBoth (IsOutput : (book tapes output : List ℕ) → Type 0)
+    (book tapes old new : Option (List ℕ)) : Type 0 where
+  pub book_octets : List ℕ
+  pub tapes_octets : List ℕ
+  pub output : List ℕ
+  pub of_book : IfSome book (λ input. input ≡ book_octets)
+  pub of_tapes : IfSome tapes (λ input. input ≡ tapes_octets)
+  pub is_output : IsOutput book_octets tapes_octets output
+  pub appended : Appends old new output
+
+-- what a task writes: `book` and `input` are what the readers had left, if that is known, and `old` and `new` are what
+-- the writer held before and after
+abbrev pub WritesAll : Task → (book input old new : Option (List ℕ)) → Type 0
+WritesAll (task.Verify from slots file workers) book input old new =
+    WritesOutputOfBoth (IsVerified from slots) book input old new
+WritesAll other book input old new = WritesOutput (Means other) input old new
+
+-- it writes something: tapes are none of a book without cells, and the report of a later group has no line of the
+-- columns' names
+abbrev pub AlwaysWrites : Task → Type 0
+AlwaysWrites (task.Make run product.Tapes) = ⊥
+AlwaysWrites (task.Make run product.Report) = IsHeaded run.books
+AlwaysWrites other = ⊤
+
+abbrev pub IsHeaded : Books → Type 0
+IsHeaded (books.One (origin.Group group)) = ⊥
+IsHeaded other = ⊤
+
+-- What is refused with status 1.
+
+-- the input is refused: a text of this language has a fault of status 1
+abbrev pub IsRefused : (language input : List ℕ) → Type 0
+IsRefused language input = (fault : PageFault) × IsPageFault language input fault × (status_of_page_fault fault ≡ 1)
+
+-- the input is refused: it is no whole tapes
+abbrev pub IsNoTapes : (input : List ℕ) → Type 0
+IsNoTapes input = IsShort input ⊎ IsLong input
+
+-- the input is refused: it is too long for a capture, or no capture file that has a tape
+abbrev pub IsNoAir : Wanted → (input : List ℕ) → Type 0
+IsNoAir wanted input = (max_capture < length input) ⊎ ((why : AirFault) × IsAirFault wanted input why)
+
+-- the input is refused: it has more octets than a book may have, or a row or a text of it has a fault of status 1
+abbrev pub IsNoBook : (input : List ℕ) → Type 0
+IsNoBook input = (max_book < length input)
+    ⊎ ((f : BookFault) × IsWrong input f × (status_of_book_fault f ≡ 1))
+
+-- the input is refused as a network book, of which a group is asked for
+abbrev pub IsNoNetwork : (group : ℕ) (input : List ℕ) → Type 0
+IsNoNetwork group input = (max_network < length input)
+    ⊎ ((f : BookFault) × IsWrongNetwork group input f × (status_of_book_fault f ≡ 1))
+
+-- the input has no such book: it is none; or it is no network book, or one of too few groups
+abbrev pub IsNoBookFrom : Origin → (input : List ℕ) → Type 0
+IsNoBookFrom origin.Book input = IsNoBook input
+IsNoBookFrom (origin.Group group) input = IsNoNetwork group input
+    ⊎ ((groups : ℕ) × (groups ≤ group) × HasGroups group input groups)
+
+-- or the input has the book, whose run, of so many slots and with so many sessions, ends early: the desk finds the book
+-- of another cell in a lock, or isn't settled, or a tape isn't its record's. What a lock of the desk holds, and what a
+-- worker sends, is known by its type alone, so no contract excludes it
+abbrev pub IsNoRun : (from : Origin) (slots parts : ℕ) (input : List ℕ) → Type 0
+IsNoRun from slots parts input = IsNoBookFrom from input
+    ⊎ ((book : Contents) × IsBookFrom from input book × ((fault : RunFault) × StopsRun book slots parts fault))
+
+-- the input is no network book, or the run of the book of one of its groups ends early
+abbrev pub IsNoNetworkRun : (slots parts : ℕ) (input : List ℕ) → Type 0
+IsNoNetworkRun slots parts input = IsNoNetwork 0 input ⊎ ((group : ℕ) × (book : Contents) × IsGroupBook group input book
+    × ((fault : RunFault) × StopsRun book slots parts fault))
+
+abbrev pub IsNoRunOf : Books → (slots parts : ℕ) (input : List ℕ) → Type 0
+IsNoRunOf (books.One from) = IsNoRun from
+IsNoRunOf books.EachGroup = IsNoNetworkRun
+
+-- these tapes don't keep this book: it is none or has no run; or it has one, and the tapes are no whole ones; or there
+-- is a difference
+abbrev pub IsNotVerified : (from : Origin) (slots : ℕ) (book tapes : List ℕ) → Type 0
+IsNotVerified from slots book tapes = IsNoRun from slots 1 book
+    ⊎ ((HasRun from slots book × IsNoTapes tapes) ⊎ Differs from slots book tapes)
+
+-- the input that a command of one input refuses
+abbrev pub RefusesOne : Task → (input : List ℕ) → Type 0
+RefusesOne (task.Page options) = IsRefused options.language.now
+RefusesOne task.Read = IsNoTapes
+RefusesOne (task.Pcap settings) = IsNoTapes
+RefusesOne (task.Tape wanted) = IsNoAir wanted
+RefusesOne task.Groups = IsNoNetwork 0
+RefusesOne (task.Make run made) = IsNoRunOf run.books run.slots run.sessions.number
+RefusesOne (task.Verify from slots file workers) = λ input. ⊥
+
+-- what a task refuses, of readers whose octets are known
+abbrev pub Refuses : Task → (book input : Option (List ℕ)) → Type 0
+Refuses (task.Verify from slots file workers) book input =
+    IfSome book (λ octets. IfSome input (IsNotVerified from slots octets))
+Refuses other book input = IfSome input (RefusesOne other)
+
+-- What may be written with status 1 and 4.
+
+-- the parts of some first groups of a network were written
+abbrev pub WritesFirstGroups : Task → (book input old new : Option (List ℕ)) → Type 0
+WritesFirstGroups (task.Make run made) book input old new =
+    (count : ℕ) × WritesOutput (AreFirstParts made run.slots run.sessions.number count) input old new
+WritesFirstGroups other book input old new = ⊥
+
+-- the table of the differences was written, of which there is one at least
+abbrev pub WritesDifferences : Task → (book input old new : Option (List ℕ)) → Type 0
+WritesDifferences (task.Verify from slots file workers) book input old new =
+    WritesOutputOfBoth (HasDifferences from slots) book input old new
+WritesDifferences other book input old new = ⊥

@@ -1,0 +1,35 @@
+use Rattle.std.proofs.Common.{◌≡◌, Err, rules}
+use native.Mathlib.Omega.{arith}
+use Rattle.warnc_run.proofs.GroupParts.{made_at, stop_at, written_after}
+use Rattle.warnc_run.specs.NetworkSteps.{runs_of}
+use Rattle.warnc_run.proofs.Written.{where_it_is}
+use Rattle.warnc_run.proofs.network.Network.write_batch.Goals as goal
+
+pub loop-part-preserved : goal.loop-part-preserved
+loop-part-preserved g c =
+    let runs = runs_of c.args.self.now in
+    let input = c.args.self.now.octets.now in
+    let came = c.part-item.result in
+    let of = made_at runs c.args.first input c.in-Ok.all.items c.deref-part-items.result.now
+    c.loop-part.part-index came c.in-Ok.ensures.each c.deref-part-items.ensures.value c.loop-part-test.true
+    c.part-item.is in record {
+      wrote = written_after runs c.args.first c.loop-part.part-index input came _ _ _
+          c.loop-part.invariant.wrote of c.in_ok-write_one.ensures.ok;
+      not_failed = c.in_ok-write_one.ensures.open;
+      number = omega (arith, c.loop-part.invariant.number);
+    }
+
+pub returns-in_err-write_one-clause-err : goal.returns-in_err-write_one-clause-err
+returns-in_err-write_one-clause-err g c =
+    let runs = runs_of c.args.self.now in
+    let input = c.args.self.now.octets.now in
+    let came = c.part-item.result in
+    let why = c.in_err-write_one.field-0.0 in
+    let of = made_at runs c.args.first input c.in-Ok.all.items c.deref-part-items.result.now
+    c.loop-part.part-index came c.in-Ok.ensures.each c.deref-part-items.ensures.value c.loop-part-test.true
+    c.part-item.is in
+    let is : c.from_residual.result ≡ Err why = search (rules, c.from_residual.ensures) in
+    where_it_is _ c.from_residual.result why is
+    (stop_at runs c.args.first c.loop-part.part-index c.loop-part.group c.args.count input came _ _ _ why
+    (omega (arith, c.loop-part-test.true, c.deref-part-items.ensures.len, c.in-Ok.ensures.count))
+    c.loop-part.invariant.number c.loop-part.invariant.wrote of c.in_err-write_one.ensures.err)

@@ -1,0 +1,89 @@
+-- What is made of the octets that are read: of the run of a book, or of a group's, its tapes, the report of them, or
+-- their chart. Own.
+use Rattle.std.specs.Prelude.{◌≡◌, ◌==◌, ℕ, Bool, true, List, Option, All, length, map}
+use Rattle.std.specs.List.{flat_map}
+use Rattle.alert_book.specs.declared.network.Origin.{Origin}
+use Rattle.alert_book.specs.declared.network.Origin.TheVariants as origin
+use Rattle.alert_book.specs.Book.{Contents}
+use Rattle.alert_book.specs.Origin.{IsBookFrom}
+use Rattle.book_runs.specs.Live.{IsLiveRun}
+use Rattle.book_runs.specs.Meant.{IsMeantIn}
+use Rattle.book_runs.specs.Ordered.{AreThoseStarted}
+use Rattle.book_runs.specs.Run.{Exchange}
+use Rattle.bsc_table.specs.Promised.{IsServed}
+use Rattle.bsc_table.specs.Record.{Record}
+use Rattle.cbch_blocks.specs.RecordBlocks.{blocks_of, tape_of_record}
+use Rattle.cbsp_wire.specs.declared.message.Cell.{Cell}
+use Rattle.chart.specs.ChartText.{chart_text}
+use Rattle.handset.specs.Reception.{shown_in}
+use Rattle.handset.specs.Tape.{TapeReading}
+use Rattle.report.specs.ReportText.{part_text}
+use Rattle.report.specs.Rows.{report_rows}
+use Rattle.report.specs.declared.row.Row.{Row}
+use Rattle.warnc_run.specs.declared.product.Product.{Product}
+use Rattle.warnc_run.specs.declared.product.Product.TheVariants as product
+
+-- the octets are a book, or a network book whose group has one; a run of as many sessions as there are parts gives each
+-- cell one of these records, in the order of the book, and each shows what the book means; each message that a cell
+-- accepted is one that an order of the book had it start, with that order's text, and no other order started one; each
+-- requested broadcast of such a message is sent whole within its own period, unless the message is background, or its
+-- stop or the end of the run cuts the broadcast short
+pub record RunOf (from : Origin) (slots parts : ℕ) (input : List ℕ) (records : List Record) : Type 0 where
+  pub book : Contents
+  pub is_book : IsBookFrom from input book
+  pub sessions : List (List Exchange)
+  pub parted : length sessions ≡ parts
+  pub run : IsLiveRun book slots sessions records
+  pub meant : All (IsMeantIn book) records
+  pub accepted : All (AreThoseStarted book (flat_map (λ (exchanges : List Exchange). exchanges) sessions)) records
+  pub served : All IsServed records
+
+-- what a handset shows that reads the blocks of a record, with the record's cell and slots
+abbrev pub reading_of_record : Record → TapeReading
+reading_of_record r = record { cell = r.cell; slots = r.slots; shown = shown_in (blocks_of r) }
+
+-- the rows of records by what handsets read of their blocks
+abbrev pub own_rows : List Record → List Row
+own_rows records = report_rows records (map reading_of_record records)
+
+-- the line of the columns' names stands over the report of a book, and over that of a network's first group, so that
+-- the reports of its groups can be joined
+abbrev pub is_headed : Origin → Bool
+is_headed origin.Book = true
+is_headed (origin.Group group) = group == 0
+
+-- what is made of the records of the run of a book, or of a group by itself
+abbrev pub octets_of : Product → (from : Origin) (slots : ℕ) → List Record → List ℕ
+octets_of product.Tapes from slots records = flat_map tape_of_record records
+octets_of product.Report from slots records = part_text (is_headed from) (own_rows records)
+octets_of (product.Chart wanted) from slots records =
+    chart_text slots wanted records (map reading_of_record records)
+
+-- what is written for the octets that were read: they are a book, or a network book whose group has one, and this is
+-- what is made of its run, and nothing else
+pub record IsOutput (made : Product) (from : Origin) (slots parts : ℕ) (input output : List ℕ) : Type 0 where
+  pub records : List Record
+  pub run : RunOf from slots parts input records
+  pub written : output ≡ octets_of made from slots records
+
+-- what `warnc live` writes: the tapes of the cells, whose orders came of several sessions side by side
+abbrev pub IsLiveFrom : (from : Origin) (slots parts : ℕ) (input output : List ℕ) → Type 0
+IsLiveFrom from slots parts = IsOutput product.Tapes from slots parts
+
+abbrev pub IsLive : (slots parts : ℕ) (input output : List ℕ) → Type 0
+IsLive slots parts = IsLiveFrom origin.Book slots parts
+
+-- what `warnc compile` writes: the same with one session
+abbrev pub IsCompiledFrom : (from : Origin) (slots : ℕ) (input output : List ℕ) → Type 0
+IsCompiledFrom from slots = IsLiveFrom from slots 1
+
+abbrev pub IsCompiled : (slots : ℕ) (input output : List ℕ) → Type 0
+IsCompiled slots = IsCompiledFrom origin.Book slots
+
+-- what `warnc report` writes
+abbrev pub IsReportedFrom : (from : Origin) (slots : ℕ) (input output : List ℕ) → Type 0
+IsReportedFrom from slots = IsOutput product.Report from slots 1
+
+-- what `warnc chart` writes, of the wanted cell alone if one is wanted
+abbrev pub IsChartedFrom : (from : Origin) (slots : ℕ) (wanted : Option Cell) (input output : List ℕ) → Type 0
+IsChartedFrom from slots wanted = IsOutput (product.Chart wanted) from slots 1

@@ -1,0 +1,258 @@
+//! The texts that are made of a run: the report of its cells, and their chart.
+
+ghost use Rattle.std.specs.Prelude.{◌≡◌, ◌≤◌, ◌++◌, ℕ, List, length, map, All, IfErr, IfOk, OnOk};
+ghost use Rattle.cbch_blocks.specs.RecordBlocks.{tape_of_record};
+ghost use Rattle.handset.specs.Tape.{readings_of, IsTape};
+ghost use Rattle.warnc_run.specs.Engine.{IsEngineAtEnds, IsOutputFault, IsProductOf, IsText};
+ghost use Rattle.warnc_run.specs.Faults.{IsOfBook, IsOfRun};
+ghost use Rattle.warnc_run.specs.Made.{IsMade, IsUnmade};
+ghost use Rattle.warnc_run.specs.Products.{is_headed, octets_of, own_rows, reading_of_record};
+ghost use Rattle.warnc_run.specs.RunSteps.{octets_of_text, IsSomeBook, IsTextOf};
+ghost use Rattle.bsc_table.specs.Record.{Record};
+ghost use Rattle.warnc_run.specs.declared.fault.RunFault.TheVariants as faults;
+
+use crate::book::book_from;
+use crate::run::{Books, Run, Sessions, Workers};
+use crate::fault::RunFault;
+use crate::product::{Product, ProductFault};
+use crate::tapes::records_after;
+use alert_book::{Book, Origin};
+use bsc_table::CellRecord;
+use cbsp_wire::Cell;
+use chart::{chart_octets, part_octets};
+use device_ends::{Failed, Sink, Source, write_all};
+use handset::{Reading, read_tape};
+use order_desk::{Gate, Open};
+use parallel_compile::compile_all;
+use report::{ReportFault, Row, text_of};
+use std::alloc::AllocGlobal;
+use std::io::{Read, Write};
+use std::sync::Wait;
+use std::thread::Threads;
+
+/// A text that is made of the run of a book.
+#[derive(Clone, Copy)]
+pub(crate) enum Text {
+    /// The report, with the line of the columns' names over it or without.
+    Report(bool),
+    /// The chart of all cells, or of the wanted one alone.
+    Chart(Option<Cell>),
+    /// The part of a group in the chart of its network: its number, whether it is the last one, and the wanted cell.
+    ChartPart(u16, bool, Option<Cell>),
+}
+
+/// Reads a book, or the book of a group, and writes the text of its run. Nothing is written before all of it is made.
+pub(crate) fn write_text_from<T: AllocGlobal + Threads + Wait + Sync, R: Read, W: Write, G: Gate>(
+    rt: &T,
+    source: &mut Source<R>,
+    sink: &mut Sink<W>,
+    origin: Origin,
+    run: &Run,
+    made: Product,
+    gate: &G,
+) -> Result<(), ProductFault>
+    requires { IsText made }
+    ensures ok { IsMade result R.remaining W.contents (IsProductOf made (Books.One origin) run.now.slots
+        run.now.sessions.number) source.old source.new sink.old sink.new }
+    ensures err { IsUnmade result R.remaining W.contents (IsOutputFault made (Books.One origin) run.now.slots
+        run.now.sessions.number) source.old source.new sink.old sink.new }
+    ensures any_ends { IsEngineAtEnds result W.contents source.old source.new sink.old sink.new }
+{
+    // A handset is shown what the book means, whatever the cells answered, and each cell keeps the guarantee.
+    book_runs::session_laws();
+    bsc_table::legal_histories();
+    let book = book_from(rt, source, origin)?;
+    let text = text_of_product(made, origin);
+    let octets = text_of_book(rt, book, text, run.slots, run.sessions, run.workers, gate)?;
+    match write_all(sink, &octets) {
+        Ok(()) => Ok(()),
+        Err(Failed) => Err(ProductFault::WriteFailed),
+    }
+}
+
+/// The text of a book, or of a group by itself.
+fn text_of_product(made: Product, origin: Origin) -> Text
+    requires { IsText made }
+    ensures { (slots : ℕ) (records : List Record)
+        → octets_of_text result slots records ≡ octets_of made origin slots records }
+{
+    match made {
+        Product::Tapes => unreachable!(),
+        Product::Report => Text::Report(is_headed(origin)),
+        Product::Chart(wanted) => Text::Chart(wanted),
+    }
+}
+
+/// Whether the line of the columns' names stands over the report.
+fn is_headed(origin: Origin) -> bool
+    ensures { result ≡ is_headed origin }
+{
+    match origin {
+        Origin::Book => true,
+        Origin::Group(group) => group == 0,
+    }
+}
+
+/// The text of the run of a book.
+pub(crate) fn text_of_book<T: AllocGlobal + Threads + Wait + Sync, G: Gate>(
+    rt: &T,
+    book: Book,
+    text: Text,
+    slots: u16,
+    sessions: Sessions,
+    workers: Workers,
+    gate: &G,
+) -> Result<Vec<u8>, RunFault>
+    requires book { IsSomeBook book }
+    ensures ok { IfOk result (λ octets. IsTextOf text book slots sessions.number octets.items) }
+    ensures err { IfErr result (IsOfBook book slots sessions.number) }
+{
+    // No book has over 64 cells, and each record gives a tape.
+    alert_book::book_laws();
+    book_runs::session_laws();
+    let records = records_after(rt, &book, slots, sessions, workers, gate)?;
+    // what the book holds is free for the tapes
+    drop(book);
+    let octets = text_of_records(rt, &records, text, slots, workers)?;
+    Ok(octets)
+}
+
+/// The text of records, by what handsets read of their tapes.
+fn text_of_records<T: AllocGlobal + Threads + Wait + Sync>(
+    rt: &T,
+    records: &[CellRecord],
+    text: Text,
+    slots: u16,
+    workers: Workers,
+) -> Result<Vec<u8>, RunFault>
+    requires few { length records.now ≤ 64 }
+    requires tapes { All (λ r. IsTape (tape_of_record r) (reading_of_record r)) records.now }
+    ensures ok { IfOk result (λ octets. octets.items ≡ octets_of_text text slots records.now) }
+    ensures err { IfErr result IsOfRun }
+{
+    match text {
+        Text::Report(headed) => {
+            let rows = rows_by(rt, records, workers)?;
+            let octets = text_of(rt.alloc(), headed, &rows)?;
+            Ok(octets)
+        }
+        Text::Chart(wanted) => {
+            let readings = readings_by(rt, records, workers)?;
+            match chart_octets(rt.alloc(), slots, wanted, records, &readings) {
+                Ok(octets) => Ok(octets),
+                Err(fault) => Err(of_memory(fault)),
+            }
+        }
+        Text::ChartPart(group, is_last, wanted) => {
+            let readings = readings_by(rt, records, workers)?;
+            match part_octets(rt.alloc(), slots, group, is_last, wanted, records, &readings) {
+                Ok(octets) => Ok(octets),
+                Err(fault) => Err(of_memory(fault)),
+            }
+        }
+    }
+}
+
+/// The fault of a text whose readings are of the same cells as the records, and which nobody wrote: memory ran out.
+fn of_memory(fault: ReportFault) -> RunFault
+    requires { fault ≡ ReportFault.Refused }
+    ensures { result ≡ faults.Refused }
+{
+    match fault {
+        ReportFault::Refused => RunFault::Refused,
+        ReportFault::Cells | ReportFault::WriteFailed => unreachable!(),
+    }
+}
+
+/// The rows of records, by what handsets read of their tapes. As many tapes at a time are read as there are workers,
+/// and what was read of them is dropped before the next ones are, so that the texts of no others are held.
+fn rows_by<T: AllocGlobal + Threads + Wait + Sync>(
+    rt: &T,
+    records: &[CellRecord],
+    workers: Workers,
+) -> Result<Vec<Row>, RunFault>
+    requires few { length records.now ≤ 64 }
+    requires tapes { All (λ r. IsTape (tape_of_record r) (reading_of_record r)) records.now }
+    ensures ok { IfOk result (λ rows. rows.items ≡ own_rows records.now) }
+    ensures err { IfErr result IsOfRun }
+{
+    let mut rows = Vec::new(rt.alloc());
+    let mut left = records;
+    while !left.is_empty() {
+        let (group, rest) = left.split_at(left.len().min(workers.number as usize));
+        push_rows(rt, group, workers, &mut rows)?;
+        left = rest;
+    }
+    Ok(rows)
+}
+
+/// Appends the rows of no more records than there are workers, by what handsets read of their tapes.
+fn push_rows<T: AllocGlobal + Threads + Wait + Sync>(
+    rt: &T,
+    records: &[CellRecord],
+    workers: Workers,
+    rows: &mut Vec<Row>,
+) -> Result<(), RunFault>
+    requires at_once { length records.now ≤ workers.number }
+    requires tapes { All (λ r. IsTape (tape_of_record r) (reading_of_record r)) records.now }
+    ensures ok { OnOk result (rows.new.items ≡ rows.old.items ++ own_rows records.now) }
+    ensures err { IfErr result IsOfRun }
+{
+    let mut readings = Vec::with_capacity(rt.alloc(), records.len())?;
+    read_group(rt, records, workers, &mut readings)?;
+    match report::rows(rt.alloc(), records, &readings) {
+        Ok(mut own) => {
+            rows.append(&mut own)?;
+            Ok(())
+        }
+        Err(fault) => Err(of_memory(fault)),
+    }
+}
+
+/// What handsets read of the tapes of records. As many tapes at a time are made as there are workers, and are read
+/// before the next ones are made, so that no more of them are held.
+fn readings_by<T: AllocGlobal + Threads + Wait + Sync>(
+    rt: &T,
+    records: &[CellRecord],
+    workers: Workers,
+) -> Result<Vec<Reading>, RunFault>
+    requires few { length records.now ≤ 64 }
+    requires tapes { All (λ r. IsTape (tape_of_record r) (reading_of_record r)) records.now }
+    ensures ok { IfOk result (λ readings. readings_of readings.items ≡ map reading_of_record records.now) }
+    ensures err { IfErr result IsOfRun }
+{
+    let mut readings = Vec::with_capacity(rt.alloc(), records.len())?;
+    let mut left = records;
+    while !left.is_empty() {
+        let (group, rest) = left.split_at(left.len().min(workers.number as usize));
+        read_group(rt, group, workers, &mut readings)?;
+        left = rest;
+    }
+    Ok(readings)
+}
+
+/// Makes the tapes of no more records than there are workers, and appends what handsets read of them.
+fn read_group<T: AllocGlobal + Threads + Sync>(
+    rt: &T,
+    records: &[CellRecord],
+    workers: Workers,
+    readings: &mut Vec<Reading>,
+) -> Result<(), RunFault>
+    requires at_once { length records.now ≤ workers.number }
+    requires tapes { All (λ r. IsTape (tape_of_record r) (reading_of_record r)) records.now }
+    ensures ok { OnOk result (readings_of readings.new.items
+        ≡ readings_of readings.old.items ++ map reading_of_record records.now) }
+    ensures err { IfErr result IsOfRun }
+{
+    // Octets are one tape at most.
+    handset::tape_laws();
+    let tapes = compile_all(rt, rt.alloc(), records, workers.number, &Open)?;
+    for tape in &tapes {
+        // The tape is whole, and memory doesn't fail to be read: only memory to read to can be refused.
+        let Ok(reading) = read_tape(rt.alloc(), &mut Source::new(tape.bytes())) else {
+            return Err(RunFault::Refused);
+        };
+        readings.push(reading)?;
+    }
+    Ok(())
+}
