@@ -17,7 +17,7 @@ use Rattle.warnc_cli.specs.declared.command.Task.TheVariants as task
 writes : (t : Task) (book input old new : Option (List ℕ)) → IsOfOneInput t → WritesOutput (Means t) input old new
     → WritesAll t book input old new
 writes (task.Verify from slots file workers) book input old new one wrote = absurd one
-writes (task.Page options) book input old new one wrote = wrote
+writes (task.Page language id serial) book input old new one wrote = wrote
 writes task.Read book input old new one wrote = wrote
 writes (task.Pcap settings) book input old new one wrote = wrote
 writes (task.Tape wanted) book input old new one wrote = wrote
@@ -28,7 +28,7 @@ writes (task.Make run made) book input old new one wrote = wrote
 refuses : (t : Task) (book input : Option (List ℕ)) → IsOfOneInput t → IfSome input (RefusesOne t)
     → Refuses t book input
 refuses (task.Verify from slots file workers) book input one refused = absurd one
-refuses (task.Page options) book input one refused = refused
+refuses (task.Page language id serial) book input one refused = refused
 refuses task.Read book input one refused = refused
 refuses (task.Pcap settings) book input one refused = refused
 refuses (task.Tape wanted) book input one refused = refused
@@ -39,7 +39,7 @@ refuses (task.Make run made) book input one refused = refused
 groups : (t : Task) (book input old new : Option (List ℕ)) → WritesFirstGroups t None input old new
     → WritesFirstGroups t book input old new
 groups (task.Verify from slots file workers) book input old new wrote = wrote
-groups (task.Page options) book input old new wrote = wrote
+groups (task.Page language id serial) book input old new wrote = wrote
 groups task.Read book input old new wrote = wrote
 groups (task.Pcap settings) book input old new wrote = wrote
 groups (task.Tape wanted) book input old new wrote = wrote

@@ -18,7 +18,7 @@ pub of_one_input : (words : List (List ℕ)) (t : Task) → IsTaskOf words t
     → slice_get words 1 ≢ Some (codes "verify")
     → IsOfOneInput t
 of_one_input words (task.Verify from slots file workers) asked other = absurd (other asked.command)
-of_one_input words (task.Page options) asked other = tt
+of_one_input words (task.Page language id serial) asked other = tt
 of_one_input words task.Read asked other = tt
 of_one_input words (task.Pcap settings) asked other = tt
 of_one_input words (task.Tape wanted) asked other = tt
@@ -36,8 +36,8 @@ may_write words (task.Verify from slots file workers) status asked (inl done) = 
 may_write words (task.Verify from slots file workers) status asked (inr (inl device)) = inr (inl device)
 may_write words (task.Verify from slots file workers) status asked (inr (inr differ)) =
     inr (inr (inl (differ, asked.command)))
-may_write words (task.Page options) status asked (inl done) = inl done
-may_write words (task.Page options) status asked (inr device) = inr (inl device)
+may_write words (task.Page language id serial) status asked (inl done) = inl done
+may_write words (task.Page language id serial) status asked (inr device) = inr (inl device)
 may_write words task.Read status asked (inl done) = inl done
 may_write words task.Read status asked (inr device) = inr (inl device)
 may_write words (task.Pcap settings) status asked (inl done) = inl done
@@ -77,7 +77,7 @@ writes_some words (task.Make run product.Report) asked compile live report =
     headed words run.books asked.books_given (report asked.made_given.0)
 writes_some words (task.Make run (product.Chart wanted)) asked compile live report = tt
 writes_some words (task.Verify from slots file workers) asked compile live report = tt
-writes_some words (task.Page options) asked compile live report = tt
+writes_some words (task.Page language id serial) asked compile live report = tt
 writes_some words task.Read asked compile live report = tt
 writes_some words (task.Pcap settings) asked compile live report = tt
 writes_some words (task.Tape wanted) asked compile live report = tt

@@ -35,7 +35,7 @@ use Rattle.warnc_cli.specs.declared.command.Task.TheVariants as task
 
 -- the words ask for this task
 abbrev pub IsTaskOf : (words : List (List ℕ)) → Task → Type 0
-IsTaskOf words (task.Page options) = AsksForPage words options.language.now options.id options.serial
+IsTaskOf words (task.Page language id serial) = AsksForPage words language.now id serial
 IsTaskOf words task.Read = AsksForRead words
 IsTaskOf words (task.Pcap settings) = AsksForPcap words settings
 IsTaskOf words (task.Tape wanted) = AsksForTape words wanted
@@ -47,7 +47,7 @@ IsTaskOf words (task.Verify from slots file workers) = AsksForVerify words from 
 
 -- what a command of one input makes of it
 abbrev pub Means : Task → (input output : List ℕ) → Type 0
-Means (task.Page options) = IsPageOutput options.language.now options.id options.serial
+Means (task.Page language id serial) = IsPageOutput language.now id serial
 Means task.Read = IsReadOutput
 Means (task.Pcap settings) = IsCapture settings
 Means (task.Tape wanted) = IsTapeOfCapture wanted
@@ -74,16 +74,17 @@ WritesAll (task.Verify from slots file workers) book input old new =
     WritesOutputOfBoth (IsVerified from slots) book input old new
 WritesAll other book input old new = WritesOutput (Means other) input old new
 
+-- the line of the columns' names stands over a report
+abbrev pub IsHeaded : Books → Type 0
+IsHeaded (books.One (origin.Group group)) = ⊥
+IsHeaded other = ⊤
+
 -- it writes something: tapes are none of a book without cells, and the report of a later group has no line of the
 -- columns' names
 abbrev pub AlwaysWrites : Task → Type 0
 AlwaysWrites (task.Make run product.Tapes) = ⊥
 AlwaysWrites (task.Make run product.Report) = IsHeaded run.books
 AlwaysWrites other = ⊤
-
-abbrev pub IsHeaded : Books → Type 0
-IsHeaded (books.One (origin.Group group)) = ⊥
-IsHeaded other = ⊤
 
 -- What is refused with status 1.
 
@@ -139,7 +140,7 @@ IsNotVerified from slots book tapes = IsNoRun from slots 1 book
 
 -- the input that a command of one input refuses
 abbrev pub RefusesOne : Task → (input : List ℕ) → Type 0
-RefusesOne (task.Page options) = IsRefused options.language.now
+RefusesOne (task.Page language id serial) = IsRefused language.now
 RefusesOne task.Read = IsNoTapes
 RefusesOne (task.Pcap settings) = IsNoTapes
 RefusesOne (task.Tape wanted) = IsNoAir wanted

@@ -3,10 +3,10 @@
 ghost use Rattle.std.specs.Prelude.{◌≡◌, ◌<◌, ◌∷◌, ◌++◌, ◌⊎◌, false, true, IfOk, IfSome, OnSome, Some, codes, map};
 ghost use Rattle.std.specs.Prelude.{slice_get};
 ghost use Rattle.warnc_cli.specs.CommandLine.{asks_for_text, begins_with, is_given, is_text_word, GivesNumber};
-ghost use Rattle.warnc_cli.specs.CommandLine.{GivesChannel, GivesSlots, GivesThreads, GivesValue, AsksForPage};
+ghost use Rattle.warnc_cli.specs.CommandLine.{GivesChannel, GivesSlots, GivesThreads, GivesValue};
 ghost use Rattle.warnc_cli.specs.CommandLine.{GivesCell, GivesFrom, GivesWanted, IsAddress, IsCell, IsNumber};
 ghost use Rattle.warnc_cli.specs.CommandLine.{slots_given, GivesBooks, GivesOrigin, GivesProduct};
-ghost use Rattle.warnc_cli.specs.RunSteps.{IsTaskOf};
+ghost use Rattle.warnc_cli.specs.Tasks.{IsTaskOf};
 
 use alert_book::Origin;
 use cbs_page::Serial;
@@ -17,17 +17,6 @@ use std::alloc::{AllocError, Global};
 use std::convert::AsStr;
 use warnc_run::{Books, Product, Run, Sessions, Workers};
 
-/// The options of `page`: the language's word, the message identifier and the serial number.
-#[derive(Clone, Copy, Debug, PartialEq, Eq)]
-pub struct PageOptions<'a> {
-    /// The word of the text's language.
-    pub language: &'a str,
-    /// The message identifier (3GPP TS 23.041, clause 9.4.1.2.2).
-    pub id: u16,
-    /// The serial number (3GPP TS 23.041, clause 9.4.1.2.1).
-    pub serial: Serial,
-}
-
 /// The version of the program, and on a line of its own what `rt version` says of the toolchain that proved it.
 const VERSION: &str = "1.0.0\nrattle-kit-13f logic dac8208d650f15bf";
 
@@ -35,7 +24,14 @@ const VERSION: &str = "1.0.0\nrattle-kit-13f logic dac8208d650f15bf";
 #[derive(Clone, Copy, Debug, PartialEq, Eq)]
 pub enum Task<'a> {
     /// `page`.
-    Page(PageOptions<'a>),
+    Page {
+        /// The word of the text's language.
+        language: &'a str,
+        /// The message identifier (3GPP TS 23.041, clause 9.4.1.2.2).
+        id: u16,
+        /// The serial number (3GPP TS 23.041, clause 9.4.1.2.1).
+        serial: Serial,
+    },
     /// `read`.
     Read,
     /// `pcap`.
@@ -85,10 +81,7 @@ fn task_in<'a, S: AsStr>(words: &'a [S]) -> Option<Task<'a>>
 {
     let command = words.get(1)?;
     match command.as_str() {
-        "page" => match page_options(words) {
-            Some(options) => Some(Task::Page(options)),
-            None => None,
-        },
+        "page" => page_in(words),
         "read" => Some(Task::Read),
         "pcap" => Some(Task::Pcap(Settings {
             channel: channel_in(words)?,
@@ -130,15 +123,14 @@ fn run_in<'a, S: AsStr>(words: &'a [S], made: Product, sessions: Sessions) -> Op
     })
 }
 
-/// The options that the words give `page`.
-fn page_options<'a, S: AsStr>(words: &'a [S]) -> Option<PageOptions<'a>>
+/// The `page` that the words ask for.
+fn page_in<'a, S: AsStr>(words: &'a [S]) -> Option<Task<'a>>
     requires { slice_get (map S.text words.now) 1 ≡ Some (codes "page") }
-    ensures { IfSome result (λ options.
-        AsksForPage (map S.text words.now) options.language.now options.id options.serial) }
+    ensures { IfSome result (IsTaskOf (map S.text words.now)) }
 {
     let scope = u8::try_from(number_of(words, "--scope")?).ok()?;
     let update = u8::try_from(number_of(words, "--update")?).ok()?;
-    Some(PageOptions {
+    Some(Task::Page {
         language: value_of(words, "--lang")?,
         id: number_of(words, "--id")?,
         serial: Serial::new(scope, number_of(words, "--code")?, update)?,

@@ -12,10 +12,11 @@ ghost use Rattle.warnc_cli.specs.RunSteps.{IsVerifyRunBetween, WroteFrontBy, Wro
 ghost use Rattle.warnc_cli.specs.Tasks.{IsNotVerified, WritesOutputOfBoth};
 ghost use Rattle.warnc_verify.specs.Verified.{HasDifferences, IsVerified};
 
-use crate::command::{PageOptions, Task, asks_for_text, task_of};
+use crate::command::{Task, asks_for_text, task_of};
 use crate::status::{DEVICE, DONE, MEMORY, REFUSED_INPUT, USAGE, failed, failed_with_book};
 use crate::unreadable::Unreadable;
 use alert_book::Origin;
+use cbs_page::Serial;
 use clap::Error;
 use clap::error::ErrorKind;
 use device_ends::{Sink, Source, write_all};
@@ -115,7 +116,7 @@ pub fn run_between<
 {
     let alloc = rt.alloc();
     match task_of(alloc, words) {
-        Ok(Some(task)) => run_task(rt, task, book, source, sink, faults),
+        Ok(Some(task)) => run_task(rt, &task, book, source, sink, faults),
         Ok(None) => {
             let _ = writeln!(
                 faults,
@@ -130,18 +131,22 @@ pub fn run_between<
 /// Runs a task, and returns the status.
 fn run_task<T: AllocGlobal + Threads + Wait + Sync, B: Read, R: Read, W: Write, F: Write>(
     rt: &T,
-    task: Task<'_>,
+    task: &Task,
     book: &mut Source<B>,
     source: &mut Source<R>,
     sink: &mut Sink<W>,
     faults: &mut F,
 ) -> u8
-    ensures { HasRun task result B.remaining R.remaining W.contents book.old book.new source.old source.new
+    ensures { HasRun task.now result B.remaining R.remaining W.contents book.old book.new source.old source.new
         sink.old sink.new }
 {
     let alloc = rt.alloc();
-    match task {
-        Task::Page(options) => run_page(alloc, options, source, sink, faults),
+    match *task {
+        Task::Page {
+            language,
+            id,
+            serial,
+        } => run_page(alloc, language, id, serial, source, sink, faults),
         Task::Read => run_read(alloc, source, sink, faults),
         Task::Pcap(settings) => run_pcap(alloc, settings, source, sink, faults),
         Task::Tape(wanted) => run_tape(alloc, wanted, source, sink, faults),
@@ -159,25 +164,20 @@ fn run_task<T: AllocGlobal + Threads + Wait + Sync, B: Read, R: Read, W: Write, 
 /// Runs `page`, and returns the status.
 fn run_page<R: Read, W: Write, F: Write>(
     alloc: Global,
-    options: PageOptions<'_>,
+    language: &str,
+    id: u16,
+    serial: Serial,
     source: &mut Source<R>,
     sink: &mut Sink<W>,
     faults: &mut F,
 ) -> u8
-    ensures done { IsDoneBy (Task.Page options) result R.remaining W.contents source.old sink.old sink.new }
-    ensures wrote { WroteSomeBy (Task.Page options) result W.contents sink.old sink.new }
-    ensures refused { IsRefusedBy (Task.Page options) result R.remaining source.old }
-    ensures front { WroteFrontBy (Task.Page options) result R.remaining W.contents source.old sink.old sink.new }
-    ensures ends { IsRunBetween (Task.Page options) result W.contents source.new sink.old sink.new }
+    ensures done { IsDoneBy (Task.Page language.entry id serial) result R.remaining W.contents source.old sink.old sink.new }
+    ensures wrote { WroteSomeBy (Task.Page language.entry id serial) result W.contents sink.old sink.new }
+    ensures refused { IsRefusedBy (Task.Page language.entry id serial) result R.remaining source.old }
+    ensures front { WroteFrontBy (Task.Page language.entry id serial) result R.remaining W.contents source.old sink.old sink.new }
+    ensures ends { IsRunBetween (Task.Page language.entry id serial) result W.contents source.new sink.old sink.new }
 {
-    match page_stream(
-        alloc,
-        source,
-        sink,
-        options.language,
-        options.id,
-        options.serial,
-    ) {
+    match page_stream(alloc, source, sink, language, id, serial) {
         Ok(()) => DONE,
         Err(fault) => failed(&fault, faults),
     }

@@ -26,8 +26,8 @@ returns-in-Err-clause-differences g c =
     (λ differs. differences_written c.args.origin c.args.slots _ _ _ c.in-Err.fault c.in-Err.ensures.err differs)
     (sym c.failed_with_book.ensures ∙ is)
 
-pub returns-in-Err-clause-any_ends : goal.returns-in-Err-clause-any_ends
-returns-in-Err-clause-any_ends g c =
+pub returns-in-Err-clause-ends : goal.returns-in-Err-clause-ends
+returns-in-Err-clause-ends g c =
     let held = g.W.Write.contents in
     between c.args.origin c.args.slots _ _ _ c.in-Err.fault c.failed_with_book.result _ _ _ _ _ _ _ _
     c.failed_with_book.ensures c.in-Err.ensures.err (record {
