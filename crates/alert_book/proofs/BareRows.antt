@@ -21,31 +21,29 @@ use Rattle.alert_book.specs.Book.{after_row, rows_by, rows_read_by, rows_with, s
 use Rattle.alert_book.specs.Book.{ArePagesOf, HasTextFaultBy, HasWrongText, HavePages, IsRowFaultBy, RowMeaning, Rows}
 use Rattle.alert_book.specs.Cells.{cell_with, cells_of_field, is_among}
 use Rattle.alert_book.specs.Fields.{alert_at, are_texts, category, column, first_order, if_right, is_named, known_name}
-use Rattle.alert_book.specs.Fields.{new_name, number, sending_by, sending_with}
-use Rattle.alert_book.specs.Network.{cells_in_group, declares_cell, row_in_group}
+use Rattle.alert_book.specs.Fields.{new_name, number, sending_by}
+use Rattle.alert_book.specs.Network.{action_to, cells_in_group, declares_cell, order_to, row_in_group, sending_to}
 use Rattle.alert_book.specs.Row.{cell_row_within, is_update_of, is_write, order_with, row_after_verb_by}
 use Rattle.alert_book.specs.Row.{stop_row_by, update_row_by, update_with, updates, verb_of, write_row_by, writes}
 use Rattle.alert_book.specs.Row.{FieldCells}
 
 -- no cells are left of any
-abbrev no_cells : List Cell → List Cell
+abbrev pub no_cells : List Cell → List Cell
 no_cells cells = []
 
 -- a sending and an action without their cells
 abbrev bare_sending : Sending → Sending
-bare_sending s = sending_with s.language s.category s.period s.broadcasts [] s.text
+bare_sending s = sending_to s []
 
-abbrev bare_action : Action → Action
-bare_action (action.Write sending) = action.Write (bare_sending sending)
-bare_action (action.Update update sending) = action.Update update (bare_sending sending)
-bare_action (action.Stop cells) = action.Stop []
+abbrev pub bare_action : Action → Action
+bare_action a = action_to a []
 
 -- an order without its cells is bare
 abbrev pub bare : Order → Order
-bare o = order_with o.row o.at o.name o.number o.alert (bare_action o.action)
+bare o = order_to o []
 
 -- a row is bare if its order is
-abbrev bare_row : Row → Row
+abbrev pub bare_row : Row → Row
 bare_row (rows.Declare cell) = rows.Declare cell
 bare_row (rows.Give order) = rows.Give (bare order)
 
@@ -54,7 +52,7 @@ abbrev pub bare_rows : Rows → Rows
 bare_rows before = rows_with before.cells (map bare before.orders)
 
 -- what is right is changed, and a fault stays
-abbrev right_by : {A B : Type 0} → (A → B) → Result A RowFault → Result B RowFault
+abbrev pub right_by : {A B : Type 0} → (A → B) → Result A RowFault → Result B RowFault
 right_by change r = if_right r (λ value. Ok (change value))
 
 -- what comes of rows is bare if they are, and a fault stays
@@ -84,13 +82,13 @@ itself (Ok value) = refl
 itself (Err kind) = refl
 
 -- a field stays, and what comes of it changes
-then_same : {A C D : Type 0} (r : Result A RowFault) (change : C → D) (next : A → Result C RowFault)
+pub then_same : {A C D : Type 0} (r : Result A RowFault) (change : C → D) (next : A → Result C RowFault)
     (later : A → Result D RowFault) → ((value : A) → right_by change (next value) ≡ later value) →
     right_by change (if_right r next) ≡ if_right r later
 then_same (Ok value) change next later so = so value
 then_same (Err kind) change next later so = refl
 
-either_bare : {C D : Type 0} (test : Bool) (change : C → D) (a b : Result C RowFault) (c d : Result D RowFault) →
+pub either_bare : {C D : Type 0} (test : Bool) (change : C → D) (a b : Result C RowFault) (c d : Result D RowFault) →
     right_by change a ≡ c → right_by change b ≡ d → right_by change (cond test a b) ≡ cond test c d
 either_bare true change a b c d first second = first
 either_bare false change a b c d first second = second
@@ -199,7 +197,7 @@ declares_bare declared fields =
     then_same (number 0 65535 (column fields 2)) bare_row _ _ (λ ci.
     either_bare (is_among declared (cell_with lac ci)) bare_row _ _ _ _ refl refl)))
 
-verb_bare : (verb : Option Verb) (row : ℕ) (declared : List Cell) (f g : FieldCells) (orders : List Order)
+pub verb_bare : (verb : Option Verb) (row : ℕ) (declared : List Cell) (f g : FieldCells) (orders : List Order)
     (fields : List (List ℕ)) → AreBare f g →
     right_by bare_row (row_after_verb_by verb (cell_row_within 65536 declared fields) row f orders fields)
     ≡ row_after_verb_by verb (cell_row_within 65536 declared fields) row g (map bare orders) fields
@@ -213,7 +211,7 @@ verb_bare (Some verbs.Update) row declared f g orders fields same =
 verb_bare (Some verbs.Stop) row declared f g orders fields same =
     either_bare (eqb (length fields) 4) bare_row _ _ _ _ (stop_bare row f g orders fields same) refl
 
-row_bare : (group row : ℕ) (declared : List Cell) (orders : List Order) (fields : List (List ℕ)) →
+pub row_bare : (group row : ℕ) (declared : List Cell) (orders : List Order) (fields : List (List ℕ)) →
     right_by bare_row (row_in_group group row declared orders fields)
     ≡ bare_meaning row declared (map bare orders) fields
 row_bare group row declared orders fields =
@@ -302,7 +300,7 @@ sent_bare (action.Update update s) sending is = ap (λ (x : Sending). Some (bare
 sent_bare (action.Stop cells) sending is = absurd (cc is)
 
 -- orders and bare orders have the same wrong text
-wrong_bare : (orders : List Order) (f : BookFault) → HasWrongText orders f → HasWrongText (map bare orders) f
+pub wrong_bare : (orders : List Order) (f : BookFault) → HasWrongText orders f → HasWrongText (map bare orders) f
 wrong_bare orders f w = record {
   before = map bare w.before;
   order = bare w.order;

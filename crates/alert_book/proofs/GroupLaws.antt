@@ -26,14 +26,15 @@ none_among cell (c ∷ cs) none =
     or_from (is_cell c cell) (is_among cs cell) (cell-symm c cell ∙ parts.0) (none_among cell cs parts.1)
 
 -- nor among a part of them
-none_taken : {X : Type 0} (p : X → Bool) (k : ℕ) (xs : List X) → list_any p xs ≡ false → list_any p (take k xs) ≡ false
+pub none_taken : {X : Type 0} (p : X → Bool) (k : ℕ) (xs : List X) → list_any p xs ≡ false
+    → list_any p (take k xs) ≡ false
 none_taken {X} p zero xs none = refl
 none_taken {X} p (suc k) [] none = refl
 none_taken {X} p (suc k) (x ∷ xs) none =
     let parts = or_parts (p x) (list_any p xs) none in
     or_from (p x) (list_any p (take k xs)) parts.0 (none_taken p k xs parts.1)
 
-none_dropped : {X : Type 0} (p : X → Bool) (n : ℕ) (xs : List X) → list_any p xs ≡ false →
+pub none_dropped : {X : Type 0} (p : X → Bool) (n : ℕ) (xs : List X) → list_any p xs ≡ false →
     list_any p (drop n xs) ≡ false
 none_dropped {X} p zero xs none = none
 none_dropped {X} p (suc n) [] none = refl
@@ -99,13 +100,13 @@ take_full {X} zero (x ∷ xs) few = absurd (omega (arith, few))
 take_full {X} (suc k) [] few = refl
 take_full {X} (suc k) (x ∷ xs) few = ap (λ (ys : List X). x ∷ ys) (take_full k xs (omega (arith, few)))
 
-drop_all : {X : Type 0} (n : ℕ) (xs : List X) → length xs ≤ n → drop n xs ≡ []
+pub drop_all : {X : Type 0} (n : ℕ) (xs : List X) → length xs ≤ n → drop n xs ≡ []
 drop_all {X} zero [] few = refl
 drop_all {X} zero (x ∷ xs) few = absurd (omega (arith, few))
 drop_all {X} (suc n) [] few = refl
 drop_all {X} (suc n) (x ∷ xs) few = drop_all n xs (omega (arith, few))
 
-length_drop : {X : Type 0} (n : ℕ) (xs : List X) → n ≤ length xs → n + length (drop n xs) ≡ length xs
+pub length_drop : {X : Type 0} (n : ℕ) (xs : List X) → n ≤ length xs → n + length (drop n xs) ≡ length xs
 length_drop {X} zero xs few = omega arith
 length_drop {X} (suc n) [] few = absurd (omega (arith, few))
 length_drop {X} (suc n) (x ∷ xs) few = let rest = length_drop n xs (omega (arith, few)) in omega (arith, rest)

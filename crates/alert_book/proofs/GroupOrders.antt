@@ -35,7 +35,7 @@ use Rattle.alert_book.proofs.OneAlert.{alerts_are_one, either_next, fault_next, 
 use Rattle.alert_book.proofs.OneAlert.{AreNumbered, IsNextRow}
 use Rattle.alert_book.proofs.OneBook.{books_are_one}
 use Rattle.alert_book.proofs.RightOrders.{distinct_filter, either_right, fault_right, no_more_than, orders_are_right}
-use Rattle.alert_book.proofs.RightOrders.{orders_with_row, right_gives, verb_right, IsRightAction}
+use Rattle.alert_book.proofs.RightOrders.{cells_column, orders_with_row, right_gives, verb_right, IsRightAction}
 use Rattle.alert_book.proofs.RightOrders.{IsRightActionBy, IsRightRow}
 
 -- cells that may stand in a message, but may be none
@@ -111,7 +111,7 @@ row_valid group row declared orders fields distinct =
     (fault_right AreValid fault.TooManyRows)
     (either_right AreValid (not (are_texts fields)) _ _ (fault_right AreValid fault.Columns)
     (verb_right AreValid (verb_of (column fields 0)) 65536 row declared (cells_in_group group declared) orders fields
-    (field_valid group declared distinct)))
+    (field_valid group declared distinct (column fields (cells_column (verb_of (column fields 0)))))))
 
 row_next : (group row : ℕ) (declared : List Cell) (orders : List Order) (fields : List (List ℕ)) → (meant : Row) →
     row_in_group group row declared orders fields ≡ Ok meant → IsNextRow orders meant

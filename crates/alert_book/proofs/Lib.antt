@@ -27,4 +27,5 @@ pub mod NetworkLaws
 pub mod BareRows
 pub mod OneNetwork
 pub mod GroupOrders
+pub mod AllGroupsLaws
 pub mod Origins

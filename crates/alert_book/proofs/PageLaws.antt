@@ -57,7 +57,7 @@ wrong_here order orders f bad = record {
   named = bad.named;
 }
 
-wrong_later : (order : Order) (orders : List Order) (paged : Option Paged) (f : BookFault) →
+pub wrong_later : (order : Order) (orders : List Order) (paged : Option Paged) (f : BookFault) →
     IsOrderPacked order (Ok paged) → HasWrongText orders f → HasWrongText (order ∷ orders) f
 wrong_later order orders paged f here later = record {
   before = order ∷ later.before;

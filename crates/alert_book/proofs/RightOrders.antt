@@ -127,7 +127,7 @@ before_some (Some cell) None cells is = absurd (cc is)
 before_some (Some cell) (Some rest) [] is = absurd (cc is)
 before_some (Some cell) (Some rest) (c ∷ cs) is = refl
 
-listed_some : (part text : List ℕ) (cells : List Cell) → all_named (parts_after part text) ≡ Some cells →
+pub listed_some : (part text : List ℕ) (cells : List Cell) → all_named (parts_after part text) ≡ Some cells →
     is_nothing cells ≡ false
 listed_some part [] cells is = before_some (cell_named part) (Some []) cells is
 listed_some part (octet ∷ text) cells is = elim (cases_Bool (is_space octet)) [
@@ -208,9 +208,17 @@ pub record IsRightBy (Good : List Cell → Type 0) (sending : Sending) : Type 0 
 abbrev pub IsRight : Sending → Type 0
 IsRight sending = IsRightBy AreAsked sending
 
--- each field comes to good cells
-abbrev pub AreGood : (Good : List Cell → Type 0) → FieldCells → Type 0
-AreGood Good cells_of = (field : List ℕ) (cells : List Cell) → cells_of field ≡ Ok cells → Good cells
+-- a field comes to good cells
+abbrev pub AreGood : (Good : List Cell → Type 0) → FieldCells → (field : List ℕ) → Type 0
+AreGood Good cells_of field = (cells : List Cell) → cells_of field ≡ Ok cells → Good cells
+
+-- the column of a row's cells
+abbrev pub cells_column : Option Verb → ℕ
+cells_column None = 0
+cells_column (Some verbs.Cell) = 0
+cells_column (Some verbs.Write) = 10
+cells_column (Some verbs.Update) = 7
+cells_column (Some verbs.Stop) = 3
 
 -- what all that comes next makes is, the whole makes is
 pub right_gives : {A B : Type 0} (P : B → Type 0) (r : Result A RowFault) (next : A → Result B RowFault) →
@@ -224,8 +232,8 @@ same_sending r a b one other = cc
 
 -- what a row has cells send is
 pub sending_right : (Good : List Cell → Type 0) (cells_of : FieldCells) (fields : List (List ℕ)) (place : ℕ) →
-    AreGood Good cells_of → (sending : Sending) → sending_by cells_of fields place ≡ Ok sending →
-    IsRightBy Good sending
+    AreGood Good cells_of (column fields (place + 4)) → (sending : Sending) →
+    sending_by cells_of fields place ≡ Ok sending → IsRightBy Good sending
 sending_right Good cells_of fields place good =
     right_gives (IsRightBy Good) (category (column fields (place + 1))) _ (λ c categorized.
     right_gives (IsRightBy Good) (number 1 1024 (column fields (place + 2))) _ (λ p periodic.
@@ -238,7 +246,7 @@ sending_right Good cells_of fields place good =
       category = (and_parts (nat_le 0 c) (nat_le c 2)
           (number_is 0 2 (column fields (place + 1)) c categorized)).1;
       period = number_is 1 1024 (column fields (place + 2)) p periodic;
-      cells = good (column fields (place + 4)) cells listed;
+      cells = good cells listed;
     })))))
 
 -- what an action sends or stops is
@@ -256,7 +264,7 @@ abbrev pub IsRightRow : (Good : List Cell → Type 0) → Row → Type 0
 IsRightRow Good (rows.Declare cell) = Unit {0}
 IsRightRow Good (rows.Give order) = IsRightActionBy Good order.action
 
-same_row : (r : Result Row RowFault) (a b : Row) → r ≡ Ok a → r ≡ Ok b → a ≡ b
+pub same_row : (r : Result Row RowFault) (a b : Row) → r ≡ Ok a → r ≡ Ok b → a ≡ b
 same_row r a b one other = cc
 
 given_right : (Good : List Cell → Type 0) (order : Order) (r : Result Row RowFault) →
@@ -286,7 +294,8 @@ new_right Good declared cell =
 
 -- a row is right if its field comes to good cells
 pub verb_right : (Good : List Cell → Type 0) (verb : Option Verb) (most row : ℕ) (declared : List Cell)
-    (cells_of : FieldCells) (orders : List Order) (fields : List (List ℕ)) → AreGood Good cells_of → (meant : Row) →
+    (cells_of : FieldCells) (orders : List Order) (fields : List (List ℕ)) →
+    AreGood Good cells_of (column fields (cells_column verb)) → (meant : Row) →
     row_after_verb_by verb (cell_row_within most declared fields) row cells_of orders fields ≡ Ok meant →
     IsRightRow Good meant
 verb_right Good None most row declared cells_of orders fields good = fault_right Good fault.Verb
@@ -323,7 +332,7 @@ verb_right Good (Some verbs.Stop) most row declared cells_of orders fields good 
     right_gives (IsRightRow Good) (known_name orders (column fields 2)) _ (λ first named.
     right_gives (IsRightRow Good) (cells_of (column fields 3)) _ (λ cells listed.
     given_right Good (order_with row at (column fields 2) first.number first.alert (action.Stop cells)) _
-    (good (column fields 3) cells listed) refl))))
+    (good cells listed) refl))))
     (fault_right Good fault.Columns)
 
 row_right : (row : ℕ) (declared : List Cell) (orders : List Order) (fields : List (List ℕ)) →
@@ -333,7 +342,7 @@ row_right row declared orders fields valid =
     either_right AreAsked (nat_lt 4096 row) _ _ (fault_right AreAsked fault.TooManyRows)
     (either_right AreAsked (not (are_texts fields)) _ _ (fault_right AreAsked fault.Columns)
     (verb_right AreAsked (verb_of (column fields 0)) 64 row declared (cells_of_field declared) orders fields
-    (λ field cells. field_asked declared field cells valid)))
+    (λ cells. field_asked declared (column fields (cells_column (verb_of (column fields 0)))) cells valid)))
 
 -- so the orders of a book are right
 abbrev IsRightOrder : Order → Type 0

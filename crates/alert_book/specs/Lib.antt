@@ -8,6 +8,7 @@ pub mod Texts
 pub mod CellPairs
 pub mod Network
 pub mod NetworkSteps
+pub mod AllGroupsSteps
 pub mod Origin
 pub mod NetworkLaws
 pub mod Session

@@ -1,7 +1,7 @@
 -- What a network book's octets mean for a group of its cells. Its rows are those of a book, but up to 65,536 of them
 -- declare cells, and up to 4,096 do something else. Own.
 use Rattle.std.specs.Prelude.{◌≡◌, ◌⊎◌, ℕ, ◌+◌, ◌*◌, ◌/◌, ◌≤◌, ◌<◌, ◌&&◌, Bool, not, nat_le, if◌then◌else◌, max}
-use Rattle.std.specs.Prelude.{Option, List, codes, drop, filter, length, take, Result, Ok, Err}
+use Rattle.std.specs.Prelude.{Option, List, [], ◌∷◌, codes, drop, filter, length, slice_index_or, take, Result, Ok, Err}
 use Rattle.std.specs.Io.KnownBytes.{Consumes, IsAtEnd}
 use Rattle.std.specs.Str.{bytes_eq}
 use Rattle.cbs_page.specs.declared.paging.Paged.{Paged}
@@ -14,13 +14,16 @@ use Rattle.alert_book.specs.declared.book.order.Action.{Action}
 use Rattle.alert_book.specs.declared.book.order.Action.TheVariants as action
 use Rattle.alert_book.specs.declared.book.order.Order.{Order}
 use Rattle.alert_book.specs.declared.book.row.Row.{Row}
+use Rattle.alert_book.specs.declared.book.order.Sending.{Sending}
 use Rattle.alert_book.specs.declared.network.GroupFault.{GroupFault}
 use Rattle.alert_book.specs.declared.network.GroupFault.TheVariants as group_fault
+use Rattle.alert_book.specs.declared.network.shares.Named.{Named}
+use Rattle.alert_book.specs.declared.network.shares.Named.TheVariants as named
 use Rattle.alert_book.specs.Book.{refused, too_long, unread, AreRowsBy, Contents, HasTextFaultBy, HavePages}
-use Rattle.alert_book.specs.Book.{IsRowFaultBy, ReadsBy, Rows}
+use Rattle.alert_book.specs.Book.{rows_with, IsRowFaultBy, ReadsBy, Rows}
 use Rattle.alert_book.specs.Cells.{cells_of_field, is_among}
-use Rattle.alert_book.specs.Fields.{are_texts, column, if_right}
-use Rattle.alert_book.specs.Row.{cell_row_within, row_after_verb_by, verb_of}
+use Rattle.alert_book.specs.Fields.{are_texts, column, if_right, sending_with}
+use Rattle.alert_book.specs.Row.{cell_row_within, order_with, row_after_verb_by, verb_of}
 
 -- the most octets of a network book, the most rows that declare cells, and the most others
 abbrev pub max_network : ℕ
@@ -79,6 +82,44 @@ pub record IsNetwork (group : ℕ) (input : List ℕ) (rows : Rows) : Type 0 whe
   pub meant : AreRowsBy (row_in_group group) input rows
   pub pages : List (Option Paged)
   pub paged : HavePages rows.orders pages
+
+-- of the cells that a row names those of a group, where the network has these
+abbrev pub named_of : List Cell → (group : ℕ) → Named → List Cell
+named_of cells group (named.All count) = cells_of_group group (take count cells)
+named_of cells group (named.Listed shares) = slice_index_or shares group []
+
+-- an order for these cells
+abbrev pub sending_to : Sending → List Cell → Sending
+sending_to s cells = sending_with s.language s.category s.period s.broadcasts cells s.text
+
+abbrev pub action_to : Action → List Cell → Action
+action_to (action.Write sending) cells = action.Write (sending_to sending cells)
+action_to (action.Update update sending) cells = action.Update update (sending_to sending cells)
+action_to (action.Stop others) cells = action.Stop cells
+
+abbrev pub order_to : Order → List Cell → Order
+order_to o cells = order_with o.row o.at o.name o.number o.alert (action_to o.action cells)
+
+-- orders of a network as a group reads them, by what each names
+abbrev pub orders_in : List Cell → (group : ℕ) → List Order → List Named → List Order
+orders_in cells group [] all = []
+orders_in cells group (order ∷ orders) [] = order_to order [] ∷ orders_in cells group orders []
+orders_in cells group (order ∷ orders) (name ∷ all) =
+    order_to order (named_of cells group name) ∷ orders_in cells group orders all
+
+-- a network's cells, the orders of its rows without cells, and what cells each of these names
+pub record NetworkRows : Type 0 where
+  pub cells : List Cell
+  pub orders : List Order
+  pub named : List Named
+
+-- its rows as a group reads them
+abbrev pub read_in : (group : ℕ) → NetworkRows → Rows
+read_in group network = rows_with network.cells (orders_in network.cells group network.orders network.named)
+
+-- the octets are a network book, and each group reads these rows in it
+abbrev pub MeansNetwork : List ℕ → NetworkRows → Type 0
+MeansNetwork input network = (group : ℕ) → IsNetwork group input (read_in group network)
 
 -- the octets are a network book that has this group, whose book is this: its cells, the orders that are for some of
 -- them, and the pages of each

@@ -21,7 +21,7 @@ use Rattle.alert_book.specs.Cells.{cell_with, cells_listed, is_among}
 use Rattle.alert_book.specs.Fields.{are_texts, column, if_right, number}
 use Rattle.alert_book.specs.Network.{cells_of_group, declares_cell, has_cells, max_network_cells, max_orders}
 use Rattle.alert_book.specs.Network.{max_network, row_in_group}
-use Rattle.alert_book.specs.Row.{row_after_verb_by, verb_of}
+use Rattle.alert_book.specs.Row.{row_after_verb_by, verb_of, FieldCells}
 
 -- a field of cells, and a row that declares a cell, by what is kept
 abbrev pub kept_judged : GroupCells → Option (List Cell) → Result (List Cell) RowFault
@@ -46,12 +46,17 @@ kept_declares g fields =
     if has_cell g.declared (cell_with lac ci) then Err fault.TwiceNamed
     else Ok (rows.Declare (cell_with lac ci))))
 
--- a row by what is kept
-abbrev pub kept_row : (row : ℕ) → GroupCells → List Order → List (List ℕ) → Result Row RowFault
-kept_row row g orders fields =
+-- a row of a network, where this is what it means if it declares a cell, and this what its field of cells comes to
+abbrev pub network_row_by : (row : ℕ) → (declares : Result Row RowFault) → FieldCells → List Order → List (List ℕ)
+    → Result Row RowFault
+network_row_by row declares cells_of orders fields =
     if not (declares_cell fields) && nat_le max_orders (length orders) then Err fault.TooManyRows
     else if not (are_texts fields) then Err fault.Columns
-    else row_after_verb_by (verb_of (column fields 0)) (kept_declares g fields) row (kept_field g) orders fields
+    else row_after_verb_by (verb_of (column fields 0)) declares row cells_of orders fields
+
+-- a row by what is kept
+abbrev pub kept_row : (row : ℕ) → GroupCells → List Order → List (List ℕ) → Result Row RowFault
+kept_row row g orders fields = network_row_by row (kept_declares g fields) (kept_field g) orders fields
 
 -- a cell more
 abbrev pub is_next_in : GroupCells → Bool

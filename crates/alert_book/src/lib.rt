@@ -2,7 +2,8 @@
 //!
 //! A book's rows declare cells, and write, update and stop alerts in them. [`read_book`] reads all of a book, or
 //! returns the first fault of it. [`read_group`] reads a book of more cells for a group of them, and [`group_in`] does
-//! so of octets. A [`Session`] gives the messages that the rows order, one after the other, by the replies so far.
+//! so of octets. [`Network::read`] reads such a book once, for the books of all its groups. A [`Session`] gives the
+//! messages that the rows order, one after the other, by the replies so far.
 #![tactic(auto)]
 
 pub mod book;
@@ -14,6 +15,7 @@ pub mod session;
 pub use book::{Book, MAX_INPUT, read_book};
 pub use fault::{BookFault, BookFaultKind};
 pub use laws::{book_laws, network_laws, session_laws, text_laws};
+pub use network::all_groups::Network;
 pub use network::{
     GroupFault, MAX_NETWORK, Origin, count_groups, group_in, groups_in, read_book_from, read_group,
 };

@@ -11,12 +11,14 @@ ghost use Rattle.alert_book.specs.NameSteps.{AreNames};
 ghost use Rattle.alert_book.specs.Network.{declares_cell, groups_of, has_cells, row_in_group, CountsGroups};
 ghost use Rattle.alert_book.specs.Network.{HasGroups, HasNoBook, HasNoBookIn, IsGroupBook, IsNoNetworkBook};
 ghost use Rattle.alert_book.specs.Network.{IsWrongNetwork, ReadsGroup, RefusesNetwork};
-ghost use Rattle.alert_book.specs.NetworkSteps.{is_kept_at, kept_row, pages_kept, AreAllKept, IsKeptMore, ReadsRows};
+ghost use Rattle.alert_book.specs.NetworkSteps.{is_kept_at, kept_row, network_row_by, pages_kept, AreAllKept};
+ghost use Rattle.alert_book.specs.NetworkSteps.{IsKeptMore, ReadsRows};
 ghost use Rattle.alert_book.specs.Origin.{HasNoBookFrom, ReadsFrom};
 ghost use Rattle.alert_book.specs.RowSteps.{IsFine};
 ghost use Rattle.alert_book.specs.SendableSteps.{IsSendable};
 
 use crate::book::cells::list_of;
+use crate::book::declared::Declared;
 use crate::book::fields::texts_of;
 use crate::book::names::Names;
 use crate::book::order::{Action, Order};
@@ -35,8 +37,11 @@ use std::marker::Model;
 use std::thread::Threads;
 use thiserror::Error;
 
+pub(crate) mod all_cells;
+pub(crate) mod all_groups;
 pub(crate) mod cell_set;
 pub(crate) mod group_cells;
+pub(crate) mod shares;
 
 /// The most octets of a network book: 64 MiB.
 pub const MAX_NETWORK: usize = 0x400_0000;
@@ -96,21 +101,23 @@ fn declares_cell(fields: &ByteRecord) -> bool
     }
 }
 
-/// What the row of this number means in a group.
-fn row_in_group(
+/// What the row of this number means in a network that declares these cells.
+pub(crate) fn network_row<D: Declared>(
     alloc: Global,
     row: u32,
-    declared: &GroupCells,
+    declared: &D,
     orders: &[Order],
     names: &Names,
     fields: ByteRecord,
 ) -> Result<Row, RowFault>
     requires few { length orders.now ≤ 4096 }
     requires names { AreNames names.now orders.now }
-    ensures ok { IfOk result (λ meant. kept_row row declared.now orders.now (fields_of fields) ≡ Ok meant) }
+    ensures ok { IfOk result (λ meant. network_row_by row (D.declares declared.now (fields_of fields))
+        (D.field_cells declared.now) orders.now (fields_of fields) ≡ Ok meant) }
     ensures sendable { IfOk result (λ meant. All IsSendable orders.now → IsFine meant) }
     ensures err { IfErr result (λ fault. fault ≢ RowFault.Refused →
-        kept_row row declared.now orders.now (fields_of fields) ≡ Err fault) }
+        network_row_by row (D.declares declared.now (fields_of fields)) (D.field_cells declared.now) orders.now
+        (fields_of fields) ≡ Err fault) }
 {
     if !declares_cell(&fields) && orders.len() >= MAX_ORDERS {
         return Err(RowFault::TooManyRows);
@@ -130,7 +137,7 @@ impl RowsInGroup {
         ensures err { IfErr result (λ fault. fault ≢ RowFault.Refused →
             kept_row row self.old.declared self.old.orders (fields_of fields) ≡ Err fault) }
     {
-        match row_in_group(
+        match network_row(
             alloc,
             row,
             &self.declared,
@@ -205,7 +212,7 @@ fn has_cells(order: &Order) -> bool
 }
 
 /// How many groups a network of this many cells has.
-fn groups_of(cells: u32) -> u16
+pub(crate) fn groups_of(cells: u32) -> u16
     requires { cells ≤ 65536 }
     ensures { result ≡ groups_of cells }
 {
@@ -215,7 +222,7 @@ fn groups_of(cells: u32) -> u16
 
 /// A network book that is read for a group.
 #[derive(Drop)]
-struct Network {
+struct NetworkForGroup {
     rows: RowsInGroup,
     pages: Vec<Option<Paged>>,
 }
@@ -225,7 +232,7 @@ fn network_of<T: AllocGlobal + Threads + Sync>(
     rt: &T,
     octets: &[u8],
     group: u16,
-) -> Result<Network, BookFault>
+) -> Result<NetworkForGroup, BookFault>
     requires { length octets.now ≤ 67108864 }
     ensures ok { IfOk result (λ network. AreAllKept network.rows group octets.now
         × HavePages network.rows.orders network.pages.items) }
@@ -234,7 +241,7 @@ fn network_of<T: AllocGlobal + Threads + Sync>(
 {
     let rows = rows_in_group(rt.alloc(), octets, group)?;
     let pages = all_pages(rt, &rows.orders)?;
-    Ok(Network { rows, pages })
+    Ok(NetworkForGroup { rows, pages })
 }
 
 /// The network book that octets are, if they are one and not too many.
@@ -242,7 +249,7 @@ fn network_in<T: AllocGlobal + Threads + Sync>(
     rt: &T,
     octets: &[u8],
     group: u16,
-) -> Result<Network, BookFault>
+) -> Result<NetworkForGroup, BookFault>
     ensures bounded { OnOk result (length octets.now ≤ 67108864) }
     ensures ok { IfOk result (λ network. AreAllKept network.rows group octets.now
         × HavePages network.rows.orders network.pages.items) }
@@ -260,7 +267,7 @@ fn read_network<T: AllocGlobal + Threads + Sync, R: Read>(
     rt: &T,
     source: &mut Source<R>,
     group: u16,
-) -> Result<Network, BookFault>
+) -> Result<NetworkForGroup, BookFault>
     ensures ok { IfOk result (λ network. ReadsRows (R.remaining (reader_of source.old))
         (R.remaining (reader_of source.new)) group network.rows network.pages.items) }
     ensures err { IfErr result (λ fault. RefusesNetwork (R.remaining (reader_of source.old))
@@ -332,13 +339,13 @@ fn orders_kept(alloc: Global, orders: Vec<Order>) -> Result<Vec<Order>, AllocErr
 }
 
 /// The book of the group that a network book was read for.
-fn book_of(alloc: Global, network: Network) -> Result<Book, AllocError>
+fn book_of(alloc: Global, network: NetworkForGroup) -> Result<Book, AllocError>
     requires { HavePages network.rows.orders network.pages.items }
     ensures cells { IfOk result (λ book. book.cells ≡ network.rows.declared.cells) }
     ensures orders { IfOk result (λ book. book.orders ≡ filter has_cells network.rows.orders) }
     ensures pages { IfOk result (λ book. HavePages book.orders book.pages) }
 {
-    let Network { rows, pages } = network;
+    let NetworkForGroup { rows, pages } = network;
     let RowsInGroup {
         declared,
         orders,
@@ -355,7 +362,7 @@ fn book_of(alloc: Global, network: Network) -> Result<Book, AllocError>
 }
 
 /// The book of a group for which a network book was read.
-fn book_in(alloc: Global, network: Network, group: u16) -> Result<Book, GroupFault>
+fn book_in(alloc: Global, network: NetworkForGroup, group: u16) -> Result<Book, GroupFault>
     requires known { (input : List ℕ) × AreAllKept network.rows group input }
     requires paged { HavePages network.rows.orders network.pages.items }
     ensures cells { IfOk result (λ book. book.cells ≡ network.rows.declared.cells) }

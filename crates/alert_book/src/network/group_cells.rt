@@ -20,10 +20,10 @@ use csv::StringRecord;
 use std::alloc::{AllocError, Global};
 
 /// The most cells of a network.
-const MAX_CELLS: u32 = 0x1_0000;
+pub(crate) const MAX_CELLS: u32 = 0x1_0000;
 
 /// How many cells a group has.
-const GROUP_SIZE: u32 = 64;
+pub(crate) const GROUP_SIZE: u32 = 64;
 
 /// The cells that a network's rows declare: those of one group in their order, and of the others that they are there.
 #[derive(Debug, Drop)]
@@ -148,7 +148,7 @@ impl Declared for GroupCells {
 }
 
 /// Whether a list has no cell twice. It may be long, so no two of its cells are compared.
-fn are_distinct(alloc: Global, cells: &[Cell]) -> Result<bool, AllocError>
+pub(crate) fn are_distinct(alloc: Global, cells: &[Cell]) -> Result<bool, AllocError>
     ensures { IfOk result (λ distinct. distinct ≡ are_distinct cells.now) }
 {
     let mut seen = CellSet::new(alloc);
