@@ -1,5 +1,6 @@
 -- The parts of a network's groups, one after the other.
 use Rattle.std.proofs.Common.{◌≡◌, ℕ, suc, ◌+◌, ◌<◌, ◌≤◌, ◌∙◌, List, [], ◌∷◌, ◌++◌, length, take, drop}
+use Rattle.std.proofs.Common.{OnOk, false, true}
 use Rattle.std.proofs.Common.{append-nil, ap, get_or, inl, inr, refl, subst, sym, IfErr, IfOk, Option, Result, Ok, Err}
 use native.Mathlib.Omega.{arith}
 use Rattle.std.proofs.KnownBytes.{Appends-nil, Appends-trans}
@@ -8,22 +9,25 @@ use Rattle.std.proofs.lemmas.Grind.{flat_map-append}
 use Rattle.std.proofs.lemmas.List.{length-append, take-append-drop, take-append-le}
 use Rattle.std.specs.Io.KnownBytes.{Appends, Consumes, IsAtEnd}
 use Rattle.device_ends.specs.Moves.{ReadsUpTo}
+use Rattle.device_ends.specs.Sink.{sink_failed}
+use Rattle.device_ends.specs.Source.{source_failed}
+use Rattle.device_ends.specs.declared.reading.Source.{Source}
+use Rattle.device_ends.specs.declared.writing.Sink.{Sink}
 use Rattle.alert_book.specs.declared.fault.BookFault.{BookFault}
-use Rattle.alert_book.specs.declared.fault.BookFaultKind.TheVariants as kinds
-use Rattle.alert_book.specs.declared.network.GroupFault.{GroupFault}
-use Rattle.alert_book.specs.declared.network.GroupFault.TheVariants as group_fault
 use Rattle.alert_book.specs.declared.network.Origin.TheVariants as origin
 use Rattle.alert_book.specs.Book.{Contents}
-use Rattle.alert_book.specs.Network.{HasGroups, HasNoBookIn, IsGroupBook, IsNoNetworkBook, RefusesNetwork}
-use Rattle.alert_book.specs.NetworkLaws.{CountsAreOne, NetworksAreRight}
+use Rattle.alert_book.specs.Network.{HasGroups, IsGroupBook, IsNoNetworkBook, MeansNetwork, NetworkRows, read_in}
+use Rattle.alert_book.specs.Network.{RefusesNetwork}
 use Rattle.warnc_run.specs.declared.fault.RunFault.{RunFault}
 use Rattle.warnc_run.specs.declared.product.ProductFault.{ProductFault}
 use Rattle.warnc_run.specs.declared.product.ProductFault.TheVariants as fault
 use Rattle.warnc_run.specs.declared.parts.Part.{Part}
+use Rattle.warnc_run.specs.Engine.{IsEngineAtEnds}
 use Rattle.warnc_run.specs.Made.{Makes}
 use Rattle.warnc_run.specs.Network.{joined_parts, ArePartsFrom, GroupRuns, HasNoPart, IsNetworkFault, IsOfNetwork, IsPartOf}
-use Rattle.warnc_run.specs.NetworkSteps.{octets_of_part, AreMadeFrom, HasNoEmptyTape, IsMadeOf, IsWritten, StopsAt}
-use Rattle.warnc_run.specs.NetworkSteps.{StopsParts, WritesFrontOf, WritesParts, WritesPartsFront}
+use Rattle.warnc_run.specs.NetworkSteps.{is_of_writer, octets_of_part, AreGroupsOf, AreMadeFor, HasNoEmptyTape}
+use Rattle.warnc_run.specs.NetworkSteps.{IsMadeOf, IsWritten, StopsAt, StopsParts, StopsPartsOf, WritesFrontOf}
+use Rattle.warnc_run.specs.NetworkSteps.{WritesParts, WritesPartsFront, WritesPartsOf}
 use Rattle.warnc_run.specs.RunSteps.{IsSomeBook, TakesFront}
 
 -- what a writer took of tapes before it failed is a front of them, and not all
@@ -299,31 +303,6 @@ refused_network first last input f read (inr (inr wrong)) = record {
 pub a_book : (group : ℕ) (input : List ℕ) (book : Contents) → IsGroupBook group input book → IsSomeBook book
 a_book group input book is = (origin.Group group, input, is)
 
--- a network has the groups that group 0 counted
-pub counted_alike : CountsAreOne → (group groups : ℕ) (input : List ℕ) (f : GroupFault) (others : ℕ)
-    → HasGroups 0 input groups
-    → group < groups
-    → f ≡ group_fault.NoGroup others
-    → HasNoBookIn group input f
-    → ⊥
-counted_alike law group groups input f others counted there is none =
-    let why : HasNoBookIn group input (group_fault.NoGroup others) = subst (HasNoBookIn group input) is none in
-    absurd (omega (arith, there, why.0, law 0 group input groups others counted why.1))
-
--- and what group 0 read each group can, if there is memory
-pub only_memory_fails : NetworksAreRight → (group groups : ℕ) (input : List ℕ) (f : GroupFault) (why : BookFault)
-    → HasGroups 0 input groups
-    → f ≡ group_fault.Network why
-    → HasNoBookIn group input f
-    → why.kind ≡ kinds.Refused
-only_memory_fails law group groups input f why counted is none =
-    by_case (subst (HasNoBookIn group input) is none)
-  where
-    by_case : IsNoNetworkBook group input why → why.kind ≡ kinds.Refused
-    by_case (inl out) = ap (λ (b : BookFault). b.kind) out
-    by_case (inr (inl long)) = absurd (omega (arith, long.1, counted.network.bounded))
-    by_case (inr (inr wrong)) = absurd (law 0 group input groups why counted wrong)
-
 -- no tape of a part is empty
 pub no_empty_tape : (runs : GroupRuns) (group : ℕ) (input : List ℕ) (came : Result Part RunFault)
     → IsMadeOf runs group input came
@@ -343,51 +322,75 @@ written_after runs group i input (Ok part) a b c before of wrote =
 written_after runs group i input (Err f) a b c before of wrote = absurd wrote
 
 -- what came of the group at a place
-pub made_at : (runs : GroupRuns) (group : ℕ) (input : List ℕ) (all shown : List (Result Part RunFault)) (i : ℕ)
-    (came : Result Part RunFault)
-    → AreMadeFrom runs group input all
+pub made_at : (runs : GroupRuns) (group : ℕ) (network : NetworkRows) (input : List ℕ)
+    (all shown : List (Result Part RunFault)) (i : ℕ) (came : Result Part RunFault)
+    → AreMadeFor runs group network all
+    → MeansNetwork input network
     → shown ≡ all
     → i < length shown
     → came ≡ get_or shown i came
     → IsMadeOf runs (group + i) input came
-made_at runs group input all shown i came each same within is =
+made_at runs group network input all shown i came each means same within is =
     let at : came ≡ get_or all i came =
     subst (λ (rs : List (Result Part RunFault)). came ≡ get_or rs i came) same is in
     subst (IsMadeOf runs (group + i) input) (sym at)
-    (each i came (subst (λ (rs : List (Result Part RunFault)). i < length rs) same within))
+    (each i came (subst (λ (rs : List (Result Part RunFault)). i < length rs) same within) input means)
+
+-- octets that mean a network have its groups
+pub groups_counted : (network : NetworkRows) (groups : ℕ) (input : List ℕ) → AreGroupsOf network groups
+    → MeansNetwork input network → HasGroups 0 input groups
+groups_counted network groups input count means =
+    record { rows = read_in 0 network; network = means 0; count = count }
 
 -- the faults of a run of the groups whose octets were read
-pub faults_of_parts : (runs : GroupRuns) (octets judged shown : List ℕ) (first last old new : Option (List ℕ))
-    (r : Result (Unit {0}) ProductFault)
+pub faults_of_parts : (runs : GroupRuns) (network : NetworkRows) (octets judged : List ℕ)
+    (first last old new : Option (List ℕ)) (r : Result (Unit {0}) ProductFault)
     → ReadsUpTo first last octets 67108864
     → judged ≡ octets
-    → shown ≡ octets
-    → HasGroups 0 judged runs.groups
-    → IfErr r (StopsParts runs 0 runs.groups shown old new)
+    → MeansNetwork judged network
+    → AreGroupsOf network runs.groups
+    → IfErr r (StopsPartsOf runs 0 runs.groups network old new)
     → IfErr r (IsNetworkFault runs.made runs.slots runs.parts first last old new)
-faults_of_parts runs octets judged shown first last old new (Ok done) read is same counted stops = tt
-faults_of_parts runs octets judged shown first last old new (Err f) read is same counted stops =
-    let network = subst (λ (i : List ℕ). HasGroups 0 i runs.groups) is counted in
-    fault_of_parts runs octets first last old new f read.consumed (read.ended network.network.bounded) network
-    (subst (λ (i : List ℕ). StopsParts runs 0 runs.groups i old new f) same stops)
+faults_of_parts runs network octets judged first last old new (Ok done) read is means count stops = tt
+faults_of_parts runs network octets judged first last old new (Err f) read is means count stops =
+    let own = subst (λ (i : List ℕ). MeansNetwork i network) is means in
+    fault_of_parts runs octets first last old new f read.consumed (read.ended (own 0).bounded)
+    (groups_counted network runs.groups octets count own) (stops octets own)
+
+-- and the parts of all
+pub network_made : (runs : GroupRuns) (network : NetworkRows) (octets judged : List ℕ)
+    (first last old new : Option (List ℕ)) (r : Result (Unit {0}) ProductFault)
+    → ReadsUpTo first last octets 67108864
+    → judged ≡ octets
+    → MeansNetwork judged network
+    → AreGroupsOf network runs.groups
+    → OnOk r (WritesPartsOf runs 0 runs.groups network old new)
+    → OnOk r (Makes (IsOfNetwork runs.made runs.slots runs.parts) first last old new)
+network_made runs network octets judged first last old new (Err f) read is means count wrote = tt
+network_made runs network octets judged first last old new (Ok done) read is means count wrote =
+    let own = subst (λ (i : List ℕ). MeansNetwork i network) is means in
+    of_network runs octets first last old new read.consumed (read.ended (own 0).bounded)
+    (groups_counted network runs.groups octets count own) (wrote octets own)
 
 -- a writer that had failed before takes nothing
-pub nothing_taken : (runs : GroupRuns) (octets judged : List ℕ) (first last old : Option (List ℕ))
+pub nothing_taken : (runs : GroupRuns) (network : NetworkRows) (octets judged : List ℕ)
+    (first last old : Option (List ℕ))
     → ReadsUpTo first last octets 67108864
     → judged ≡ octets
-    → HasGroups 0 judged runs.groups
+    → MeansNetwork judged network
+    → AreGroupsOf network runs.groups
     → IsNetworkFault runs.made runs.slots runs.parts first last old old fault.WriteFailed
-nothing_taken runs octets judged first last old read is counted =
-    let network = subst (λ (i : List ℕ). HasGroups 0 i runs.groups) is counted in (
+nothing_taken runs network octets judged first last old read is means count =
+    let own = subst (λ (i : List ℕ). MeansNetwork i network) is means in (
       0,
       record {
         input = octets;
         output = [];
         read = read.consumed;
-        ended = read.ended network.network.bounded;
+        ended = read.ended (own 0).bounded;
         meant = record {
           groups = runs.groups;
-          counted = network;
+          counted = groups_counted network runs.groups octets count own;
           few = omega arith;
           parts = [];
           as_many = refl;
@@ -397,3 +400,50 @@ nothing_taken runs octets judged first last old read is counted =
         front = (0, λ some. some, Appends-nil old);
       },
     )
+
+-- and at any reader and any writer
+pub ends_of : {R W : Type 0} (runs : GroupRuns) (network : NetworkRows) (octets : List ℕ)
+    (a b : Option (List ℕ)) (result : Result (Unit {0}) ProductFault) (held : W → Option (List ℕ))
+    (first last : Source R) (old new : Sink W)
+    → MeansNetwork octets network
+    → source_failed last ≡ false
+    → (source_failed first ≡ true → last ≡ first)
+    → sink_failed old ≡ false
+    → OnOk result (sink_failed new ≡ false)
+    → IfErr result (λ f. sink_failed new ≡ is_of_writer f)
+    → IfErr result (StopsPartsOf runs 0 runs.groups network a b)
+    → IsEngineAtEnds result held first last old new
+ends_of runs network octets a b (Ok done) held first last old new means read stays good well failed stops = record {
+  not_failed = well;
+  nothing_written = tt;
+  untouched = tt;
+  read = (λ is. absurd (cc is), λ is. absurd (cc (read, is)));
+  write = tt;
+  others = tt;
+  source_stays = stays;
+  sink_stays = λ is. absurd (cc (good, is));
+}
+ends_of runs network octets a b (Err (fault.Run f)) held first last old new means read stays good well failed stops =
+    absurd (stops octets means)
+ends_of runs network octets a b (Err (fault.Group g f)) held first last old new means read stays good well failed stops =
+    record {
+      not_failed = tt;
+      nothing_written = λ no. absurd (no tt);
+      untouched = λ no. absurd (no tt);
+      read = (λ is. absurd (cc is), λ is. absurd (cc (read, is)));
+      write = λ is. absurd is;
+      others = λ other. failed ∙ sym good;
+      source_stays = stays;
+      sink_stays = λ is. absurd (cc (good, is));
+    }
+ends_of runs network octets a b (Err fault.WriteFailed) held first last old new means read stays good well failed stops =
+    record {
+      not_failed = tt;
+      nothing_written = λ no. absurd (no tt);
+      untouched = λ no. absurd (no tt);
+      read = (λ is. absurd (cc is), λ is. absurd (cc (read, is)));
+      write = λ is. failed;
+      others = λ other. absurd (other tt);
+      source_stays = stays;
+      sink_stays = λ is. absurd (cc (good, is));
+    }

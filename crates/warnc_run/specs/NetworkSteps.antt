@@ -2,18 +2,19 @@
 use Rattle.std.specs.Prelude.{◌≡◌, ⊤, ℕ, ◌+◌, ◌*◌, ◌<◌, ◌≤◌, Bool, false, true, List, length, slice_index_or, All}
 use Rattle.std.specs.Prelude.{Option, Result, Ok, Err, take}
 use Rattle.std.specs.Io.KnownBytes.{Appends}
+use Rattle.alert_book.specs.Network.{groups_of, MeansNetwork, NetworkRows}
 use Rattle.warnc_run.specs.declared.fault.RunFault.{RunFault}
 use Rattle.warnc_run.specs.declared.product.ProductFault.{ProductFault}
 use Rattle.warnc_run.specs.declared.product.ProductFault.TheVariants as fault
 use Rattle.warnc_run.specs.declared.product.Product.{Product}
 use Rattle.warnc_run.specs.declared.product.Product.TheVariants as product
-use Rattle.warnc_run.specs.declared.network.Network.{Network}
+use Rattle.warnc_run.specs.declared.network.NetworkRun.{NetworkRun}
 use Rattle.warnc_run.specs.declared.parts.Part.{Part}
 use Rattle.warnc_run.specs.declared.parts.Part.TheVariants as parts
 use Rattle.warnc_run.specs.Network.{joined_parts, ArePartsFrom, GroupRuns, HasNoPart, IsPartOf}
 
 -- the runs of a network
-abbrev pub runs_of : Network → GroupRuns
+abbrev pub runs_of : NetworkRun → GroupRuns
 runs_of n = record { made = n.made; slots = n.slots; parts = n.sessions.number; groups = n.groups }
 
 -- the octets of a part
@@ -31,11 +32,23 @@ abbrev pub IsMadeOf : GroupRuns → (group : ℕ) (input : List ℕ) → Result 
 IsMadeOf runs group input (Ok part) = IsPartOf runs group input (octets_of_part part) × HasNoEmptyTape part
 IsMadeOf runs group input (Err f) = HasNoPart runs.slots runs.parts group input f
 
--- these came of the groups from this one on
-abbrev pub AreMadeFrom : GroupRuns → (group : ℕ) (input : List ℕ) → List (Result Part RunFault) → Type 0
-AreMadeFrom runs group input all =
+-- some octets are a network book that means this
+abbrev pub IsRead : NetworkRows → Type 0
+IsRead network = (input : List ℕ) × MeansNetwork input network
+
+-- and it has so many groups
+abbrev pub AreGroupsOf : NetworkRows → (groups : ℕ) → Type 0
+AreGroupsOf network groups = groups ≡ groups_of (length network.cells)
+
+-- what came of a group, whatever the octets are that mean this
+abbrev pub IsMadeFor : GroupRuns → (group : ℕ) → NetworkRows → Result Part RunFault → Type 0
+IsMadeFor runs group network came = (input : List ℕ) → MeansNetwork input network → IsMadeOf runs group input came
+
+-- and of the groups from this one on
+abbrev pub AreMadeFor : GroupRuns → (group : ℕ) → NetworkRows → List (Result Part RunFault) → Type 0
+AreMadeFor runs group network all =
     (i : ℕ) (other : Result Part RunFault) → i < length all
-    → IsMadeOf runs (group + i) input (slice_index_or all i other)
+    → IsMadeFor runs (group + i) network (slice_index_or all i other)
 
 -- the parts of so many groups from this one on were written
 pub record WritesParts (runs : GroupRuns) (group count : ℕ) (input : List ℕ) (old new : Option (List ℕ)) : Type 0
@@ -72,6 +85,16 @@ StopsParts runs group count input old new (fault.Group g f) =
     (done : ℕ) × (g ≡ group + done) × (done < count) × WritesParts runs group done input old new
     × HasNoPart runs.slots runs.parts g input f
 StopsParts runs group count input old new fault.WriteFailed = WritesPartsFront runs group count input old new
+
+-- the same, whatever the octets are that mean this
+abbrev pub WritesPartsOf : GroupRuns → (group count : ℕ) → NetworkRows → (old new : Option (List ℕ)) → Type 0
+WritesPartsOf runs group count network old new =
+    (input : List ℕ) → MeansNetwork input network → WritesParts runs group count input old new
+
+abbrev pub StopsPartsOf : GroupRuns → (group count : ℕ) → NetworkRows → (old new : Option (List ℕ)) → ProductFault
+    → Type 0
+StopsPartsOf runs group count network old new f =
+    (input : List ℕ) → MeansNetwork input network → StopsParts runs group count input old new f
 
 -- a fault of the writer
 abbrev pub is_of_writer : ProductFault → Bool

@@ -13,17 +13,17 @@ use crate::run::{Run, Sessions};
 use crate::fault::RunFault;
 use crate::parts::write_groups;
 use crate::product::{Product, ProductFault};
-use alert_book::{BookFault, BookFaultKind, MAX_NETWORK, groups_in};
+use alert_book::{BookFault, BookFaultKind, MAX_NETWORK, Network};
 use device_ends::{ReadFault, Sink, Source, read_up_to};
 use std::alloc::{AllocGlobal, Global};
 use std::io::{Read, Write};
 use std::sync::Wait;
 use std::thread::Threads;
 
-/// A network book whose groups are run, each by itself and by one worker.
+/// A network whose groups are run, each by itself and by one worker.
 #[derive(Clone, Copy)]
-pub(crate) struct Network<'a> {
-    pub(crate) octets: &'a [u8],
+pub(crate) struct NetworkRun<'a> {
+    pub(crate) network: &'a Network,
     pub(crate) groups: u16,
     pub(crate) made: Product,
     pub(crate) slots: u16,
@@ -58,21 +58,22 @@ pub(crate) fn write_network<T: AllocGlobal + Threads + Wait + Sync, R: Read, W: 
         Ok(octets) => octets,
         Err(fault) => return Err(ProductFault::Run(RunFault::Book(fault))),
     };
-    let groups = match groups_in(rt, &octets) {
-        Ok(groups) => groups,
+    let network = match Network::read(rt, &octets) {
+        Ok(network) => network,
         Err(fault) => return Err(ProductFault::Run(RunFault::Book(fault))),
     };
+    drop(octets);
     if sink.failed() {
         return Err(ProductFault::WriteFailed);
     }
-    let network = Network {
-        octets: &octets,
-        groups,
+    let runs = NetworkRun {
+        network: &network,
+        groups: network.groups(),
         made,
         slots: run.slots,
         sessions: run.sessions,
     };
-    write_groups(rt, &network, run.workers, sink)
+    write_groups(rt, &runs, run.workers, sink)
 }
 
 /// Reads octets to their end, or one more than a network book may have.

@@ -4,24 +4,21 @@ ghost use Rattle.std.specs.Prelude.{◌≡◌, ◌+◌, ◌-◌, ◌<◌, ◌≤
 ghost use Rattle.std.specs.Prelude.{IfOk, OnErr, OnOk};
 ghost use Rattle.std.specs.Io.KnownBytes.{Appends};
 ghost use Rattle.device_ends.specs.Sink.{sink_failed, writer_of};
-ghost use Rattle.alert_book.specs.Network.{HasGroups, IsGroupBook};
 ghost use Rattle.bsc_table.specs.Record.{Record};
 ghost use Rattle.warnc_run.specs.Engine.{IsText};
 ghost use Rattle.warnc_run.specs.Network.{joined_parts, octets_of_group};
-ghost use Rattle.warnc_run.specs.NetworkSteps.{groups_together, is_of_writer, octets_of_part, runs_of, AreMadeFrom};
-ghost use Rattle.warnc_run.specs.NetworkSteps.{HasNoEmptyTape, IsMadeOf, IsWritten, StopsAt, StopsParts};
-ghost use Rattle.warnc_run.specs.NetworkSteps.{WritesFrontOf, WritesParts};
+ghost use Rattle.warnc_run.specs.NetworkSteps.{groups_together, is_of_writer, octets_of_part, runs_of, AreGroupsOf};
+ghost use Rattle.warnc_run.specs.NetworkSteps.{AreMadeFor, HasNoEmptyTape, IsMadeFor, IsRead, IsWritten, StopsAt};
+ghost use Rattle.warnc_run.specs.NetworkSteps.{StopsPartsOf, WritesFrontOf, WritesPartsOf};
 ghost use Rattle.warnc_run.specs.RunSteps.{octets_of_text};
-ghost use Rattle.warnc_run.specs.declared.fault.RunFault.TheVariants as faults;
 
 use crate::run::Workers;
 use crate::fault::RunFault;
 use crate::finish::write_tapes;
-use crate::network::Network;
+use crate::network::NetworkRun;
 use crate::product::{Product, ProductFault};
 use crate::tapes::tapes_by_one;
 use crate::text::{Text, text_of_book};
-use alert_book::{Book, BookFault, BookFaultKind, GroupFault, group_in};
 use cbch_blocks::Tape;
 use device_ends::{Failed, Sink, write_all};
 use order_desk::Open;
@@ -88,33 +85,7 @@ fn write_all_tapes<W: Write>(tapes: &[Tape], sink: &mut Sink<W>) -> Result<(), F
     }
 }
 
-/// Whether a fault of a book is that memory is out.
-fn is_of_memory(fault: BookFault) -> bool
-    ensures { fault.kind ≡ BookFaultKind.Refused → result ≡ true }
-{
-    matches!(fault.kind, BookFaultKind::Refused)
-}
-
-impl Network<'_> {
-    /// The book of a group.
-    fn book<T: AllocGlobal + Threads + Sync>(&self, rt: &T, group: u16) -> Result<Book, RunFault>
-        requires there { group < self.now.groups }
-        requires counted { HasGroups 0 self.now.octets.now self.now.groups }
-        ensures ok { IfOk result (IsGroupBook group self.now.octets.now) }
-        ensures err { IfErr result (λ fault. fault ≡ faults.Refused) }
-    {
-        // All groups see the same network, and group 0 has read it.
-        alert_book::network_laws();
-        match group_in(rt, self.octets, group) {
-            Ok(book) => Ok(book),
-            Err(GroupFault::NoGroup(_)) => unreachable!(),
-            Err(GroupFault::Network(fault)) => {
-                prove!(is_of_memory(fault));
-                Err(RunFault::Refused)
-            }
-        }
-    }
-
+impl NetworkRun<'_> {
     /// The text that is made of a group.
     fn text(&self, group: u16) -> Text
         requires text { IsText self.now.made }
@@ -137,13 +108,14 @@ impl Network<'_> {
     ) -> Result<Part, RunFault>
         requires tapes { self.now.made ≡ Product.Tapes }
         requires there { group < self.now.groups }
-        requires counted { HasGroups 0 self.now.octets.now self.now.groups }
-        ensures { IsMadeOf (runs_of self.now) group self.now.octets.now result }
+        requires counted { AreGroupsOf self.now.network.now self.now.groups }
+        requires read { IsRead self.now.network.now }
+        ensures { IsMadeFor (runs_of self.now) group self.now.network.now result }
     {
         // A handset is shown what the book means, and each cell keeps the guarantee.
         book_runs::session_laws();
         bsc_table::legal_histories();
-        let book = self.book(rt, group)?;
+        let book = self.network.group(rt.alloc(), group)?;
         let tapes = tapes_by_one(rt, book, self.slots, self.sessions)?;
         Ok(Part::Tapes(tapes))
     }
@@ -156,12 +128,13 @@ impl Network<'_> {
     ) -> Result<Part, RunFault>
         requires text { IsText self.now.made }
         requires there { group < self.now.groups }
-        requires counted { HasGroups 0 self.now.octets.now self.now.groups }
-        ensures { IsMadeOf (runs_of self.now) group self.now.octets.now result }
+        requires counted { AreGroupsOf self.now.network.now self.now.groups }
+        requires read { IsRead self.now.network.now }
+        ensures { IsMadeFor (runs_of self.now) group self.now.network.now result }
     {
         book_runs::session_laws();
         bsc_table::legal_histories();
-        let book = self.book(rt, group)?;
+        let book = self.network.group(rt.alloc(), group)?;
         let text = self.text(group);
         let alone = Workers { number: 1 };
         let octets = text_of_book(rt, book, text, self.slots, self.sessions, alone, &Open)?;
@@ -175,8 +148,9 @@ impl Network<'_> {
         group: u16,
     ) -> Result<Part, RunFault>
         requires there { group < self.now.groups }
-        requires counted { HasGroups 0 self.now.octets.now self.now.groups }
-        ensures { IsMadeOf (runs_of self.now) group self.now.octets.now result }
+        requires counted { AreGroupsOf self.now.network.now self.now.groups }
+        requires read { IsRead self.now.network.now }
+        ensures { IsMadeFor (runs_of self.now) group self.now.network.now result }
     {
         match self.made {
             Product::Tapes => self.tapes_part(rt, group),
@@ -193,22 +167,24 @@ impl Network<'_> {
         workers: Workers,
     ) -> Result<Vec<Result<Part, RunFault>>, AllocError>
         requires few { first + count ≤ self.now.groups }
-        requires counted { HasGroups 0 self.now.octets.now self.now.groups }
+        requires counted { AreGroupsOf self.now.network.now self.now.groups }
+        requires read { IsRead self.now.network.now }
         ensures count { IfOk result (λ all. length all.items ≡ count) }
-        ensures each { IfOk result (λ all. AreMadeFrom (runs_of self.now) first self.now.octets.now all.items) }
+        ensures each { IfOk result (λ all. AreMadeFor (runs_of self.now) first self.now.network.now all.items) }
     {
-        let network = *self;
+        let runs = *self;
         let mut all = none_yet(rt.alloc(), count)?;
         thread::for_each_mut(
             rt,
             &mut all,
             workers.number as usize,
             &|place: usize, part: &mut Result<Part, RunFault>|
-                requires there { first + place < network.groups }
-                requires counted { HasGroups 0 network.octets.now network.groups }
-                ensures { IsMadeOf (runs_of network.entry) (first + place) network.entry.octets.now part.new }
+                requires there { first + place < runs.groups }
+                requires counted { AreGroupsOf runs.network.now runs.groups }
+                requires read { IsRead runs.network.now }
+                ensures { IsMadeFor (runs_of runs.entry) (first + place) runs.entry.network.now part.new }
             {
-                *part = network.part(rt, first + place as u16);
+                *part = runs.part(rt, first + place as u16);
             },
         );
         Ok(all)
@@ -226,11 +202,12 @@ impl Network<'_> {
         requires as_many { count ≡ min (self.now.groups - first) (groups_together self.now.made workers.number) }
         requires some { 0 < count }
         requires few { first + count ≤ self.now.groups }
-        requires counted { HasGroups 0 self.now.octets.now self.now.groups }
+        requires counted { AreGroupsOf self.now.network.now self.now.groups }
+        requires read { IsRead self.now.network.now }
         requires open { sink_failed sink.old ≡ false }
-        ensures ok { OnOk result (WritesParts (runs_of self.now) first count self.now.octets.now
+        ensures ok { OnOk result (WritesPartsOf (runs_of self.now) first count self.now.network.now
             (W.contents (writer_of sink.old)) (W.contents (writer_of sink.new))) }
-        ensures err { IfErr result (StopsParts (runs_of self.now) first count self.now.octets.now
+        ensures err { IfErr result (StopsPartsOf (runs_of self.now) first count self.now.network.now
             (W.contents (writer_of sink.old)) (W.contents (writer_of sink.new))) }
         ensures open { OnOk result (sink_failed sink.new ≡ false) }
         ensures failed { IfErr result (λ fault. sink_failed sink.new ≡ is_of_writer fault) }
@@ -302,23 +279,24 @@ fn write_one<W: Write>(
 /// Makes the parts of all groups, those of a few a worker at a time, and writes them.
 pub(crate) fn write_groups<T: AllocGlobal + Threads + Wait + Sync, W: Write>(
     rt: &T,
-    network: &Network,
+    runs: &NetworkRun,
     workers: Workers,
     sink: &mut Sink<W>,
 ) -> Result<(), ProductFault>
-    requires counted { HasGroups 0 network.now.octets.now network.now.groups }
+    requires counted { AreGroupsOf runs.now.network.now runs.now.groups }
+    requires read { IsRead runs.now.network.now }
     requires open { sink_failed sink.old ≡ false }
-    ensures ok { OnOk result (WritesParts (runs_of network.now) 0 network.now.groups network.now.octets.now
+    ensures ok { OnOk result (WritesPartsOf (runs_of runs.now) 0 runs.now.groups runs.now.network.now
         (W.contents (writer_of sink.old)) (W.contents (writer_of sink.new))) }
-    ensures err { IfErr result (StopsParts (runs_of network.now) 0 network.now.groups network.now.octets.now
+    ensures err { IfErr result (StopsPartsOf (runs_of runs.now) 0 runs.now.groups runs.now.network.now
         (W.contents (writer_of sink.old)) (W.contents (writer_of sink.new))) }
     ensures open { OnOk result (sink_failed sink.new ≡ false) }
     ensures failed { IfErr result (λ fault. sink_failed sink.new ≡ is_of_writer fault) }
 {
     let mut first = 0;
-    while first < network.groups {
-        let count = (network.groups - first).min(groups_at_once(network.made, workers));
-        network.write_batch(rt, first, count, workers, sink)?;
+    while first < runs.groups {
+        let count = (runs.groups - first).min(groups_at_once(runs.made, workers));
+        runs.write_batch(rt, first, count, workers, sink)?;
         first += count;
     }
     Ok(())

@@ -4,20 +4,21 @@ use Rattle.warnc_run.specs.Network.{octets_of_group}
 use Rattle.warnc_run.specs.declared.product.Product.{Product}
 use Rattle.warnc_run.proofs.GroupParts.{a_book}
 use Rattle.warnc_run.proofs.Written.{made_live, tapes_have_octets}
-use Rattle.warnc_run.proofs.network.Network.tapes_part.Goals as goal
+use Rattle.warnc_run.proofs.network.NetworkRun.tapes_part.Goals as goal
 
 pub tapes_by_one-requires-clause-book : goal.tapes_by_one-requires-clause-book
 tapes_by_one-requires-clause-book g c κs within =
-    a_book c.args.group c.args.self.now.octets.now c.in_ok-book.book c.in_ok-book.ensures.ok
+    let read = c.requires.read in
+    a_book c.args.group read.0 c.in_ok-book.book (c.in_ok-book.ensures read.0 read.1)
 
 pub returns : goal.returns
-returns g c =
+returns g c = λ input means.
     let are = c.in_ok-tapes.ensures.ok in
     let network = c.args.self.now in
     let from = origin.Group c.args.group in
     let made = made_live c.session_laws.ensures.shown c.session_laws.ensures.accepted
-    c.legal_histories.ensures.legal_histories_are_served from network.octets.now c.in_ok-book.book network.slots
-    network.sessions.number c.in_ok-tapes.tapes.items network.few_slots c.in_ok-book.ensures.ok are in (
+    c.legal_histories.ensures.legal_histories_are_served from input c.in_ok-book.book network.slots
+    network.sessions.number c.in_ok-tapes.tapes.items network.few_slots (c.in_ok-book.ensures input means) are in (
       record {
         records = made.records;
         run = made.run;
