@@ -7,7 +7,7 @@ Usage: examples.py [PROGRAM]      PROGRAM is the warnc that is run; that of ./wa
 In the texts a command stands behind `$ `, indented, and goes on in the next lines as long as the shell takes it for
 unfinished. The commands of a text run one after the other in a folder of its own, which has ./warnc, cluster/ and
 examples/, so that what one writes the next can read; those of the man page, which is read elsewhere, find the examples
-beside them. A command that needs what isn't installed is skipped, aloud.
+beside them. A command that needs what isn't installed, or what such a command would have written, is skipped, aloud.
 """
 import os
 import re
@@ -84,18 +84,25 @@ def ran(command, folder, environment):
     return [it for it in said if not it.startswith("Running as user")]
 
 
+def files_of(command):
+    """Returns the words of a command that are names of files."""
+    return set(re.findall(r"[\w/-]+\.\w+", command))
+
+
 def check(path, program):
     """Runs the commands of a text, and returns how many gave what is printed, how many didn't,
     and how many were skipped."""
-    counts = [0, 0, 0]
+    counts, unwritten = [0, 0, 0], set()
     with tempfile.TemporaryDirectory(prefix="warnc-examples-") as folder:
         environment = room_for(folder, program)
         for name in os.listdir(os.path.join(TOP, "examples")) if path.endswith(".1") else ():
             os.symlink(os.path.join(TOP, "examples", name), os.path.join(folder, name))
         for command, wanted in commands_of(path):
-            tool = lacking(command)
-            if tool:
-                print(f"examples: {tool} isn't installed: SKIPPED: {command.splitlines()[0]}")
+            tool, files = lacking(command), files_of(command)
+            why = f"{tool} isn't installed" if tool else "what it reads wasn't written" if files & unwritten else None
+            if why:
+                print(f"examples: {why}: SKIPPED: {command.splitlines()[0]}")
+                unwritten |= {it for it in files if not os.path.exists(os.path.join(folder, it))}
                 counts[2] += 1
                 continue
             found = ran(command, folder, environment)
