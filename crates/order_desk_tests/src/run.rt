@@ -12,7 +12,7 @@ use std::alloc::{AllocError, Global};
 use std::fmt::Write;
 use std::sync::Wait;
 use std::test::Fail;
-use test_support::{Drought, Words, digits_of};
+use test_support::{Drought, Outcomes, Words, digits_of};
 
 /// A desk, and the passes of its users.
 #[derive(Drop)]
@@ -25,17 +25,23 @@ pub struct Run {
     pub drought: Drought,
     /// What came of the step under way.
     pub told: String,
+    /// What came of the steps of a row.
+    pub row: String,
+    /// What came of the attempts of a row.
+    pub outcomes: Outcomes,
 }
 
 impl Run {
     /// A run without a desk.
     pub fn new(alloc: Global) -> Result<Run, Fail> {
-        let drought = Drought::new(alloc)?;
+        let drought = Drought::of_room(alloc)?;
         Ok(Run {
             desk: None,
             passes: Vec::new(alloc),
             drought,
             told: String::new(alloc),
+            row: String::new(alloc),
+            outcomes: Outcomes::new(alloc),
         })
     }
 }
@@ -291,6 +297,7 @@ pub fn with_pass<T: AllocGlobal + Wait>(
         passes,
         drought,
         told,
+        ..
     } = run;
     let place = match name {
         "p" => 0,

@@ -5,11 +5,13 @@
 mod malformed;
 mod memory;
 mod octets;
+mod outcomes;
 mod rows;
 mod words;
 
 pub use malformed::Malformed;
 pub use memory::{Drought, Scarce, after_refusals, is_refused, take_all};
 pub use octets::{digits_of, octets_of};
+pub use outcomes::Outcomes;
 pub use rows::Row;
 pub use words::Words;

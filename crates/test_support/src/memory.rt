@@ -95,11 +95,24 @@ const HALVES: u16 = 18;
 /// How often a call in a drought is refused at least: its first blocks are kept apart, and too small for any growth.
 const LEAST: u16 = 8;
 
+/// How many octets the front of a room has. The C library keeps small blocks that were freed by their size and doesn't
+/// split them, so a room is what is left of a large block once its front is taken again.
+const FRONT: usize = 4096;
+
+/// How much of a block the C library takes for itself.
+const HEAD: usize = 8;
+
+/// How many octets a block has of which such a room is left.
+fn octets_with_front(blocks: u16) -> usize {
+    FRONT + usize::from(blocks) * WHOLE_BLOCK - HEAD
+}
+
 /// Hardly any memory, for as long as one call lasts. What stands round the call has all memory, and so has the call, if
 /// its step doesn't begin with `scarce`.
 #[derive(Drop)]
 pub struct Drought {
     left: Option<u16>,
+    is_room: bool,
     spare: Vec<Vec<u8>>,
     large: Vec<Vec<u8>>,
     taken: Vec<Vec<u8>>,
@@ -113,10 +126,25 @@ impl Drought {
     pub fn new(alloc: Global) -> Result<Drought, Fail> {
         Ok(Drought {
             left: None,
+            is_room: false,
             spare: Vec::with_capacity(alloc, usize::from(APART) + 1)?,
             large: Vec::with_capacity(alloc, 100_000)?,
             taken: Vec::with_capacity(alloc, 100_000)?,
         })
+    }
+
+    /// Makes what a drought needs that leaves a single room, 32 octets larger with each block. That is what the least
+    /// growth takes, so each growth of a call is refused alone at some number of blocks, and the number at which the
+    /// call isn't refused is what its growths take together.
+    pub fn of_room(alloc: Global) -> Result<Drought, Fail> {
+        let mut drought = Drought::new(alloc)?;
+        drought.is_room = true;
+        Ok(drought)
+    }
+
+    /// Leaves so many blocks to the next call.
+    pub fn leave(&mut self, blocks: u16) {
+        self.left = Some(blocks);
     }
 
     /// The verb of a step, its first word. If that is `scarce`, so many small blocks are left to the step's call, and
@@ -138,22 +166,36 @@ impl Drought {
         }
     }
 
+    /// Makes so many blocks, those after the first ones as one.
+    fn make_blocks(&mut self, alloc: Global, blocks: u16) {
+        for _ in 0..blocks.min(APART) {
+            self.make_spare(alloc, BLOCK);
+        }
+        let rest = usize::from(blocks.saturating_sub(APART));
+        self.make_spare(alloc, rest * WHOLE_BLOCK);
+    }
+
     /// Begins the drought, right before the call: takes all memory but the blocks.
     pub fn begin(&mut self, alloc: Global) {
         let Some(left) = self.left else {
             return;
         };
-        for _ in 0..left.min(APART) {
-            self.make_spare(alloc, BLOCK);
+        if self.is_room {
+            self.make_spare(alloc, octets_with_front(left));
+        } else {
+            self.make_blocks(alloc, left);
         }
-        let rest = usize::from(left.saturating_sub(APART));
-        self.make_spare(alloc, rest * WHOLE_BLOCK);
         if self.large.is_empty() {
             take_halves(alloc, LARGEST, LARGE_SIZES, &mut self.large);
         }
         take_halves(alloc, LARGEST >> LARGE_SIZES, HALVES, &mut self.taken);
         take_small(alloc, &mut self.taken);
         self.spare.clear();
+        if self.is_room {
+            if let Ok(front) = Vec::with_capacity(alloc, FRONT - HEAD) {
+                let _ = self.taken.push(front);
+            }
+        }
     }
 
     /// Ends the drought, right after the call. The largest blocks stay taken, since there can be thousands: what is
