@@ -2,22 +2,26 @@
 //!
 //! The steps of a row are parted by `;`, and what each but the first says is wanted. `book NAME SLOTS PARTS` is first:
 //! a book of so many parts, a desk of its cells with so many slots, and the passes p, q and r. `check N` is last: what
-//! the check says of the first N passes, once the desk is settled with them. If `scarce` stands before it, it has
-//! hardly any memory, and if memory is refused, the row is carried out again, with one block more each time.
+//! the check says of the first N passes, once the desk is settled with them.
+//!
+//! If `scarce` stands before it, the check has no memory, and the row is carried out again, with 32 octets more each
+//! time, until the check isn't refused. A check that was refused is made again, of the same passes and with all memory,
+//! and that is told after it. What is told is wanted of each attempt: `3 times A | B` if that is A of the first three
+//! attempts, and B of the one that isn't refused.
 
 use crate::served::{book_of, checked, opened, reply_to, served};
 use alert_book::Book;
 use bsc_table::Answer;
 use cbs_page::Serial;
 use cbsp_wire::Cell;
-use order_desk::{Desk, Open, Pass};
+use order_desk::{Desk, Open, Pass, SettleFault};
 use std::alloc::AllocError;
 use std::fmt::{Debug, Write};
 use std::process::Abort;
 use std::sync::Wait;
 use std::test::Fail;
 use std::thread::Threads;
-use test_support::{Drought, Row, Words, after_refusals, digits_of, is_refused, octets_of};
+use test_support::{Drought, Outcomes, Row, Words, digits_of, octets_of};
 
 /// Two alerts, each in a cell of its own.
 const APART: &str = "cell,1,1\ncell,1,2\n\
@@ -184,6 +188,20 @@ struct Numbers {
     passes: u16,
 }
 
+/// Tells what a check says, and if that is that memory was refused, what it says then with all memory.
+fn put_outcomes(
+    told: &mut String,
+    outcomes: (Result<(), SettleFault>, Result<(), SettleFault>),
+) -> Result<(), AllocError> {
+    let (first, again) = outcomes;
+    put(told, &first)?;
+    if first == Err(SettleFault::Refused) {
+        told.push_str(", then ")?;
+        put(told, &again)?;
+    }
+    Ok(())
+}
+
 /// Carries out the steps of a row at a desk of a book's cells, and tells what comes of them and of the check.
 fn at_desk<T: AllocGlobal + Wait>(
     rt: &T,
@@ -205,8 +223,8 @@ fn at_desk<T: AllocGlobal + Wait>(
     let first = passes.get(..usize::from(numbers.passes));
     match (done, first) {
         (Ok(()), Some(first)) => {
-            let checked = checked(rt.alloc(), book, parts, desk, first, drought)?;
-            Ok(put(told, &checked)?)
+            let outcomes = checked(rt.alloc(), book, parts, desk, first, drought)?;
+            Ok(put_outcomes(told, outcomes)?)
         }
         (Ok(()), None) => {
             drop(desk);
@@ -246,21 +264,26 @@ fn found<T: AllocGlobal + Threads + Wait + Sync>(
     Ok(told)
 }
 
-/// Expects what a row says. If memory is refused, it is carried out again, with one block more each time.
-fn expect_row<T: AllocGlobal + Threads + Wait + Sync>(
+/// Scarce memory for the check of a row, and what came of the row's attempts.
+#[derive(Drop)]
+struct Trial {
+    drought: Drought,
+    outcomes: Outcomes,
+}
+
+/// Carries out a row, again and again if memory is refused.
+fn try_row<T: AllocGlobal + Threads + Wait + Sync>(
     rt: &T,
-    drought: &mut Drought,
+    trial: &mut Trial,
     row: Row,
 ) -> Result<(), Fail> {
-    for refused in 0..Drought::MOST {
-        let found = found(rt, drought, row.action, refused)?;
-        if !is_refused(&found) {
-            let found = after_refusals(rt.alloc(), refused, found)?;
-            if found.as_str() == row.wanted {
-                return Ok(());
-            }
-            return Err(Fail::new(format_args!("{} -> {found}", row.action)));
+    let is_scarce = row.action.contains("; scarce ");
+    for blocks in 0..Drought::MOST {
+        let found = found(rt, &mut trial.drought, row.action, blocks)?;
+        if !is_scarce || !found.contains("Refused") {
+            return Ok(trial.outcomes.end_row(row, &found)?);
         }
+        trial.outcomes.put_refused(&found)?;
     }
     Err(Fail::new("it is refused to the end"))
 }
@@ -271,15 +294,19 @@ pub fn expect_rows<T: AllocGlobal + Threads + Wait + Abort + Sync>(
     table: &str,
     count: u16,
 ) -> Result<(), Fail> {
-    let mut drought = Drought::new(rt.alloc())?;
+    let mut trial = Trial {
+        drought: Drought::of_room(rt.alloc())?,
+        outcomes: Outcomes::new(rt.alloc()),
+    };
     let mut rows = 0_u16;
     for line in table.split('\n') {
         if let Some(row) = Row::of(line) {
-            expect_row(rt, &mut drought, row)?;
+            try_row(rt, &mut trial, row)?;
             rows = rows.saturating_add(1);
         }
     }
-    drop(drought);
+    assert_eq!(rt; trial.outcomes.differing(), "");
+    drop(trial);
     assert!(rt; rows == count);
     Ok(())
 }

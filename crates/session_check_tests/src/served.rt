@@ -129,7 +129,7 @@ pub fn settled(alloc: Global, desk: Desk, passes: &[Pass]) -> Result<Vec<CellRec
     }
 }
 
-/// What the check says of the sessions of a book's parts, if memory is scarce for it.
+/// What the check says of the sessions of a book's parts, if memory is scarce for it, and then with all memory.
 fn check_in(
     alloc: Global,
     drought: &mut Drought,
@@ -137,7 +137,7 @@ fn check_in(
     parts: u16,
     records: &[CellRecord],
     passes: &[Pass],
-) -> Result<(), SettleFault>
+) -> (Result<(), SettleFault>, Result<(), SettleFault>)
     requires parts { parts ≤ length passes.now }
     requires cells { record_cells records.now ≡ book.now.cells }
     requires agree { All (HasRightNumbers passes.now) records.now }
@@ -145,10 +145,11 @@ fn check_in(
     drought.begin(alloc);
     let outcome = check_sessions(alloc, book, parts, records, passes);
     drought.end();
-    outcome
+    (outcome, check_sessions(alloc, book, parts, records, passes))
 }
 
-/// What the check says of the sessions of a book's parts, once their desk is settled with the passes.
+/// What the check says of the sessions of a book's parts, once their desk is settled with the passes, if memory is
+/// scarce for it, and then with all memory.
 pub fn checked(
     alloc: Global,
     book: &Book,
@@ -156,7 +157,7 @@ pub fn checked(
     desk: Desk,
     passes: &[Pass],
     drought: &mut Drought,
-) -> Result<Result<(), SettleFault>, Fail>
+) -> Result<(Result<(), SettleFault>, Result<(), SettleFault>), Fail>
     requires { desk.cells ≡ book.now.cells }
 {
     if passes.len() < usize::from(parts) {
