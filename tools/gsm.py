@@ -162,6 +162,18 @@ def tape_of(lac, ci, parts):
     return HEADER.pack(lac, ci, len(octets) // SLOT) + octets
 
 
+def one_tape_of(octets):
+    """Returns LAC, CI and blocks of an input that is one tape, and nothing after it."""
+    if len(octets) < HEADER.size:
+        raise Refused("tape is short")
+    lac, ci, slots = HEADER.unpack_from(octets)
+    if slots > MAX_SLOTS or len(octets) > size_of_tape(slots):
+        raise Refused("tape is long")
+    if len(octets) < size_of_tape(slots):
+        raise Refused("tape is short")
+    return lac, ci, [octets[it:it + BLOCK] for it in range(HEADER.size, len(octets), BLOCK)]
+
+
 def tapes_of(octets):
     """Returns LAC, CI and blocks of each tape of an input."""
     tapes, at = [], 0

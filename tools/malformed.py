@@ -1,15 +1,16 @@
 #!/usr/bin/env python3
 """Judges malformed messages, tapes and books by the documents alone, and prints tables of the answers for tests.
 
-Usage: malformed.py messages|tapes|books              prints a table, as a module of Rattle
-       malformed.py messages|tapes|books NAME PLACE   prints the answers behind one digest; PLACE is a place or `cuts`
+Usage: malformed.py messages|tapes|tape|books              prints a table, as a module of Rattle
+       malformed.py messages|tapes|tape|books NAME PLACE   prints the answers behind one digest; PLACE is a place or
+                                                           `cuts`
        malformed.py --check PROGRAM [--every N] [messages|tapes|books ..]
-                                                      compares each answer, or each N-th, with a program's
+                                                           compares each answer, or each N-th, with a program's
 
 It is a plain reading of docs/formats.md, and for phones of docs/definitions.md; so is gsm.py, by which it reads texts,
 pages and tapes. Neither is made from the crates, so a test that compares both has two sources. The tables stand in the
-tests, as `malformed_table.rt` of cbsp_wire_tests, warnc_cli_tests and alert_book_tests; `./test` checks that they are
-what is printed here.
+tests, as `malformed_table.rt` of cbsp_wire_tests, warnc_cli_tests, handset_tests and alert_book_tests; `./test` checks
+that they are what is printed here.
 
 A table has for each input a line `input NAME`, lines `and HEX` with its octets, then a line `PLACE DIGEST` for each
 place, then a line `cuts DIGEST`. Some inputs have lines for a few places alone, or for none.
@@ -26,6 +27,9 @@ The answers:
   Cause. `M` and lower-case hexadecimal digits is a message that was read: the octets to which it is written back.
 - tapes (`warnc read`): `R` and the table that is written, with each LF, also the last one. Or `F` and the line of the
   fault, without `warnc: ` and LF: `Ftape is short`.
+- tape (`handset::read_tape`): `R`, the tape's LAC and CI with a hyphen between, its number of slots, and for each
+  message that is shown a colon, its identifier, its serial number in four lower-case hexadecimal digits, and its text:
+  `R1-1 2 slots: 4370 0010 @`. Or `F` and the fault, as for tapes; an octet after the tape is long.
 - books (`read_book`): `A` is a book that is accepted. Else the line of the fault, without `warnc: ` and LF:
   `row 2: named twice`.
 
@@ -263,6 +267,15 @@ def answer_to_tape(octets):
     return "".join(lines)
 
 
+def answer_to_one_tape(octets):
+    try:
+        lac, ci, blocks = gsm.one_tape_of(octets)
+    except gsm.Refused as fault:
+        return f"F{fault}"
+    shown = "".join(f": {ident} {serial:04x} {text}" for ident, serial, text in shown_by(blocks))
+    return f"R{lac}-{ci} {len(blocks) // len(gsm.TYPES)} slots{shown}"
+
+
 # --- Books ---
 
 COLUMNS = {
@@ -440,6 +453,20 @@ def tapes():
     yield "many", bytes(8) * 65, []
 
 
+def one_tape():
+    """The worked tape; one of four slots, with pages 2 and 1 of a message, an idle slot, and another page 2."""
+    named = list(tapes())
+    yield named[0]
+    octets = named[1][1][8:]
+    head = bytes.fromhex("0102000300000004")
+    # The places: the header, the types of all blocks, the heads of the pages with their first units, and the units at
+    # the end of the first page and at both ends of the text.
+    slots = [octets[8 + gsm.SLOT * at:8 + gsm.SLOT * (at + 1)] for at in range(3)]
+    blocks = b"".join([slots[0], slots[1], gsm.IDLE_SLOT, slots[2]])
+    places = [*range(8), *range(8, 376, 23), *range(9, 17), *range(101, 109), *range(285, 293)]
+    yield "two", head + blocks, sorted(places)
+
+
 def books():
     """A book of all verbs; one with quotes, CRLF and a byte order mark; and books with a fault, for their fronts."""
     rows = [
@@ -464,7 +491,14 @@ def books():
 
 # --- Tables ---
 
-TABLES = {"messages": (messages, answer_to_message), "tapes": (tapes, answer_to_tape), "books": (books, answer_to_book)}
+TABLES = {
+    "messages": (messages, answer_to_message),
+    "tapes": (tapes, answer_to_tape),
+    "tape": (one_tape, answer_to_one_tape),
+    "books": (books, answer_to_book),
+}
+# Those that a program can be asked for.
+CHECKED = ("messages", "tapes", "books")
 
 
 def digest(answers):
@@ -505,11 +539,12 @@ def table(kind):
 
 
 def print_module(kind):
-    print(f"//! Malformed {kind}, and digests of what comes of them by the documents.")
+    what = "single tapes" if kind == "tape" else kind
+    print(f"//! Malformed {what}, and digests of what comes of them by the documents.")
     print("//!")
     print(f"//! `tools/malformed.py {kind}` prints this file and says how it is read. Change it there alone.")
     print()
-    print(f"/// A table of {kind}: octets, and for each of their places a digest of the answers where it is changed.")
+    print(f"/// A table of {what}: octets, and for each of their places a digest of the answers where it is changed.")
     print('pub const TABLE: &str = "')
     for line in table(kind):
         print(line)
@@ -589,7 +624,7 @@ def main(words):
         program, kinds, every = shlex.split(words[1]), words[2:], 1
         if kinds[:1] == ["--every"]:
             every, kinds = int(kinds[1]), kinds[2:]
-        return 0 if all([check(program, every, it) for it in kinds or TABLES]) else 1
+        return 0 if all([check(program, every, it) for it in kinds or CHECKED]) else 1
     if len(words) == 1 and words[0] in TABLES:
         print_module(words[0])
         return 0

@@ -3,6 +3,10 @@
 #![tactic(auto)]
 
 #[cfg(test)]
+mod malformed;
+#[cfg(test)]
+mod malformed_table;
+#[cfg(test)]
 mod phone;
 #[cfg(test)]
 mod tapes;

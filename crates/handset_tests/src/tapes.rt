@@ -327,10 +327,9 @@ fn read(
 }
 
 /// Puts a reading.
-fn put_reading(text: &mut String, reading: &Reading) -> Result<(), AllocError> {
-    let between = if text.is_empty() { "" } else { "; " };
+pub fn put_reading(text: &mut String, reading: &Reading) -> Result<(), AllocError> {
     let (cell, slots) = (reading.cell, reading.slots);
-    write!(text, "{between}{}-{} {slots} slots", cell.lac, cell.ci)?;
+    write!(text, "{}-{} {slots} slots", cell.lac, cell.ci)?;
     for shown in &reading.shown {
         let serial = shown.serial.number();
         write!(text, ": {} {serial:04x} {}", shown.id, shown.text)?;
@@ -349,6 +348,9 @@ fn answer(
     }
     let mut text = String::new(alloc);
     for reading in readings {
+        if !text.is_empty() {
+            text.push_str("; ")?;
+        }
         put_reading(&mut text, reading)?;
     }
     Ok(text)
