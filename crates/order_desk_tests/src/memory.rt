@@ -1,5 +1,6 @@
-//! Calls with scarce memory: each growth of a call is refused alone. What a refused call leaves is looked at, and then
-//! the same call has all memory. In the last attempt the call isn't refused, so what comes after it is done twice.
+//! Calls with scarce memory: each growth of a call is refused alone, but for two of a settlement, which fit where
+//! others were freed. What a refused call leaves is looked at, and then the same call has all memory. In the last
+//! attempt the call isn't refused, so it is made twice.
 
 use crate::table::expect_rows;
 use std::test::Fail;

@@ -1,4 +1,5 @@
-//! Calls with scarce memory: each growth of a call is refused alone, and then the call does what it would have done.
+//! Calls with scarce memory: each growth of a call is refused alone that doesn't fit where the call has freed memory,
+//! as those for later pieces of a stream do; and then the call does what it would have done.
 
 use crate::table::expect_rows;
 use std::test::Fail;

@@ -1,5 +1,6 @@
-//! Checks with scarce memory: each growth of a check is refused alone, and then the same check has all memory. The
-//! books are served anew each time, since a settlement consumes the desk.
+//! Checks with scarce memory: each growth of a check is refused alone that doesn't fit where the check has freed
+//! memory, as those for a later message may; and then the same check has all memory. The books are served anew each
+//! time, since a settlement consumes the desk.
 
 use crate::run::expect_rows;
 use std::test::Fail;

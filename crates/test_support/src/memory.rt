@@ -95,17 +95,12 @@ const HALVES: u16 = 18;
 /// How often a call in a drought is refused at least: its first blocks are kept apart, and too small for any growth.
 const LEAST: u16 = 8;
 
-/// How many octets the front of a room has. The C library keeps small blocks that were freed by their size and doesn't
-/// split them, so a room is what is left of a large block once its front is taken again.
-const FRONT: usize = 4096;
+/// How many octets the front of a room has at least. The C library keeps small blocks that were freed by their size and
+/// doesn't split them, so a room is what is left of a large block once its front is taken again.
+const FRONT: u16 = 4096;
 
 /// How much of a block the C library takes for itself.
 const HEAD: usize = 8;
-
-/// How many octets a block has of which such a room is left.
-fn octets_with_front(blocks: u16) -> usize {
-    FRONT + usize::from(blocks) * WHOLE_BLOCK - HEAD
-}
 
 /// Hardly any memory, for as long as one call lasts. What stands round the call has all memory, and so has the call, if
 /// its step doesn't begin with `scarce`.
@@ -134,8 +129,8 @@ impl Drought {
     }
 
     /// Makes what a drought needs that leaves a single room, 32 octets larger with each block. That is what the least
-    /// growth takes, so each growth of a call is refused alone at some number of blocks, and the number at which the
-    /// call isn't refused is what its growths take together.
+    /// growth takes, so each growth of a call is refused alone at some number of blocks, unless it fits where the call
+    /// has freed memory. The number at which the call isn't refused is what it holds at most.
     pub fn of_room(alloc: Global) -> Result<Drought, Fail> {
         let mut drought = Drought::new(alloc)?;
         drought.is_room = true;
@@ -175,26 +170,47 @@ impl Drought {
         self.make_spare(alloc, rest * WHOLE_BLOCK);
     }
 
-    /// Begins the drought, right before the call: takes all memory but the blocks.
-    pub fn begin(&mut self, alloc: Global) {
-        let Some(left) = self.left else {
-            return;
-        };
-        if self.is_room {
-            self.make_spare(alloc, octets_with_front(left));
-        } else {
-            self.make_blocks(alloc, left);
-        }
+    /// Takes all memory but the spare blocks.
+    fn take_rest(&mut self, alloc: Global) {
         if self.large.is_empty() {
             take_halves(alloc, LARGEST, LARGE_SIZES, &mut self.large);
         }
         take_halves(alloc, LARGEST >> LARGE_SIZES, HALVES, &mut self.taken);
         take_small(alloc, &mut self.taken);
+    }
+
+    /// Takes all memory but a room of so many blocks, and returns whether it has no more: the C library may have given
+    /// 16 octets more than were asked for.
+    fn leave_room(&mut self, alloc: Global, blocks: u16, front: u16) -> bool {
+        let room = usize::from(blocks) * WHOLE_BLOCK;
+        let front = usize::from(front);
+        self.make_spare(alloc, (front + room).saturating_sub(HEAD));
+        self.take_rest(alloc);
         self.spare.clear();
-        if self.is_room {
-            if let Ok(front) = Vec::with_capacity(alloc, FRONT - HEAD) {
-                let _ = self.taken.push(front);
+        if let Ok(block) = Vec::with_capacity(alloc, front.saturating_sub(HEAD)) {
+            let _ = self.taken.push(block);
+        }
+        Vec::<u8>::with_capacity(alloc, room + HEAD).is_err()
+    }
+
+    /// Begins the drought, right before the call: takes all memory but the blocks, or but the room.
+    pub fn begin(&mut self, alloc: Global) {
+        let Some(left) = self.left else {
+            return;
+        };
+        if !self.is_room {
+            self.make_blocks(alloc, left);
+            self.take_rest(alloc);
+            self.spare.clear();
+            return;
+        }
+        let mut front = FRONT;
+        for _ in 0..8 {
+            if self.leave_room(alloc, left, front) {
+                return;
             }
+            self.taken.clear();
+            front = front.saturating_add(48);
         }
     }
 
