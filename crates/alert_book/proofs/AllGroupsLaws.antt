@@ -184,7 +184,7 @@ action_twice (action.Write sending) some others = refl
 action_twice (action.Update update sending) some others = refl
 action_twice (action.Stop cells) some others = refl
 
-pub twice : (o : Order) (some others : List Cell) → order_to (order_to o some) others ≡ order_to o others
+twice : (o : Order) (some others : List Cell) → order_to (order_to o some) others ≡ order_to o others
 twice o some others = ap (order_with o.row o.at o.name o.number o.alert) (action_twice o.action some others)
 
 action_again : (a : Action) → action_to (action_to a []) (cells_of_action a) ≡ a
@@ -574,6 +574,7 @@ given_next old new group order kept (name, names, same, orders, all) =
     (in_more old.declared.cells group old.orders old.named (order_to order []) name kept.as_many
     ∙ rw (twice order [] (named_of old.declared.cells group name)) refl))
 
+-- a row that is read once is one row more for each group
 pub read_next : (old new : AllRowsKept) (row : ℕ) (fields : List (List ℕ)) (meant : Row) → AreRightlyKept old →
     all_row row old.declared old.orders fields ≡ Ok meant → IsAllMore old new meant → (group : ℕ) →
     IsReadIn old new row fields group
@@ -588,6 +589,7 @@ read_next old new row fields (rows.Give order) kept is more group = record {
   next = given_next old new group order kept more;
 }
 
+-- and what is kept still fits together
 pub kept_next : (old new : AllRowsKept) (row : ℕ) (fields : List (List ℕ)) (meant : Row) → AreRightlyKept old →
     all_row row old.declared old.orders fields ≡ Ok meant → IsAllMore old new meant → AreRightlyKept new
 kept_next old new row fields (rows.Declare cell) kept is more =
@@ -704,6 +706,7 @@ wrong_by (o ∷ os) (b ∷ before) after x sending why f (p ∷ pages) split hav
     have.1
     sent wrong told names)
 
+-- a text of the network that can't be sent is one of each group's orders
 pub wrong_in : (cells : List Cell) (group : ℕ) (orders : List Order) (all : List Named) (f : BookFault) →
     HasWrongText orders f → HasWrongText (orders_in cells group orders all) f
 wrong_in cells group orders all f wrong =
@@ -770,6 +773,7 @@ sendable_to o cells is = record { alert = is.alert; version = by_action o.action
     by_action (action.Update update sending) has = has
     by_action (action.Stop others) has = has
 
+-- the orders of a group have serial numbers where those of the network do
 pub sendable_in : (cells : List Cell) (group : ℕ) (orders : List Order) (all : List Named) → All IsSendable orders →
     All IsSendable (orders_in cells group orders all)
 sendable_in cells group [] all are = All-nil IsSendable
@@ -881,6 +885,7 @@ text_fault_in kept input shown f same are bounded (inr wrong) = inr (inr (
   },
 ))
 
+-- so a network that isn't read for a text's fault is no network book
 pub text_faults_in : {A : Type 0} (kept : AllRowsKept) (input : List ℕ) (shown : List Order) (r : Result A BookFault)
     (f : BookFault) → r ≡ Err f → shown ≡ kept.orders → AreRowsOfAll kept input → length input ≤ 67108864 →
     (f ≡ refused) ⊎ HasWrongText shown f → IfErr r (IsNoNetworkBook 0 input)

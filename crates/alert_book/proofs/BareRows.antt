@@ -31,10 +31,11 @@ use Rattle.alert_book.specs.Row.{FieldCells}
 abbrev pub no_cells : List Cell → List Cell
 no_cells cells = []
 
--- a sending and an action without their cells
+-- a sending without its cells
 abbrev bare_sending : Sending → Sending
 bare_sending s = sending_to s []
 
+-- an action without its cells
 abbrev pub bare_action : Action → Action
 bare_action a = action_to a []
 
@@ -88,6 +89,7 @@ pub then_same : {A C D : Type 0} (r : Result A RowFault) (change : C → D) (nex
 then_same (Ok value) change next later so = so value
 then_same (Err kind) change next later so = refl
 
+-- what is bare either way is bare
 pub either_bare : {C D : Type 0} (test : Bool) (change : C → D) (a b : Result C RowFault) (c d : Result D RowFault) →
     right_by change a ≡ c → right_by change b ≡ d → right_by change (cond test a b) ≡ cond test c d
 either_bare true change a b c d first second = first
@@ -197,6 +199,7 @@ declares_bare declared fields =
     then_same (number 0 65535 (column fields 2)) bare_row _ _ (λ ci.
     either_bare (is_among declared (cell_with lac ci)) bare_row _ _ _ _ refl refl)))
 
+-- a row of a verb is bare where its field is
 pub verb_bare : (verb : Option Verb) (row : ℕ) (declared : List Cell) (f g : FieldCells) (orders : List Order)
     (fields : List (List ℕ)) → AreBare f g →
     right_by bare_row (row_after_verb_by verb (cell_row_within 65536 declared fields) row f orders fields)
@@ -211,6 +214,7 @@ verb_bare (Some verbs.Update) row declared f g orders fields same =
 verb_bare (Some verbs.Stop) row declared f g orders fields same =
     either_bare (eqb (length fields) 4) bare_row _ _ _ _ (stop_bare row f g orders fields same) refl
 
+-- the row of a group is the bare row but for the cells
 pub row_bare : (group row : ℕ) (declared : List Cell) (orders : List Order) (fields : List (List ℕ)) →
     right_by bare_row (row_in_group group row declared orders fields)
     ≡ bare_meaning row declared (map bare orders) fields

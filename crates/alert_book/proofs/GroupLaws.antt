@@ -34,6 +34,7 @@ none_taken {X} p (suc k) (x ∷ xs) none =
     let parts = or_parts (p x) (list_any p xs) none in
     or_from (p x) (list_any p (take k xs)) parts.0 (none_taken p k xs parts.1)
 
+-- nor among what follows some of them
 pub none_dropped : {X : Type 0} (p : X → Bool) (n : ℕ) (xs : List X) → list_any p xs ≡ false →
     list_any p (drop n xs) ≡ false
 none_dropped {X} p zero xs none = none
@@ -100,12 +101,14 @@ take_full {X} zero (x ∷ xs) few = absurd (omega (arith, few))
 take_full {X} (suc k) [] few = refl
 take_full {X} (suc k) (x ∷ xs) few = ap (λ (ys : List X). x ∷ ys) (take_full k xs (omega (arith, few)))
 
+-- nothing follows all of a list
 pub drop_all : {X : Type 0} (n : ℕ) (xs : List X) → length xs ≤ n → drop n xs ≡ []
 drop_all {X} zero [] few = refl
 drop_all {X} zero (x ∷ xs) few = absurd (omega (arith, few))
 drop_all {X} (suc n) [] few = refl
 drop_all {X} (suc n) (x ∷ xs) few = drop_all n xs (omega (arith, few))
 
+-- what is left of a list has the rest of its length
 pub length_drop : {X : Type 0} (n : ℕ) (xs : List X) → n ≤ length xs → n + length (drop n xs) ≡ length xs
 length_drop {X} zero xs few = omega arith
 length_drop {X} (suc n) [] few = absurd (omega (arith, few))

@@ -136,6 +136,7 @@ cells_more old new group cells cell kept more =
         let least = leb-false (64 * old.group) old.count from in
         kept.own ∙ sym (part_before (64 * group) 64 cells cell (omega (arith, least, kept.count, kept.of_group)))
 
+-- a cell is among some and one more if it is among them, or is that one
 pub declared_more : (cells : List Cell) (cell other : Cell) (before : Bool) → before ≡ is_among cells other →
     (before || is_cell cell other) ≡ is_among (cells ++ cell ∷ []) other
 declared_more cells cell other before is =

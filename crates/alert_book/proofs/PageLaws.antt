@@ -57,6 +57,7 @@ wrong_here order orders f bad = record {
   named = bad.named;
 }
 
+-- a text that can't be sent, after an order that has pages
 pub wrong_later : (order : Order) (orders : List Order) (paged : Option Paged) (f : BookFault) →
     IsOrderPacked order (Ok paged) → HasWrongText orders f → HasWrongText (order ∷ orders) f
 wrong_later order orders paged f here later = record {

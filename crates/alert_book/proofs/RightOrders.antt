@@ -127,6 +127,7 @@ before_some (Some cell) None cells is = absurd (cc is)
 before_some (Some cell) (Some rest) [] is = absurd (cc is)
 before_some (Some cell) (Some rest) (c ∷ cs) is = refl
 
+-- a list that is right names some cells
 pub listed_some : (part text : List ℕ) (cells : List Cell) → all_named (parts_after part text) ≡ Some cells →
     is_nothing cells ≡ false
 listed_some part [] cells is = before_some (cell_named part) (Some []) cells is
@@ -264,7 +265,7 @@ abbrev pub IsRightRow : (Good : List Cell → Type 0) → Row → Type 0
 IsRightRow Good (rows.Declare cell) = Unit {0}
 IsRightRow Good (rows.Give order) = IsRightActionBy Good order.action
 
-pub same_row : (r : Result Row RowFault) (a b : Row) → r ≡ Ok a → r ≡ Ok b → a ≡ b
+same_row : (r : Result Row RowFault) (a b : Row) → r ≡ Ok a → r ≡ Ok b → a ≡ b
 same_row r a b one other = cc
 
 given_right : (Good : List Cell → Type 0) (order : Order) (r : Result Row RowFault) →
