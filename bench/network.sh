@@ -1,7 +1,9 @@
 #!/bin/sh
 # Times `warnc report --network` on networks of 64, 1,024 and 16,384 cells with 200 orders, in runs of 4,096 slots, with
 # 1, 2 and 4 workers: seconds, cells a second, and the most memory; and how many times as long as its 256 groups, each
-# by itself, the largest takes with one worker.
+# by itself, the largest takes with one worker. Then on 16,384 cells with 2,000 texts for cells of the first group, with
+# one worker in runs of 8 slots, which is to take at most three times as long as `--group 0`, and on 65,536 cells with
+# 4,096 orders, each for 200 of them: seconds and the most memory.
 #
 # Usage: bench/network.sh [PROGRAM]
 set -eu
@@ -22,6 +24,38 @@ def network(cells):
         named = " ".join(f"{1 + it // 65536}-{it % 65536}" for it in some)
         rows.append(f"write,{20 * number},a{number},4370,0,{number},en,2,32,20,{named},Leave the river bank")
     return "\n".join(rows) + "\n"
+
+
+def network_of_one_group():
+    """Returns a network book of 16,384 cells, whose 2,000 texts are for cells of the first group."""
+    rows = [f"cell,1,{it}" for it in range(16384)]
+    for number in range(2000):
+        text = f"Leave the river bank {number} " * 50
+        named = f"1-{number % 64} 1-{(number + 1) % 64}"
+        rows.append(f"write,0,a{number},4370,0,{number % 1024},en,2,32,2,{named},{text}")
+    return "\n".join(rows) + "\n"
+
+
+def large_network():
+    """Returns a network book of 65,536 cells and 4,096 orders, each for 200 cells."""
+    chance = random.Random(65536)
+    rows = [f"cell,1,{it}" for it in range(65536)]
+    for number in range(4096):
+        named = " ".join(f"1-{it}" for it in chance.sample(range(65536), 200))
+        rows.append(f"write,0,a{number},4370,0,{number % 1024},en,2,32,2,{named},Leave the river bank {number}")
+    return "\n".join(rows) + "\n"
+
+
+def time_of(path, *options):
+    """Returns how long a report of 8 slots takes, and the most memory that it took."""
+    begun = time.monotonic()
+    words = [program, "report", "--slots", "8", "--workers", "1", *options]
+    with open(path, "rb") as it, open(os.devnull, "wb") as nothing:
+        started = subprocess.Popen(words, stdin=it, stdout=nothing)
+        _, status, used = os.wait4(started.pid, 0)
+    if status:
+        sys.exit(f"{path}: status {status}")
+    return time.monotonic() - begun, used.ru_maxrss / 1000
 
 
 alone = None
@@ -49,4 +83,18 @@ for cells in (64, 1024, 16384):
           f"{took[1] / took[4]:.1f} times as fast with 4 workers")
 peak = resource.getrusage(resource.RUSAGE_CHILDREN).ru_maxrss
 print(f"most memory: {peak / 1000:.0f} MB")
+
+book = os.path.join(work, "one.csv")
+with open(book, "w", encoding="utf-8") as it:
+    it.write(network_of_one_group())
+first, least = min(time_of(book, "--group", "0") for _ in range(3))
+whole, most = min(time_of(book, "--network") for _ in range(3))
+print(f" 16384 cells, 2,000 texts for group 0: {whole:.2f} s, {most:.0f} MB; --group 0: {first:.2f} s, {least:.0f} MB; "
+      f"{whole / first:.1f} times as long")
+book = os.path.join(work, "large.csv")
+with open(book, "w", encoding="utf-8") as it:
+    it.write(large_network())
+first, least = time_of(book, "--group", "0")
+whole, most = time_of(book, "--network")
+print(f" 65536 cells, 4,096 orders: {whole:.2f} s, {most:.0f} MB; --group 0: {first:.2f} s, {least:.0f} MB")
 PY

@@ -11,6 +11,8 @@ groups -> 1024
 groups cell,2,0| -> row 65537: too many rows
 group 1023 write,0,a,4370,0,1,en,2,2,0,*,@| \
     -> 64 cells 1-65472 to 1-65535; 0010 at slot 0 of row 65537 to 64 cells 1-65472 to 1-65535
+group 0 write,0,a,4370,0,1,en,2,2,0,1-65535 1-63 1-64,@| \
+    -> 64 cells 1-0 to 1-63; 0010 at slot 0 of row 65537 to 1-63
 group 1024 -> no such group: the network has 1024
 ";
 

@@ -66,6 +66,39 @@ group 1 update,1,a,en,2,2,0,1-64,@| -> row 82: too many updates
 groups update,1,a,en,2,2,0,1-64,@| -> row 82: too many updates
 ";
 
+/// Networks of three groups.
+const THREE_GROUPS: &str = "
+# Lists that mix the groups in any order: each has its own cells in the order of the list.
+before
+cells 0 130
+before write,0,a,4370,0,1,en,2,2,0,1-129 1-1 1-64 1-128 1-0 1-127,@|
+group 0 -> 64 cells 1-0 to 1-63; 0010 at slot 0 of row 131 to 1-1 1-0
+group 1 -> 64 cells 1-64 to 1-127; 0010 at slot 0 of row 131 to 1-64 1-127
+group 2 -> 1-128 1-129; 0010 at slot 0 of row 131 to 1-129 1-128
+
+# An update for all goes to the cells where the alert is, and a stop to a cell of the last group alone.
+before update,1,a,en,2,2,0,*,@|stop,2,a,1-128|
+group 0 -> 64 cells 1-0 to 1-63; 0010 at slot 0 of row 131 to 1-1 1-0; \
+    0011 over 0010 at slot 1 of row 132 to 1-0 1-1
+group 2 -> 1-128 1-129; 0010 at slot 0 of row 131 to 1-129 1-128; \
+    0011 over 0010 at slot 1 of row 132 to 1-128 1-129; stop 0011 at slot 2 of row 133 to 1-128
+
+# A text for a cell of the last group that can't be sent is the first group's fault, too.
+groups write,3,b,4371,0,2,en,2,2,0,1-129,| -> row 134: text is empty
+group 0 write,3,b,4371,0,2,xx,2,2,0,1-129,@| -> row 134: unknown language
+
+# `*` before further cells has none of these, one of an earlier group either.
+before
+cells 0 66
+before write,0,a,4370,0,1,en,2,2,0,*,@|
+cells 66 130
+before write,1,b,4370,0,2,en,2,2,0,1-66 1-129,@|
+group 0 -> 64 cells 1-0 to 1-63; 0010 at slot 0 of row 67 to 64 cells 1-0 to 1-63
+group 1 -> 64 cells 1-64 to 1-127; 0010 at slot 0 of row 67 to 1-64 1-65; 0020 at slot 1 of row 132 to 1-66
+group 2 -> 1-128 1-129; 0020 at slot 1 of row 132 to 1-129
+group 3 -> no such group: the network has 3
+";
+
 /// The faults of network books, which each group tells.
 const FAULTS: &str = "
 # A text of other cells.
@@ -102,6 +135,11 @@ group 0 cell,1,1%FF| -> row 1: columns
 #[test]
 fn groups_have_their_books(rt: HostRuntime) -> Result<(), Fail> {
     expect_rows(&rt, GROUPS)
+}
+
+#[test]
+fn rows_are_shared_out_to_groups(rt: HostRuntime) -> Result<(), Fail> {
+    expect_rows(&rt, THREE_GROUPS)
 }
 
 #[test]

@@ -13,9 +13,12 @@
 //! - `group NUMBER ROWS`: the cells of this group's book, and the messages of its session, as served.rt says, or why
 //!   it has none;
 //! - `line_feeds NUMBER`: how many groups a book of so many line feeds has, or its fault, and how many octets are left.
+//!
+//! The first two are asked of a reader's octets, for the one group, and of the network that is read once for all of
+//! them, and both have to say so.
 
 use crate::served::{tell_cells, tell_served};
-use alert_book::{BookFault, count_groups, read_group};
+use alert_book::{Book, BookFault, Network, count_groups, read_group};
 use device_ends::Source;
 use device_ends::memory::MemoryReader;
 use std::alloc::{AllocGlobal, Global};
@@ -75,7 +78,13 @@ fn tell_count(told: &mut String, count: Result<u16, BookFault>) -> Result<(), Fa
     Ok(())
 }
 
-/// Tells the book of a group, and what its session sends, or why it has none.
+/// Tells a book: its cells, and what its session sends.
+fn tell_book(alloc: Global, told: &mut String, book: &Book) -> Result<(), Fail> {
+    tell_cells(told, book.cells())?;
+    tell_served(alloc, told, book)
+}
+
+/// Tells the book of a group that was read by itself, or why it has none.
 fn tell_group<T: AllocGlobal + Threads + Sync>(
     rt: &T,
     told: &mut String,
@@ -85,9 +94,45 @@ fn tell_group<T: AllocGlobal + Threads + Sync>(
     let mut reader = MemoryReader::new(octets, MOST, None);
     match read_group(rt, &mut Source::new(&mut reader), group) {
         Ok(book) => {
-            tell_cells(told, book.cells())?;
-            let result = tell_served(rt.alloc(), told, &book);
+            let result = tell_book(rt.alloc(), told, &book);
             drop(book);
+            result
+        }
+        Err(fault) => Ok(write!(told, "{fault}")?),
+    }
+}
+
+/// Tells the book of a group of a network that was read once, if it is there.
+fn tell_of_network(
+    alloc: Global,
+    told: &mut String,
+    network: &Network,
+    group: u16,
+) -> Result<(), Fail> {
+    let groups = network.groups();
+    if group >= groups {
+        return Ok(write!(told, "no such group: the network has {groups}")?);
+    }
+    let book = network.group(alloc, group)?;
+    let result = tell_book(alloc, told, &book);
+    drop(book);
+    result
+}
+
+/// Tells how many groups a network has that is read once, or the book of one, or the network's fault.
+fn tell_once<T: AllocGlobal + Threads + Sync>(
+    rt: &T,
+    told: &mut String,
+    octets: &[u8],
+    group: Option<u16>,
+) -> Result<(), Fail> {
+    match Network::read(rt, octets) {
+        Ok(network) => {
+            let result = match group {
+                Some(group) => tell_of_network(rt.alloc(), told, &network, group),
+                None => tell_count(told, Ok(network.groups())),
+            };
+            drop(network);
             result
         }
         Err(fault) => Ok(write!(told, "{fault}")?),
@@ -116,29 +161,58 @@ fn octets_of(alloc: Global, before: &[u8], verb: &str, rest: &str) -> Result<Vec
     Ok(octets)
 }
 
+/// What comes of an action: where the octets are read for one group, and where they are read once for all.
+#[derive(Drop)]
+struct Told {
+    apart: String,
+    once: Option<String>,
+}
+
+/// Tells how many groups the octets' network has, or the book of one.
+fn tell_both<T: AllocGlobal + Threads + Sync>(
+    rt: &T,
+    octets: &[u8],
+    group: Option<u16>,
+) -> Result<Told, Fail> {
+    let mut apart = String::new(rt.alloc());
+    let mut once = String::new(rt.alloc());
+    match group {
+        Some(group) => tell_group(rt, &mut apart, octets, group)?,
+        None => {
+            let _left = tell_left(rt, &mut apart, octets)?;
+        }
+    }
+    tell_once(rt, &mut once, octets, group)?;
+    Ok(Told {
+        apart,
+        once: Some(once),
+    })
+}
+
 /// Tells what comes of an action.
 fn carry_out<T: AllocGlobal + Threads + Sync>(
     rt: &T,
-    told: &mut String,
     before: &mut Vec<u8>,
     action: &str,
-) -> Result<(), Fail> {
+) -> Result<Told, Fail> {
     let alloc = rt.alloc();
     let (verb, rest) = action.split_once(' ').unwrap_or((action, ""));
+    let mut apart = String::new(alloc);
     if set(alloc, before, verb, rest)? {
-        return Ok(());
+        return Ok(Told { apart, once: None });
     }
     if verb == "group" {
         let (group, rows) = rest.split_once(' ').unwrap_or((rest, ""));
         let octets = octets_of(alloc, before, verb, rows)?;
-        return tell_group(rt, told, &octets, group.parse::<u16>()?);
+        return tell_both(rt, &octets, Some(group.parse::<u16>()?));
     }
     let octets = octets_of(alloc, before, verb, rest)?;
-    let left = tell_left(rt, told, &octets)?;
     if verb == "line_feeds" {
-        write!(told, ", {left} left")?;
+        let left = tell_left(rt, &mut apart, &octets)?;
+        write!(apart, ", {left} left")?;
+        return Ok(Told { apart, once: None });
     }
-    Ok(())
+    tell_both(rt, &octets, None)
 }
 
 /// Expects what the rows of a table say.
@@ -150,9 +224,11 @@ pub fn expect_rows<T: AllocGlobal + Abort + Threads + Sync>(
     let mut rows = 0_usize;
     for line in table.split('\n') {
         if let Some(row) = Row::of(line) {
-            let mut told = String::new(rt.alloc());
-            carry_out(rt, &mut told, &mut before, row.action)?;
-            assert_eq!(rt; told.as_str(), row.wanted, "{}", row.action);
+            let told = carry_out(rt, &mut before, row.action)?;
+            assert_eq!(rt; told.apart.as_str(), row.wanted, "{}", row.action);
+            if let Some(once) = &told.once {
+                assert_eq!(rt; once.as_str(), row.wanted, "once: {}", row.action);
+            }
             rows = rows.saturating_add(1);
         }
     }
