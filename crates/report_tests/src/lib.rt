@@ -8,4 +8,6 @@ mod books;
 #[cfg(test)]
 mod memory;
 #[cfg(test)]
+mod room;
+#[cfg(test)]
 mod tables;

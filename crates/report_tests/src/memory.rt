@@ -1,76 +1,129 @@
-//! Reports with hardly any memory: each allocation is refused once, and nothing is written then.
+//! Reports that are short of memory: growths are refused one after the other, and nothing is written then.
 
 use crate::books::{Books, expect_each};
+use crate::room::{ROOMS, Room};
 use crate::tables::TWO_CELLS;
-use bsc_table::CellRecord;
 use device_ends::Sink;
-use handset::Reading;
-use report::{ReportFault, rows, write_report};
+use report::{ReportFault, Row, rows, write_report};
 use std::alloc::Global;
+use std::process::Abort;
 use std::test::Fail;
-use test_support::Scarce;
 
-/// What a report of these leaves of 400 octets; the fault of one that isn't written.
-fn left_by(
+/// How many rows the runs of books have, in a room of so many blocks or with all memory. Of fewer readings it has to be
+/// that the cells differ, in either case, since cells are compared without memory.
+fn number_of_rows(
     alloc: Global,
-    runs: &[CellRecord],
-    readings: &[Reading],
-) -> (Result<(), ReportFault>, usize) {
+    books: &Books,
+    room: &mut Room,
+    blocks: Option<u16>,
+) -> Result<Result<usize, ReportFault>, Fail> {
+    let fewer = &books.readings[..books.readings.len().saturating_sub(1)];
+    if let Some(blocks) = blocks {
+        room.leave(alloc, blocks);
+    }
+    let other = rows(alloc, &books.runs, fewer);
+    let found = rows(alloc, &books.runs, &books.readings);
+    room.end(alloc);
+    let is_other = matches!(other, Err(ReportFault::Cells));
+    drop(other);
+    let number = match found {
+        Ok(rows) => Ok(rows.len()),
+        Err(fault) => Err(fault),
+    };
+    if is_other {
+        Ok(number)
+    } else {
+        Err(Fail::new("a report of fewer readings"))
+    }
+}
+
+/// How often the rows of books are refused memory. After each refusal there are five with all memory.
+fn refused_rows(alloc: Global, books: &Books, room: &mut Room) -> Result<u16, Fail> {
+    for blocks in 0..ROOMS {
+        match number_of_rows(alloc, books, room, Some(blocks))? {
+            Ok(5) => return Ok(blocks),
+            Err(ReportFault::Refused) => {}
+            _ => return Err(Fail::new("other rows, or another fault")),
+        }
+        if number_of_rows(alloc, books, room, None)? != Ok(5) {
+            return Err(Fail::new("rows with all memory"));
+        }
+    }
+    Err(Fail::new("rows are refused to the end"))
+}
+
+/// How many octets the report of rows has, in a room of so many blocks or with all memory; 400 octets can be written.
+/// None if the sink has failed.
+fn written_of(
+    alloc: Global,
+    rows: &[Row],
+    room: &mut Room,
+    blocks: Option<u16>,
+) -> Option<(Result<(), ReportFault>, usize)> {
     let mut out = [0; 400];
     let mut left = out.as_mut_slice();
-    let rows = match rows(alloc, runs, readings) {
-        Ok(rows) => rows,
-        Err(fault) => return (Err(fault), left.len()),
-    };
-    let done = write_report(alloc, rows.as_slice(), &mut Sink::new(&mut left));
-    (done, left.len())
+    let mut sink = Sink::new(&mut left);
+    if let Some(blocks) = blocks {
+        room.leave(alloc, blocks);
+    }
+    let done = write_report(alloc, rows, &mut sink);
+    room.end(alloc);
+    if sink.failed() {
+        return None;
+    }
+    Some((done, 400_usize.saturating_sub(left.len())))
 }
 
-/// Whether a report is refused memory; if it isn't, it is written and has 163 octets. One of fewer readings is at fault
-/// in either case, since cells are compared without memory.
-fn is_refused(alloc: Global, runs: &[CellRecord], readings: &[Reading]) -> Result<bool, Fail> {
-    let fewer = left_by(alloc, runs, &readings[..readings.len().saturating_sub(1)]);
-    if fewer != (Err(ReportFault::Cells), 400) {
-        return Err(Fail::new("a report of fewer readings"));
-    }
-    match left_by(alloc, runs, readings) {
-        (Ok(()), 237) => Ok(false),
-        (Err(ReportFault::Refused), 400) => Ok(true),
-        _ => Err(Fail::new("another report, or another fault")),
-    }
-}
-
-/// How many reports of books are refused memory before one is written, each with one block more.
-fn refusals(alloc: Global, books: &Books, scarce: &mut Scarce) -> Result<u16, Fail> {
-    for refused in 0..400 {
-        if !is_refused(alloc, &books.runs, &books.readings)? {
-            return Ok(refused);
+/// How often the report of rows is refused memory, with nothing written. After each refusal it has its 163 octets with
+/// all memory.
+fn refused_reports(alloc: Global, rows: &[Row], room: &mut Room) -> Result<u16, Fail> {
+    let whole = Some((Ok(()), 163));
+    for blocks in 0..ROOMS {
+        let found = written_of(alloc, rows, room, Some(blocks));
+        if found == whole {
+            return Ok(blocks);
         }
-        scarce.give_block();
+        if found != Some((Err(ReportFault::Refused), 0)) {
+            return Err(Fail::new("another report, or another fault"));
+        }
+        if written_of(alloc, rows, room, None) != whole {
+            return Err(Fail::new("a report with all memory"));
+        }
     }
-    Err(Fail::new("no report with 100 KB"))
+    Err(Fail::new("reports are refused to the end"))
 }
 
-/// The same, once all memory is taken.
-fn refusals_without_memory(alloc: Global, books: &Books) -> Result<u16, Fail> {
-    let mut scarce = Scarce::new(alloc, 400, 256)?;
-    scarce.take(alloc);
-    let refused = refusals(alloc, books, &mut scarce);
-    drop(scarce);
-    refused
-}
-
-/// The same of the two cells.
-fn refusals_of_two_cells(alloc: Global, books: &mut Books) -> Result<u16, Fail> {
+/// How often the rows of two cells, and the report of these, are refused memory.
+fn refused_of_two_cells(alloc: Global, books: &mut Books) -> Result<(u16, u16), Fail> {
     let _ = expect_each(books, TWO_CELLS)?;
-    refusals_without_memory(alloc, books)
+    let mut room = Room::new(alloc)?;
+    let refused = refused_rows(alloc, books, &mut room)?;
+    let rows = rows(alloc, &books.runs, &books.readings)?;
+    let reports = refused_reports(alloc, &rows, &mut room)?;
+    Ok((refused, reports))
 }
+
+/// Expects that the rows of two cells are refused memory so often at least, and the report of these so often.
+fn expect_refusals(
+    rt: &impl Abort,
+    alloc: Global,
+    least: u16,
+    least_of_report: u16,
+) -> Result<(), Fail> {
+    let mut books = Books::new(alloc);
+    let refused = refused_of_two_cells(alloc, &mut books);
+    drop(books);
+    let (refused, of_report) = refused?;
+    assert!(rt;
+        refused >= least && of_report >= least_of_report,
+        "{refused} and {of_report}"
+    );
+    Ok(())
+}
+
+// A trace of the process counts eight growths of the one call that are refused, and one of the other.
 
 #[test]
 fn refused_memory_is_reported(rt: HostRuntime) -> Result<(), Fail> {
-    let mut books = Books::new(rt.alloc());
-    let refused = refusals_of_two_cells(rt.alloc(), &mut books);
-    drop(books);
-    assert!(rt; refused? > 3);
-    Ok(())
+    expect_refusals(&rt, rt.alloc(), 8, 1)
 }

@@ -1,6 +1,7 @@
 //! A bench on which books are compiled between memory and memory.
 
-use crate::gate::{Crossing, Manner};
+use crate::gate::{Crossing, Manner, Shortage};
+use alert_book::Origin;
 use device_ends::memory::{MemoryReader, MemoryWriter};
 use device_ends::{Sink, Source, write_all};
 use std::alloc::Global;
@@ -8,13 +9,76 @@ use std::io::Write;
 use std::sync::Wait;
 use std::test::Fail;
 use std::thread::Threads;
-use test_support::{Drought, Words};
-use warnc_run::{RunFault, compile_stream, live_stream};
+use test_support::Words;
+use warnc_run::{
+    NetworkFault, Product, ReportRunFault, RunFault, Workers, chart_stream, compile_stream,
+    live_stream, network_stream, report_stream, run_book,
+};
+
+/// What is called.
+#[derive(Clone, Copy, PartialEq, Eq)]
+enum Engine {
+    /// `compile_stream`.
+    Compile,
+    /// `live_stream`.
+    Live,
+    /// `run_book`, which writes nothing.
+    Records,
+    /// `report_stream`.
+    Report,
+    /// `chart_stream`, of the first cell.
+    Chart,
+    /// `network_stream`.
+    Network(Product),
+}
+
+impl Engine {
+    /// The engine of a word.
+    fn of(verb: &str) -> Engine {
+        match verb {
+            "compile" => Engine::Compile,
+            "records" => Engine::Records,
+            "report" => Engine::Report,
+            "chart" => Engine::Chart,
+            "network-tapes" => Engine::Network(Product::Tapes),
+            "network-report" => Engine::Network(Product::Report),
+            _ => Engine::Live,
+        }
+    }
+}
+
+/// Why a call writes nothing, or not all.
+#[derive(Clone, Copy)]
+enum Why {
+    Run(RunFault),
+    Report(ReportRunFault),
+    Network(NetworkFault),
+    /// The words of a row ask for other than 1 to 64 workers of a network.
+    Workers,
+}
+
+impl From<RunFault> for Why {
+    fn from(fault: RunFault) -> Why {
+        Why::Run(fault)
+    }
+}
+
+impl From<ReportRunFault> for Why {
+    fn from(fault: ReportRunFault) -> Why {
+        Why::Report(fault)
+    }
+}
+
+impl From<NetworkFault> for Why {
+    fn from(fault: NetworkFault) -> Why {
+        Why::Network(fault)
+    }
+}
 
 /// What is called, and with which numbers.
 #[derive(Clone, Copy)]
 pub struct Call {
-    is_live: bool,
+    engine: Engine,
     manner: Manner,
     slots: u16,
     sessions: u16,
@@ -22,12 +86,15 @@ pub struct Call {
 }
 
 impl Call {
-    /// The call of a word and its numbers: `compile SLOTS WORKERS`, `live SLOTS SESSIONS WORKERS`, or `meet` or
-    /// `starve` with the numbers of `live`.
+    /// The call of a word and its numbers: of an engine, or `meet` or `starve` with the numbers of `live`.
     pub fn of(verb: &str, words: &mut Words) -> Result<Call, Fail> {
-        let is_live = verb != "compile";
+        let engine = Engine::of(verb);
         let slots = words.number16()?;
-        let sessions = if is_live { words.number16()? } else { 1 };
+        let sessions = if engine == Engine::Live {
+            words.number16()?
+        } else {
+            1
+        };
         let workers = words.number()?;
         if sessions == 0 || sessions > 64 {
             return Err(Fail::new("the number of sessions"));
@@ -38,7 +105,7 @@ impl Call {
             _ => Manner::Pass,
         };
         Ok(Call {
-            is_live,
+            engine,
             manner,
             slots,
             sessions,
@@ -53,12 +120,23 @@ impl Call {
         source: &mut Source<&mut MemoryReader>,
         sink: &mut Sink<&mut W>,
         gate: &Crossing,
-    ) -> Result<(), RunFault> {
-        if !self.is_live {
-            return compile_stream(rt, source, sink, self.slots, self.workers);
+    ) -> Result<(), Why> {
+        let (slots, workers) = (self.slots, self.workers);
+        match self.engine {
+            Engine::Compile => compile_stream(rt, source, sink, slots, workers)?,
+            Engine::Live => {
+                let sessions = self.sessions.clamp(1, 64);
+                live_stream(rt, source, sink, slots, sessions, workers, gate)?;
+            }
+            Engine::Records => drop(run_book(rt, source, Origin::Book, slots, workers)?),
+            Engine::Report => report_stream(rt, source, sink, slots, workers)?,
+            Engine::Chart => chart_stream(rt, source, sink, slots, None, workers)?,
+            Engine::Network(made) => {
+                let workers = Workers::new(workers).ok_or(Why::Workers)?;
+                network_stream(rt, source, sink, made, slots, workers)?;
+            }
         }
-        let sessions = self.sessions.clamp(1, 64);
-        live_stream(rt, source, sink, self.slots, sessions, self.workers, gate)
+        Ok(())
     }
 }
 
@@ -89,7 +167,9 @@ pub struct Bench {
     pub written: Vec<u8>,
     /// Whether no line said yet what was written.
     pub is_unseen: bool,
-    pub drought: Drought,
+    /// What memory is left to the next call, if it is short of it.
+    pub shortage: Option<Shortage>,
+    gate: Crossing,
 }
 
 impl Bench {
@@ -104,7 +184,8 @@ impl Bench {
             worked: Vec::new(alloc),
             written: Vec::new(alloc),
             is_unseen: false,
-            drought: Drought::new(alloc)?,
+            shortage: None,
+            gate: Crossing::new(alloc)?,
         })
     }
 
@@ -121,17 +202,16 @@ impl Bench {
 /// What a call said.
 #[derive(Clone, Copy)]
 struct Said {
-    result: Result<(), RunFault>,
+    result: Result<(), Why>,
     is_source_failed: bool,
     is_sink_failed: bool,
 }
 
-/// Makes a call.
+/// Makes a call, which is short of memory if the bench says so.
 fn said_by<T: AllocGlobal + Threads + Wait + Sync, W: Write>(
     rt: &T,
     bench: &Bench,
     call: Call,
-    gate: &Crossing,
     writer: &mut W,
 ) -> Said {
     let per_call = bench.reader.octets.max(1);
@@ -141,8 +221,9 @@ fn said_by<T: AllocGlobal + Threads + Wait + Sync, W: Write>(
     if bench.is_sink_failed {
         let _ = write_all(&mut sink, b"-");
     }
-    let result = call.made(rt, &mut source, &mut sink, gate);
-    gate.give_back();
+    bench.gate.begin_shortage(0);
+    let result = call.made(rt, &mut source, &mut sink, &bench.gate);
+    bench.gate.give_back();
     Said {
         result,
         is_source_failed: source.failed(),
@@ -155,31 +236,27 @@ fn said_with_memory<T: AllocGlobal + Threads + Wait + Sync>(
     rt: &T,
     bench: &mut Bench,
     call: Call,
-    gate: &Crossing,
 ) -> Result<Said, Fail> {
     let mut writer = MemoryWriter::new(rt.alloc(), bench.writer.octets, bench.writer.calls);
-    let said = said_by(rt, bench, call, gate, &mut writer);
+    let said = said_by(rt, bench, call, &mut writer);
     bench.written.clear();
     bench.written.extend_from_slice(writer.contents())?;
     Ok(said)
 }
 
-/// How many octets a call with scarce memory can write: what it writes takes room that there was before.
-const ROOM: usize = 4000;
+/// How many octets a call that is short of memory can write: what it writes takes room that there was before.
+const OUTPUT: usize = 4000;
 
-/// Makes a call with scarce memory.
-fn said_in_drought<T: AllocGlobal + Threads + Wait + Sync>(
+/// Makes a call that is short of memory.
+fn said_in_shortage<T: AllocGlobal + Threads + Wait + Sync>(
     rt: &T,
     bench: &mut Bench,
     call: Call,
-    gate: &Crossing,
 ) -> Result<Said, Fail> {
-    let mut room = vec![in rt.alloc(); 0_u8; ROOM]?;
+    let mut room = vec![in rt.alloc(); 0_u8; OUTPUT]?;
     let mut left = room.as_mut_slice();
-    bench.drought.begin(rt.alloc());
-    let said = said_by(rt, bench, call, gate, &mut left);
-    bench.drought.end();
-    let written = ROOM.saturating_sub(left.len());
+    let said = said_by(rt, bench, call, &mut left);
+    let written = OUTPUT.saturating_sub(left.len());
     room.truncate(written);
     bench.written = room;
     Ok(said)
@@ -193,25 +270,13 @@ fn answer(alloc: Global, said: Said) -> Result<String, Fail> {
         (false, true) => ", sink failed",
         (true, true) => ", both ends failed",
     };
-    match said.result {
-        Ok(()) => Ok(format!(in alloc; "done{ends}")?),
-        Err(fault) => Ok(format!(in alloc; "{fault:?}{ends}")?),
-    }
-}
-
-/// Makes a call with as much memory as it is to have.
-fn said_at<T: AllocGlobal + Threads + Wait + Sync>(
-    rt: &T,
-    bench: &mut Bench,
-    call: Call,
-    gate: &Crossing,
-    is_scarce: bool,
-) -> Result<Said, Fail> {
-    if is_scarce {
-        said_in_drought(rt, bench, call, gate)
-    } else {
-        said_with_memory(rt, bench, call, gate)
-    }
+    Ok(match said.result {
+        Ok(()) => format!(in alloc; "done{ends}")?,
+        Err(Why::Run(fault)) => format!(in alloc; "{fault:?}{ends}")?,
+        Err(Why::Report(fault)) => format!(in alloc; "{fault:?}{ends}")?,
+        Err(Why::Network(fault)) => format!(in alloc; "{fault:?}{ends}")?,
+        Err(Why::Workers) => format!(in alloc; "no such workers{ends}")?,
+    })
 }
 
 /// Makes a call, and says what it comes to, and what happened at its gate.
@@ -219,14 +284,15 @@ pub fn make_call<T: AllocGlobal + Threads + Wait + Sync>(
     rt: &T,
     bench: &mut Bench,
     call: Call,
-    is_scarce: bool,
 ) -> Result<String, Fail> {
-    let gate = Crossing::new(rt.alloc(), call.manner)?;
-    let said = said_at(rt, bench, call, &gate, is_scarce);
-    let told = gate.told();
-    drop(gate);
+    bench.gate.renew(call.manner, bench.shortage);
+    let said = match bench.shortage {
+        Some(_) => said_in_shortage(rt, bench, call),
+        None => said_with_memory(rt, bench, call),
+    };
+    bench.shortage = None;
     let mut text = answer(rt.alloc(), said?)?;
     bench.renew();
-    text.push_str(told)?;
+    text.push_str(bench.gate.told())?;
     Ok(text)
 }

@@ -1,5 +1,6 @@
-//! A gate at which two threads can meet, each in a cell of its own, and lose all memory.
+//! A gate at which two threads can meet, each in a cell of its own, and at which memory can end.
 
+use crate::room::Room;
 use order_desk::Gate;
 use std::alloc::Global;
 use std::sync::Mutex;
@@ -19,6 +20,15 @@ pub enum Manner {
     Starve,
 }
 
+/// What is left of memory to a call.
+#[derive(Clone, Copy)]
+pub struct Shortage {
+    /// How many least blocks its room has.
+    pub blocks: u16,
+    /// At which of those who enter the gate the shortage begins, from 1; 0 if it begins with the call.
+    pub entry: u64,
+}
+
 /// How many blocks of memory a gate can hold.
 const BLOCKS: usize = 100_000;
 
@@ -32,21 +42,50 @@ pub struct Crossing {
     gave_up: AtomicU64,
     taken: Mutex<Vec<Vec<u8>>>,
     blocks: AtomicU64,
+    shortage: Option<Shortage>,
+    /// How many have entered, in whichever cell.
+    entries: AtomicU64,
+    room: Mutex<Room>,
 }
 
 impl Crossing {
     /// A gate at which nobody has been.
-    pub fn new(alloc: Global, manner: Manner) -> Result<Crossing, Fail> {
-        let blocks = if manner == Manner::Starve { BLOCKS } else { 0 };
+    pub fn new(alloc: Global) -> Result<Crossing, Fail> {
         Ok(Crossing {
-            manner,
+            manner: Manner::Pass,
             alloc,
             entered: [AtomicU64::new(0), AtomicU64::new(0)],
             left: AtomicU64::new(0),
             gave_up: AtomicU64::new(0),
-            taken: Mutex::new(Vec::with_capacity(alloc, blocks)?),
+            taken: Mutex::new(Vec::with_capacity(alloc, BLOCKS)?),
             blocks: AtomicU64::new(0),
+            shortage: None,
+            entries: AtomicU64::new(0),
+            room: Mutex::new(Room::new(alloc)?),
         })
+    }
+
+    /// Has nobody been there, for a call that has all memory or is short of it.
+    pub fn renew(&mut self, manner: Manner, shortage: Option<Shortage>) {
+        self.manner = manner;
+        self.entered = [AtomicU64::new(0), AtomicU64::new(0)];
+        self.left = AtomicU64::new(0);
+        self.gave_up = AtomicU64::new(0);
+        self.blocks = AtomicU64::new(0);
+        self.shortage = shortage;
+        self.entries = AtomicU64::new(0);
+    }
+
+    /// Begins the shortage, if this is where it does: at the start of the call, or at an entry.
+    pub fn begin_shortage(&self, entry: u64) {
+        let Some(shortage) = self.shortage else {
+            return;
+        };
+        if shortage.entry == entry {
+            if let Some(mut room) = self.room.try_lock() {
+                room.leave(self.alloc, shortage.blocks);
+            }
+        }
     }
 
     /// Waits until a number isn't 0, for a million turns at most.
@@ -80,6 +119,9 @@ impl Crossing {
         if let Some(mut taken) = self.taken.try_lock() {
             taken.clear();
         }
+        if let Some(mut room) = self.room.try_lock() {
+            room.end(self.alloc);
+        }
     }
 
     /// What happened at the gate.
@@ -101,6 +143,8 @@ impl Crossing {
 
 impl Gate for Crossing {
     fn inside(&self, place: u16) {
+        let before = self.entries.fetch_add(1, Ordering::SeqCst);
+        self.begin_shortage(before.saturating_add(1));
         if self.manner == Manner::Pass {
             return;
         }

@@ -11,6 +11,8 @@ mod ends;
 #[cfg(test)]
 mod gate;
 #[cfg(test)]
+mod room;
+#[cfg(test)]
 mod rows;
 #[cfg(test)]
 mod scarce;

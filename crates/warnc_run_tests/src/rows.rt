@@ -12,12 +12,16 @@
 //!
 //! The calls:
 //!
-//! - `compile SLOTS WORKERS -> done`, or the fault; `live SLOTS SESSIONS WORKERS -> done`;
+//! - `compile SLOTS WORKERS -> done`, or the fault; `live SLOTS SESSIONS WORKERS -> done`; `records`, `report`,
+//!   `chart`, `network-tapes` and `network-report` with the numbers of `compile`;
 //! - `meet SLOTS SESSIONS WORKERS -> done, in both cells at once`: threads wait for each other in two cells;
 //! - `starve SLOTS SESSIONS WORKERS`: so too; then one of them takes all memory, and gives it back when the call has
 //!   ended;
-//! - `scarce CALL -> refused; ..`: the call has no memory, then more and more until it isn't refused. It writes nothing
-//!   before.
+//! - `scarce LEAST CALL -> refused; ..`: the call has no memory, and then rooms that grow by a least block, until it
+//!   isn't refused. It is refused so often at least, and writes nothing before. After each refusal it is made again
+//!   with all memory, and writes the worked octets; not after `scarce-threads`, as threads keep memory of a process;
+//! - `late ENTRY LEAST CALL -> refused; ..`: so too, but memory ends when somebody enters the gate, for the first time
+//!   or a later one.
 //!
 //! What a call wrote, of which a line has to speak before the next call:
 //!
@@ -29,13 +33,15 @@
 //! An answer may be one of two, `A or B`.
 
 use crate::bench::{Bench, Call, Pace, make_call};
+use crate::gate::Shortage;
+use crate::room::ROOMS;
 use crate::tapes::{aired, cells, part_of, shown};
 use std::alloc::Global;
 use std::process::Abort;
 use std::sync::Wait;
 use std::test::Fail;
 use std::thread::Threads;
-use test_support::{Drought, Row, Words, after_refusals, is_refused, octets_of};
+use test_support::{Row, Words, is_refused, octets_of};
 
 /// The pace that the next two words say.
 fn pace_of(words: &mut Words) -> Result<Pace, Fail> {
@@ -107,13 +113,12 @@ fn called<T: AllocGlobal + Threads + Wait + Sync>(
     bench: &mut Bench,
     verb: &str,
     words: &mut Words,
-    is_scarce: bool,
 ) -> Result<String, Fail> {
     if bench.is_unseen {
         return Ok(String::from_str(rt.alloc(), "no line said what the last call wrote")?);
     }
     let call = Call::of(verb, words)?;
-    make_call(rt, bench, call, is_scarce)
+    make_call(rt, bench, call)
 }
 
 /// What comes of a verb and the words after it.
@@ -122,21 +127,27 @@ fn done<T: AllocGlobal + Threads + Wait + Sync>(
     bench: &mut Bench,
     verb: &str,
     words: &mut Words,
-    is_scarce: bool,
 ) -> Result<String, Fail> {
     match verb {
-        "compile" | "live" | "meet" | "starve" => called(rt, bench, verb, words, is_scarce),
+        "compile"
+        | "live"
+        | "meet"
+        | "starve"
+        | "records"
+        | "report"
+        | "chart"
+        | "network-tapes"
+        | "network-report" => called(rt, bench, verb, words),
         "all" | "aired" | "cells" | "shown" => read_back(rt.alloc(), bench, verb, words),
         _ => set(rt.alloc(), bench, verb, words),
     }
 }
 
-/// What comes of an action, whose call has so many blocks of memory if that is scarce.
+/// What comes of an action.
 fn carried_out<T: AllocGlobal + Threads + Wait + Sync>(
     rt: &T,
     bench: &mut Bench,
     action: &str,
-    blocks: u16,
 ) -> Result<String, Fail> {
     if let Some(line) = action.strip_prefix("in ") {
         return line_added(rt.alloc(), bench, line, "\n");
@@ -145,38 +156,86 @@ fn carried_out<T: AllocGlobal + Threads + Wait + Sync>(
         return line_added(rt.alloc(), bench, line, "");
     }
     let mut words = Words::of(action);
-    let verb = bench.drought.verb(&mut words, blocks);
-    let found = done(rt, bench, verb, &mut words, is_scarce(action))?;
+    let verb = words.word();
+    let found = done(rt, bench, verb, &mut words)?;
     if words.word().is_empty() {
         return Ok(found);
     }
     Ok(String::from_str(rt.alloc(), "words are left over")?)
 }
 
-/// Whether an action's call has scarce memory.
-fn is_scarce(action: &str) -> bool {
-    action.starts_with("scarce ")
-}
-
 /// Whether an answer is that memory was refused, and that no end has failed.
 fn is_memory(answer: &str) -> bool {
-    let is_refused = is_refused(answer) || answer.starts_with("Desk(Memory {");
+    let is_refused = is_refused(answer) || answer.contains("Desk(Memory {");
     is_refused && !answer.contains("failed")
 }
 
-/// What comes of an action. If memory is scarce, it is carried out again until that isn't refused.
+/// The number at the head of a text, and what comes after it.
+fn number_of(text: &str) -> Result<(u16, &str), Fail> {
+    let (number, rest) = text.split_once(' ').unwrap_or((text, ""));
+    Ok((number.parse::<u16>()?, rest))
+}
+
+/// What is wrong with a call that is made again with all memory; nothing if it writes the worked octets.
+fn wrong_again<T: AllocGlobal + Threads + Wait + Sync>(
+    rt: &T,
+    bench: &mut Bench,
+    call: &str,
+) -> Result<String, Fail> {
+    let again = carried_out(rt, bench, call)?;
+    bench.is_unseen = false;
+    if again.as_str() != "done" {
+        return Ok(again);
+    }
+    let is_worked = bench.written == bench.worked;
+    Ok(String::from_str(rt.alloc(), if is_worked { "" } else { "other octets" })?)
+}
+
+/// What comes of a call in each room in turn, until it isn't refused memory: it has to be `LEAST` times.
+fn refused_in_each<T: AllocGlobal + Threads + Wait + Sync>(
+    rt: &T,
+    bench: &mut Bench,
+    entry: u64,
+    rest: &str,
+    is_repeated: bool,
+) -> Result<String, Fail> {
+    let (least, call) = number_of(rest)?;
+    for blocks in 0..ROOMS {
+        bench.shortage = Some(Shortage { blocks, entry });
+        let found = carried_out(rt, bench, call)?;
+        if !is_memory(&found) {
+            let often = if blocks < least {
+                "not so often"
+            } else {
+                "refused"
+            };
+            return Ok(format!(in rt.alloc(); "{often}; {found}")?);
+        }
+        if is_repeated {
+            let wrong = wrong_again(rt, bench, call)?;
+            if !wrong.is_empty() {
+                return Ok(format!(in rt.alloc(); "again: {wrong}")?);
+            }
+        }
+    }
+    Ok(String::from_str(rt.alloc(), "refused to the end")?)
+}
+
+/// What comes of an action, whose call may be refused memory.
 fn outcome<T: AllocGlobal + Threads + Wait + Sync>(
     rt: &T,
     bench: &mut Bench,
     action: &str,
 ) -> Result<String, Fail> {
-    for refused in 0..Drought::MOST {
-        let found = carried_out(rt, bench, action, refused)?;
-        if !is_scarce(action) || !is_memory(&found) {
-            return after_refusals(rt.alloc(), refused, found);
+    let (verb, rest) = action.split_once(' ').unwrap_or((action, ""));
+    match verb {
+        "scarce" | "scarce-threads" => { refused_in_each(rt, bench, 0, rest, verb == "scarce") }
+        "late" => {
+            let (entry, rest) = number_of(rest)?;
+            refused_in_each(rt, bench, u64::from(entry), rest, true)
         }
+        _ => carried_out(rt, bench, action),
     }
-    Ok(String::from_str(rt.alloc(), "refused to the end")?)
 }
 
 /// Whether an answer is one of those that a row wants.

@@ -1,17 +1,23 @@
-//! Runs with scarce memory: each growth is refused, and nothing is written then.
+//! Runs that are short of memory: growths are refused one after the other, and nothing is written then.
 
 use crate::rows::expect_rows;
 use std::test::Fail;
 
-/// An alert of each verb in a cell, and then two cells and texts of two pages.
+/// An alert of each verb in a cell, and then two cells and texts of two pages. Each row has a bound of how often its
+/// call is refused.
 const COMPILE: &str = "
 in cell,1,1
 in write,0,a,4370,0,1,en,2,2,0,1-1,One
 in update,1,a,en,2,2,0,*,Two
 in stop,2,a,1-1
-scarce compile 3 1 -> refused; done
+compile 3 1 -> done
 cells -> 1-1
 shown 1 -> 4370 0010 One, 4370 0011 Two
+keep
+scarce 300 compile 3 1 -> refused; done
+all -> worked
+scarce-threads 300 compile 3 2 -> refused to the end
+all -> 0 of 284
 
 in cell,1,1
 in cell,1,2
@@ -22,7 +28,7 @@ in update,4,a,ru,2,4,0,1-1,ЖЖЖЖЖЖЖЖЖЖЖЖЖЖЖЖЖЖЖЖЖЖЖЖЖЖ�
 in stop,4,b,1-2
 in update,6,b,en,2,4,0,1-1,aaaaaaaaaaaaaaaaaaaaaaaaaaaaaaaaaaaaaaaaaaaaaaaaaaaaaaaaaaaaaaaaaaaaaaaaaaaaaaaaaaaaaaaaa\
     aaaab
-scarce compile 12 1 -> refused; done
+compile 12 1 -> done
 cells -> 1-1 1-2
 shown 1 -> 4370 0010 ЖЖЖЖЖЖЖЖЖЖЖЖЖЖЖЖЖЖЖЖЖЖЖЖЖЖЖЖЖЖЖЖЖЖЖЖЖЖЖЖЖЖ, \
     4371 0020 aaaaaaaaaaaaaaaaaaaaaaaaaaaaaaaaaaaaaaaaaaaaaaaaaaaaaaaaaaaaaaaaaaaaaaaaaaaaaaaaaaaaaaaaaaaaaa, \
@@ -42,14 +48,74 @@ in write,0,b,4371,0,2,en,2,4,0,1-2,aaaaaaaaaaaaaaaaaaaaaaaaaaaaaaaaaaaaaaaaaaaaa
     aaaaaaaaaaaaa
 in update,4,a,ru,2,4,0,*,ЖЖЖЖЖЖЖЖЖЖЖЖЖЖЖЖЖЖЖЖЖЖЖЖЖЖЖЖЖЖЖЖЖЖЖЖЖЖЖЖЖЯ
 in stop,4,b,1-2
-scarce live 8 2 1 -> refused; done
+compile 8 1 -> done
+keep
+scarce-threads 400 live 8 2 1 -> refused; done
+all -> worked
+scarce 400 live 8 1 1 -> refused; done
 cells -> 1-1 1-2
 shown 1 -> 4370 0010 ЖЖЖЖЖЖЖЖЖЖЖЖЖЖЖЖЖЖЖЖЖЖЖЖЖЖЖЖЖЖЖЖЖЖЖЖЖЖЖЖЖЖ, 4370 0011 ЖЖЖЖЖЖЖЖЖЖЖЖЖЖЖЖЖЖЖЖЖЖЖЖЖЖЖЖЖЖЖЖЖЖЖЖЖЖЖЖЖЯ
 shown 2 -> 4371 0020 aaaaaaaaaaaaaaaaaaaaaaaaaaaaaaaaaaaaaaaaaaaaaaaaaaaaaaaaaaaaaaaaaaaaaaaaaaaaaaaaaaaaaaaaaaaaaa
-keep
-scarce live 8 2 2 -> refused to the end
+
+# Memory ends in the first cell that an order names, in the second, at the update, and when the cells are played out.
+late 1 150 live 8 1 1 -> refused; done
+all -> worked
+late 2 150 live 8 1 1 -> refused; done
+all -> worked
+late 3 150 live 8 1 1 -> refused; done
+all -> worked
+late 6 150 live 8 1 1 -> refused; done
+all -> worked
+
+scarce-threads 400 live 8 2 2 -> refused to the end
 all -> 0 of 1488
 live 8 2 2 -> done
+all -> worked
+";
+
+/// The records of a book, their report, and their chart.
+const REPORT: &str = "
+in cell,1,1
+in write,0,a,4370,0,1,en,2,2,0,1-1,@
+scarce 200 records 2 1 -> refused; done
+scarce-threads 200 records 2 2 -> refused; done
+
+# lac,ci,id,serial,start,end,completed,shown; 1,1,4370,0010,0,2,1,yes
+worked 6c61632c63692c69642c73657269616c2c73746172742c656e642c636f6d706c657465642c73686f776e0a312c312c343337
+worked 302c303031302c302c322c312c7965730a
+scarce 200 report 2 1 -> refused; done
+all -> worked
+scarce-threads 200 report 2 2 -> refused; done
+all -> worked
+
+chart 2 1 -> done
+keep
+scarce 200 chart 2 1 -> refused; done
+all -> worked
+scarce-threads 200 chart 2 2 -> refused; done
+all -> worked
+
+records 2 2 -> done
+chart 2 2 -> done
+all -> worked
+";
+
+/// The tapes and the report of a network of one group.
+const NETWORK: &str = "
+in cell,1,1
+in write,0,a,4370,0,1,en,2,2,0,1-1,@
+compile 2 1 -> done
+keep
+scarce 200 network-tapes 2 1 -> refused; done
+all -> worked
+scarce-threads 200 network-tapes 2 2 -> refused; done
+all -> worked
+
+report 2 1 -> done
+keep
+scarce 200 network-report 2 1 -> refused; done
+all -> worked
+scarce-threads 200 network-report 2 2 -> refused; done
 all -> worked
 ";
 
@@ -87,6 +153,16 @@ fn refused_memory_is_reported(rt: HostRuntime) -> Result<(), Fail> {
 #[test]
 fn refused_memory_is_reported_by_live(rt: HostRuntime) -> Result<(), Fail> {
     expect_rows(&rt, LIVE)
+}
+
+#[test]
+fn refused_memory_is_reported_by_report_and_chart(rt: HostRuntime) -> Result<(), Fail> {
+    expect_rows(&rt, REPORT)
+}
+
+#[test]
+fn refused_memory_is_reported_by_networks(rt: HostRuntime) -> Result<(), Fail> {
+    expect_rows(&rt, NETWORK)
 }
 
 #[test]
