@@ -19,4 +19,6 @@ mod octets;
 #[cfg(test)]
 mod reading;
 #[cfg(test)]
+mod room;
+#[cfg(test)]
 mod sessions;

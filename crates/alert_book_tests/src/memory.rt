@@ -1,67 +1,69 @@
-//! Books and sessions with hardly any memory: each allocation is refused once.
+//! Books and sessions that are short of memory: growths are refused one after the other.
 
 use crate::octets::{name_in, octets_in};
 use crate::reading::{book_of, outcome_of};
-use alert_book::{Book, BookFault, BookFaultKind, Session};
+use crate::room::{ROOMS, Room};
+use alert_book::{Book, BookFault, BookFaultKind, Refused, Session};
+use cbsp_wire::write;
 use std::alloc::{AllocError, Global};
 use std::test::Fail;
 use std::thread::Threads;
-use test_support::{Scarce, Words};
+use test_support::Words;
 
 /// A book of each verb, in two languages.
 const BOOK: &str =
     "cell,1,1\nwrite,0,a,4370,0,1,en,2,2,0,1-1,One\nupdate,1,a,ru,2,2,0,*,Вода\nstop,2,a,1-1\n";
 
-/// So many texts that more than one thread packs them.
-const MANY: u16 = 100;
+/// So many texts that a thread packs half of them.
+const MANY: u16 = 64;
 
-/// How many blocks there are that are given back.
-const BLOCKS: u16 = 400;
+/// How many octets threads have room for to put their stacks. An arena of the allocator has no room there.
+const STACKS: usize = 0x300_0000;
 
-/// How many octets each of them has.
-const BLOCK: usize = 512;
-
-/// Whether a book of one cell is refused; if it isn't, it is read.
-fn is_refused<T: AllocGlobal + Threads + Sync>(rt: &T, book: &[u8]) -> Result<bool, Fail> {
+/// Whether a book of one cell is read, in a room of so many blocks or with all memory, or refused it.
+fn is_read<T: AllocGlobal + Threads + Sync>(
+    rt: &T,
+    book: &[u8],
+    room: &mut Room,
+    blocks: Option<u16>,
+) -> Result<bool, Fail> {
+    if let Some(blocks) = blocks {
+        room.leave(rt.alloc(), blocks);
+    }
     let outcome = outcome_of(rt, book, 100, None);
+    room.end(rt.alloc());
     match outcome.fault {
-        None if outcome.cells == 1 => Ok(false),
+        None if outcome.cells == 1 && outcome.left == 0 => Ok(true),
         Some(
             BookFault {
                 row: 0,
                 kind: BookFaultKind::Refused,
             },
-        ) => Ok(true),
+        ) if !outcome.failed => Ok(false),
         _ => Err(Fail::new("another book, or another fault")),
     }
 }
 
-/// Reads a book of one cell without memory, and again and again with one block more, until it is read. Returns how
-/// often it is refused.
-fn refusals_of<T: AllocGlobal + Threads + Sync>(
+/// How often a book of one cell is refused until it is read, in rooms of more and more memory. After each refusal it is
+/// read with all memory, if that `is_repeated`.
+fn refusals<T: AllocGlobal + Threads + Sync>(
     rt: &T,
     book: &[u8],
-    scarce: &mut Scarce,
+    room: &mut Room,
+    is_repeated: bool,
 ) -> Result<u16, Fail> {
-    for refused in 0..BLOCKS {
-        if !is_refused(rt, book)? {
-            return Ok(refused);
+    for blocks in 0..ROOMS {
+        if is_read(rt, book, room, Some(blocks))? {
+            return Ok(blocks);
         }
-        scarce.give_block();
+        if is_repeated && !is_read(rt, book, room, None)? {
+            return Err(Fail::new("no memory, with all memory"));
+        }
     }
-    Err(Fail::new("no book is read with 200 KB"))
+    Err(Fail::new("no book is read"))
 }
 
-/// How often a book of one cell is refused until it is read.
-fn refusals<T: AllocGlobal + Threads + Sync>(rt: &T, book: &[u8]) -> Result<u16, Fail> {
-    let mut scarce = Scarce::new(rt.alloc(), BLOCKS, BLOCK)?;
-    scarce.take(rt.alloc());
-    let refused = refusals_of(rt, book, &mut scarce);
-    drop(scarce);
-    refused
-}
-
-/// A book of many texts. Threads would pack them, but there is no memory for threads.
+/// A book of many texts.
 fn many_texts(alloc: Global) -> Result<String, AllocError> {
     let mut book = String::from_str(alloc, "cell,1,1\n")?;
     for number in 0..MANY {
@@ -70,132 +72,197 @@ fn many_texts(alloc: Global) -> Result<String, AllocError> {
     Ok(book)
 }
 
+/// Reads a book where threads have room for their stacks, and for nothing else beside the room. The process keeps the
+/// stacks, so that threads can start when there is no memory.
+fn keep_stacks<T: AllocGlobal + Threads + Sync>(
+    rt: &T,
+    book: &[u8],
+    room: &mut Room,
+) -> Result<(), Fail> {
+    let stacks: Vec<u8> = Vec::with_capacity(rt.alloc(), STACKS)?;
+    room.leave(rt.alloc(), ROOMS);
+    drop(stacks);
+    if is_read(rt, book, room, None)? {
+        return Ok(());
+    }
+    Err(Fail::new("no book is read by threads"))
+}
+
+/// Whether a book is refused in each room, and read with all memory after that.
+fn is_refused_in_each<T: AllocGlobal + Threads + Sync>(
+    rt: &T,
+    book: &[u8],
+    room: &mut Room,
+) -> Result<bool, Fail> {
+    for blocks in 0..ROOMS {
+        if is_read(rt, book, room, Some(blocks))? {
+            return Ok(false);
+        }
+    }
+    is_read(rt, book, room, None)
+}
+
 #[test]
 fn refused_memory_is_reported(rt: HostRuntime) -> Result<(), Fail> {
-    let refused = refusals(&rt, BOOK.as_bytes())?;
+    let many = many_texts(rt.alloc())?;
+    let mut room = Room::new(rt.alloc())?;
+    let refused = refusals(&rt, BOOK.as_bytes(), &mut room, true)?;
+    let of_many = refusals(&rt, many.as_bytes(), &mut room, false)?;
+    drop(room);
+    assert!(rt; refused >= 300 && of_many >= 500, "{refused} and {of_many}");
+    Ok(())
+}
+
+// A thread that has no arena of the allocator gets no memory, whatever room the others have. So once there is enough
+// for the calling thread, the other one is refused it, and no room is large enough.
+
+#[test]
+fn threads_that_pack_are_refused_memory(rt: HostRuntime) -> Result<(), Fail> {
     let book = many_texts(rt.alloc())?;
-    let refused_of_many = refusals(&rt, book.as_bytes())?;
-    assert!(rt; refused > 3 && refused_of_many > 30);
+    let mut room = Room::new(rt.alloc())?;
+    keep_stacks(&rt, book.as_bytes(), &mut room)?;
+    let is_refused = is_refused_in_each(&rt, book.as_bytes(), &mut room);
+    drop(room);
+    assert!(rt; is_refused?);
     Ok(())
 }
 
 /// The replies to the requests of the book: each is accepted, with no broadcast completed.
 const REPLIES: &str = "written replaced-unsent killed-0011";
 
-/// The requests: a write, its replacement in UCS-2, the kill of that, and nothing more.
-const REQUESTS: &str = "write-one at slot 0; update-вода at slot 1; kill-0011 at slot 2; nothing; ";
+/// The requests, with their slots: a write, its replacement in UCS-2, and the kill of that; then comes nothing more.
+const REQUESTS: [(&str, u16); 3] = [("write-one", 0), ("update-вода", 1), ("kill-0011", 2)];
 
-/// How many requests there are.
-const NUMBER: usize = 4;
-
-/// What a session gave, which is looked at once there is memory again.
-type Given = Vec<Option<(u16, Vec<u8>)>>;
-
-/// Asks for the next request, after the reply to the last one, and keeps what is given. A session that is refused
-/// memory stands where it stood. Answers whether it was refused.
-fn is_next_refused(
-    session: &mut Session<'_>,
-    replies: &[Vec<u8>],
-    given: &mut Given,
-) -> Result<bool, Fail> {
-    let row = session.row();
-    let last = match given.len().checked_sub(1) {
-        Some(place) => replies.get(place).map(|reply| reply.as_slice()),
-        None => None,
-    };
-    if let Ok(next) = session.next(last) {
-        let _ = given.push(next);
-        return Ok(false);
-    }
-    if session.row() == row {
-        return Ok(true);
-    }
-    Err(Fail::new("a session that is refused goes on"))
-}
-
-/// Asks for each request without memory, and again and again with one block more, until it is given; it keeps memory.
-/// Each is refused once at least, and none needs more than 200 KB.
-fn run(
-    alloc: Global,
-    session: &mut Session<'_>,
-    replies: &[Vec<u8>],
-    scarce: &mut Scarce,
-    given: &mut Given,
-) -> Result<(), Fail> {
-    let mut refused = 0_u16;
-    for _ in 0..BLOCKS {
-        if is_next_refused(session, replies, given)? {
-            refused = refused.saturating_add(1);
-            scarce.give_block();
-        } else if refused == 0 {
-            return Err(Fail::new("a request without memory"));
-        } else if given.len() == NUMBER {
-            return Ok(());
-        } else {
-            refused = 0;
-            scarce.take(alloc);
-        }
-    }
-    Ok(())
-}
+/// How often each of them is refused at least, and nothing more at last. So many of their growths are refused, as a
+/// trace of the process counts them.
+const LEAST: [u16; 4] = [7, 8, 6, 2];
 
 /// The replies as octets.
 fn replies(alloc: Global) -> Result<Vec<Vec<u8>>, Fail> {
     let mut replies = Vec::with_capacity(alloc, 3)?;
     let mut words = Words::of(REPLIES);
-    for _ in 1..NUMBER {
+    for _ in 0..3 {
         replies.push(octets_in(alloc, words.word())?)?;
     }
     Ok(replies)
 }
 
-/// Runs a session of a book.
-fn run_session(
+/// What a session shows of itself: the row that gave its last request, and that request's octets.
+fn shown_by(alloc: Global, session: &Session<'_>) -> Result<(u32, Vec<u8>), Fail> {
+    let octets = match session.sent() {
+        Some(request) => write(alloc, &request.message)?,
+        None => Vec::new(alloc),
+    };
+    Ok((session.row(), octets))
+}
+
+/// Asks for the request of this place, after the reply to the one before.
+fn next_of(
+    session: &mut Session<'_>,
+    replies: &[Vec<u8>],
+    place: usize,
+) -> Result<Option<(u16, Vec<u8>)>, Refused> {
+    let last = match place.checked_sub(1) {
+        Some(before) => replies.get(before).map(|reply| reply.as_slice()),
+        None => None,
+    };
+    session.next(last)
+}
+
+/// Whether that is the request of this place.
+fn is_request(
+    alloc: Global,
+    given: Option<(u16, Vec<u8>)>,
+    place: usize,
+) -> Result<bool, AllocError> {
+    match (given, REQUESTS.get(place)) {
+        (Some((slot, octets)), Some((name, at))) => {
+            Ok(slot == *at && name_in(alloc, &octets)? == *name)
+        }
+        (None, None) => Ok(true),
+        _ => Ok(false),
+    }
+}
+
+/// Whether a session is refused memory at its next request, in a room of so many blocks. It then shows what it showed,
+/// and gives the request with all memory.
+fn is_refused(
+    alloc: Global,
+    session: &mut Session<'_>,
+    replies: &[Vec<u8>],
+    room: &mut Room,
+    place: usize,
+    blocks: u16,
+) -> Result<bool, Fail> {
+    let before = shown_by(alloc, session)?;
+    room.leave(alloc, blocks);
+    let first = next_of(session, replies, place);
+    room.end(alloc);
+    let is_refused = first.is_err();
+    let given = match first {
+        Ok(given) => given,
+        Err(_) if shown_by(alloc, session)? == before => next_of(session, replies, place)?,
+        Err(_) => return Err(Fail::new("a session that is refused goes on")),
+    };
+    if is_request(alloc, given, place)? {
+        return Ok(is_refused);
+    }
+    Err(Fail::new("another request"))
+}
+
+/// The same of a session once it gave the requests before.
+fn is_refused_there(
+    alloc: Global,
+    session: &mut Session<'_>,
+    replies: &[Vec<u8>],
+    room: &mut Room,
+    place: usize,
+    blocks: u16,
+) -> Result<bool, Fail> {
+    for before in 0..place {
+        drop(next_of(session, replies, before)?);
+    }
+    is_refused(alloc, session, replies, room, place, blocks)
+}
+
+/// How often the request of a place is refused until it is given, each time to a session of its own.
+fn refusals_at(
     alloc: Global,
     book: &Book,
     replies: &[Vec<u8>],
-    scarce: &mut Scarce,
-    given: &mut Given,
-) -> Result<(), Fail> {
-    let mut session = Session::new(alloc, book, 0, 1)?;
-    let result = run(alloc, &mut session, replies, scarce, given);
-    drop(session);
-    result
-}
-
-/// Has a session of a book give what it gives without memory.
-fn give_without_memory(alloc: Global, book: &Book, given: &mut Given) -> Result<(), Fail> {
-    let replies = replies(alloc)?;
-    let mut scarce = Scarce::new(alloc, BLOCKS, BLOCK)?;
-    scarce.take(alloc);
-    let result = run_session(alloc, book, &replies, &mut scarce, given);
-    drop(scarce);
-    result
-}
-
-/// The names of requests, and their slots.
-fn names_of(alloc: Global, given: &Given) -> Result<String, AllocError> {
-    let mut told = String::new(alloc);
-    for request in given {
-        match request {
-            Some((slot, octets)) => {
-                let name = name_in(alloc, octets)?;
-                write!(told, "{name} at slot {slot}; ")?;
-            }
-            None => told.push_str("nothing; ")?,
+    room: &mut Room,
+    place: usize,
+) -> Result<u16, Fail> {
+    for blocks in 0..ROOMS {
+        let mut session = Session::new(alloc, book, 0, 1)?;
+        let is_refused = is_refused_there(alloc, &mut session, replies, room, place, blocks);
+        drop(session);
+        if !is_refused? {
+            return Ok(blocks);
         }
     }
-    Ok(told)
+    Err(Fail::new("no request is given"))
+}
+
+/// The first place whose request is refused too seldom, and how often it is; none if each is refused often enough.
+fn first_too_seldom(alloc: Global, book: &Book) -> Result<Option<(usize, u16)>, Fail> {
+    let replies = replies(alloc)?;
+    let mut room = Room::new(alloc)?;
+    for (place, least) in LEAST.iter().enumerate() {
+        let refused = refusals_at(alloc, book, &replies, &mut room, place)?;
+        if refused < *least {
+            return Ok(Some((place, refused)));
+        }
+    }
+    Ok(None)
 }
 
 #[test]
 fn a_session_without_memory_stands_where_it_stood(rt: HostRuntime) -> Result<(), Fail> {
-    let mut given = Vec::with_capacity(rt.alloc(), NUMBER)?;
     let book = book_of(&rt, BOOK.as_bytes(), 64)?;
-    let result = give_without_memory(rt.alloc(), &book, &mut given);
+    let found = first_too_seldom(rt.alloc(), &book);
     drop(book);
-    result?;
-    let names = names_of(rt.alloc(), &given)?;
-    assert!(rt; names.as_str() == REQUESTS);
+    let found = found?;
+    assert!(rt; found.is_none(), "{found:?}");
     Ok(())
 }
