@@ -11,4 +11,6 @@ mod memory;
 #[cfg(test)]
 mod networks_table;
 #[cfg(test)]
+mod room;
+#[cfg(test)]
 mod served;
