@@ -19,6 +19,5 @@ mod octets;
 #[cfg(test)]
 mod reading;
 #[cfg(test)]
-mod room;
 #[cfg(test)]
 mod sessions;

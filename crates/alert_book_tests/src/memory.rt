@@ -2,13 +2,12 @@
 
 use crate::octets::{name_in, octets_in};
 use crate::reading::{book_of, outcome_of};
-use crate::room::{ROOMS, Room};
 use alert_book::{Book, BookFault, BookFaultKind, Refused, Session};
 use cbsp_wire::write;
 use std::alloc::{AllocError, Global};
 use std::test::Fail;
 use std::thread::Threads;
-use test_support::Words;
+use test_support::{Room, Words};
 
 /// A book of each verb, in two languages.
 const BOOK: &str =
@@ -31,7 +30,7 @@ fn is_read<T: AllocGlobal + Threads + Sync>(
         room.leave(rt.alloc(), blocks);
     }
     let outcome = outcome_of(rt, book, 100, None);
-    room.end(rt.alloc());
+    room.end();
     match outcome.fault {
         None if outcome.cells == 1 && outcome.left == 0 => Ok(true),
         Some(
@@ -52,7 +51,7 @@ fn refusals<T: AllocGlobal + Threads + Sync>(
     room: &mut Room,
     is_repeated: bool,
 ) -> Result<u16, Fail> {
-    for blocks in 0..ROOMS {
+    for blocks in 0..Room::MOST {
         if is_read(rt, book, room, Some(blocks))? {
             return Ok(blocks);
         }
@@ -80,7 +79,7 @@ fn keep_stacks<T: AllocGlobal + Threads + Sync>(
     room: &mut Room,
 ) -> Result<(), Fail> {
     let stacks: Vec<u8> = Vec::with_capacity(rt.alloc(), STACKS)?;
-    room.leave(rt.alloc(), ROOMS);
+    room.leave(rt.alloc(), Room::MOST);
     drop(stacks);
     if is_read(rt, book, room, None)? {
         return Ok(());
@@ -94,7 +93,7 @@ fn is_refused_in_each<T: AllocGlobal + Threads + Sync>(
     book: &[u8],
     room: &mut Room,
 ) -> Result<bool, Fail> {
-    for blocks in 0..ROOMS {
+    for blocks in 0..Room::MOST {
         if is_read(rt, book, room, Some(blocks))? {
             return Ok(false);
         }
@@ -197,7 +196,7 @@ fn is_refused(
     let before = shown_by(alloc, session)?;
     room.leave(alloc, blocks);
     let first = next_of(session, replies, place);
-    room.end(alloc);
+    room.end();
     let is_refused = first.is_err();
     let given = match first {
         Ok(given) => given,
@@ -233,7 +232,7 @@ fn refusals_at(
     room: &mut Room,
     place: usize,
 ) -> Result<u16, Fail> {
-    for blocks in 0..ROOMS {
+    for blocks in 0..Room::MOST {
         let mut session = Session::new(alloc, book, 0, 1)?;
         let is_refused = is_refused_there(alloc, &mut session, replies, room, place, blocks);
         drop(session);

@@ -11,6 +11,5 @@ mod memory;
 #[cfg(test)]
 mod networks_table;
 #[cfg(test)]
-mod room;
 #[cfg(test)]
 mod served;

@@ -1,6 +1,5 @@
 //! Network books that are short of memory: growths are refused one after the other.
 
-use crate::room::{ROOMS, Room};
 use alert_book::{Book, BookFault, BookFaultKind, GroupFault, count_groups, read_group};
 use device_ends::Source;
 use device_ends::memory::MemoryReader;
@@ -8,6 +7,7 @@ use std::alloc::AllocGlobal;
 use std::process::Abort;
 use std::test::Fail;
 use std::thread::Threads;
+use test_support::Room;
 
 /// A network of two cells and each verb, in two languages.
 const NETWORK: &str = "cell,1,1\ncell,1,2\nwrite,0,a,4370,0,1,en,2,2,0,1-2 1-1,One\n\
@@ -48,7 +48,7 @@ fn number_in<T: AllocGlobal + Threads + Sync>(
     } else {
         cells_of(read_group(rt, &mut source, 0))
     };
-    room.end(rt.alloc());
+    room.end();
     if source.failed() {
         return None;
     }
@@ -63,7 +63,7 @@ fn refusals<T: AllocGlobal + Threads + Sync>(
     is_counted: bool,
     number: usize,
 ) -> Result<u16, Fail> {
-    for blocks in 0..ROOMS {
+    for blocks in 0..Room::MOST {
         let found = number_in(rt, room, is_counted, Some(blocks));
         if found == Some(Ok(number)) {
             return Ok(blocks);

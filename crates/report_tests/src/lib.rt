@@ -8,6 +8,5 @@ mod books;
 #[cfg(test)]
 mod memory;
 #[cfg(test)]
-mod room;
 #[cfg(test)]
 mod tables;

@@ -1,13 +1,13 @@
 //! Reports that are short of memory: growths are refused one after the other, and nothing is written then.
 
 use crate::books::{Books, expect_each};
-use crate::room::{ROOMS, Room};
 use crate::tables::TWO_CELLS;
 use device_ends::Sink;
 use report::{ReportFault, Row, rows, write_report};
 use std::alloc::Global;
 use std::process::Abort;
 use std::test::Fail;
+use test_support::Room;
 
 /// How many rows the runs of books have, in a room of so many blocks or with all memory. Of fewer readings it has to be
 /// that the cells differ, in either case, since cells are compared without memory.
@@ -23,7 +23,7 @@ fn number_of_rows(
     }
     let other = rows(alloc, &books.runs, fewer);
     let found = rows(alloc, &books.runs, &books.readings);
-    room.end(alloc);
+    room.end();
     let is_other = matches!(other, Err(ReportFault::Cells));
     drop(other);
     let number = match found {
@@ -39,7 +39,7 @@ fn number_of_rows(
 
 /// How often the rows of books are refused memory. After each refusal there are five with all memory.
 fn refused_rows(alloc: Global, books: &Books, room: &mut Room) -> Result<u16, Fail> {
-    for blocks in 0..ROOMS {
+    for blocks in 0..Room::MOST {
         match number_of_rows(alloc, books, room, Some(blocks))? {
             Ok(5) => return Ok(blocks),
             Err(ReportFault::Refused) => {}
@@ -67,7 +67,7 @@ fn written_of(
         room.leave(alloc, blocks);
     }
     let done = write_report(alloc, rows, &mut sink);
-    room.end(alloc);
+    room.end();
     if sink.failed() {
         return None;
     }
@@ -78,7 +78,7 @@ fn written_of(
 /// all memory.
 fn refused_reports(alloc: Global, rows: &[Row], room: &mut Room) -> Result<u16, Fail> {
     let whole = Some((Ok(()), 163));
-    for blocks in 0..ROOMS {
+    for blocks in 0..Room::MOST {
         let found = written_of(alloc, rows, room, Some(blocks));
         if found == whole {
             return Ok(blocks);

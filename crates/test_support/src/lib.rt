@@ -6,6 +6,7 @@ mod malformed;
 mod memory;
 mod octets;
 mod outcomes;
+mod room;
 mod rows;
 mod words;
 
@@ -13,5 +14,6 @@ pub use malformed::Malformed;
 pub use memory::{Drought, Scarce, after_refusals, is_refused, take_all};
 pub use octets::{digits_of, octets_of};
 pub use outcomes::Outcomes;
+pub use room::Room;
 pub use rows::Row;
 pub use words::Words;

@@ -11,8 +11,8 @@ use std::test::Fail;
 use std::thread::Threads;
 use test_support::Words;
 use warnc_run::{
-    NetworkFault, Product, ReportRunFault, RunFault, Workers, chart_stream, compile_stream,
-    live_stream, network_stream, report_stream, run_book,
+    Books, Product, ProductFault, Run, RunFault, Sessions, Workers, compile_stream, live_stream,
+    run_book, run_product,
 };
 
 /// What is called.
@@ -24,12 +24,8 @@ enum Engine {
     Live,
     /// `run_book`, which writes nothing.
     Records,
-    /// `report_stream`.
-    Report,
-    /// `chart_stream`, of the first cell.
-    Chart,
-    /// `network_stream`.
-    Network(Product),
+    /// `run_product`.
+    Product(Books, Product),
 }
 
 impl Engine {
@@ -38,10 +34,11 @@ impl Engine {
         match verb {
             "compile" => Engine::Compile,
             "records" => Engine::Records,
-            "report" => Engine::Report,
-            "chart" => Engine::Chart,
-            "network-tapes" => Engine::Network(Product::Tapes),
-            "network-report" => Engine::Network(Product::Report),
+            "report" => Engine::Product(Books::One(Origin::Book), Product::Report),
+            "chart" => Engine::Product(Books::One(Origin::Book), Product::Chart(None)),
+            "network-tapes" => Engine::Product(Books::EachGroup, Product::Tapes),
+            "network-report" => Engine::Product(Books::EachGroup, Product::Report),
+            "network-chart" => Engine::Product(Books::EachGroup, Product::Chart(None)),
             _ => Engine::Live,
         }
     }
@@ -51,9 +48,8 @@ impl Engine {
 #[derive(Clone, Copy)]
 enum Why {
     Run(RunFault),
-    Report(ReportRunFault),
-    Network(NetworkFault),
-    /// The words of a row ask for other than 1 to 64 workers of a network.
+    Product(ProductFault),
+    /// The words of a row ask for other than 1 to 64 workers.
     Workers,
 }
 
@@ -63,15 +59,9 @@ impl From<RunFault> for Why {
     }
 }
 
-impl From<ReportRunFault> for Why {
-    fn from(fault: ReportRunFault) -> Why {
-        Why::Report(fault)
-    }
-}
-
-impl From<NetworkFault> for Why {
-    fn from(fault: NetworkFault) -> Why {
-        Why::Network(fault)
+impl From<ProductFault> for Why {
+    fn from(fault: ProductFault) -> Why {
+        Why::Product(fault)
     }
 }
 
@@ -128,12 +118,18 @@ impl Call {
                 let sessions = self.sessions.clamp(1, 64);
                 live_stream(rt, source, sink, slots, sessions, workers, gate)?;
             }
-            Engine::Records => drop(run_book(rt, source, Origin::Book, slots, workers)?),
-            Engine::Report => report_stream(rt, source, sink, slots, workers)?,
-            Engine::Chart => chart_stream(rt, source, sink, slots, None, workers)?,
-            Engine::Network(made) => {
+            Engine::Records => {
                 let workers = Workers::new(workers).ok_or(Why::Workers)?;
-                network_stream(rt, source, sink, made, slots, workers)?;
+                drop(run_book(rt, source, Origin::Book, slots, workers)?);
+            }
+            Engine::Product(books, made) => {
+                let run = Run {
+                    books,
+                    slots,
+                    sessions: Sessions { number: 1 },
+                    workers: Workers::new(workers).ok_or(Why::Workers)?,
+                };
+                run_product(rt, source, sink, &run, made, gate)?;
             }
         }
         Ok(())
@@ -273,8 +269,7 @@ fn answer(alloc: Global, said: Said) -> Result<String, Fail> {
     Ok(match said.result {
         Ok(()) => format!(in alloc; "done{ends}")?,
         Err(Why::Run(fault)) => format!(in alloc; "{fault:?}{ends}")?,
-        Err(Why::Report(fault)) => format!(in alloc; "{fault:?}{ends}")?,
-        Err(Why::Network(fault)) => format!(in alloc; "{fault:?}{ends}")?,
+        Err(Why::Product(fault)) => format!(in alloc; "{fault:?}{ends}")?,
         Err(Why::Workers) => format!(in alloc; "no such workers{ends}")?,
     })
 }

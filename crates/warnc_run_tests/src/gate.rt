@@ -1,13 +1,12 @@
 //! A gate at which two threads can meet, each in a cell of its own, and at which memory can end.
 
-use crate::room::Room;
 use order_desk::Gate;
 use std::alloc::Global;
 use std::sync::Mutex;
 use std::sync::atomic::{AtomicU64, Ordering};
 use std::test::Fail;
 use std::thread;
-use test_support::take_all;
+use test_support::{Room, take_all};
 
 /// What a gate does with whoever enters.
 #[derive(Clone, Copy, PartialEq, Eq)]
@@ -120,7 +119,7 @@ impl Crossing {
             taken.clear();
         }
         if let Some(mut room) = self.room.try_lock() {
-            room.end(self.alloc);
+            room.end();
         }
     }
 

@@ -11,7 +11,6 @@ mod ends;
 #[cfg(test)]
 mod gate;
 #[cfg(test)]
-mod room;
 #[cfg(test)]
 mod rows;
 #[cfg(test)]

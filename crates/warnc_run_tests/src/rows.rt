@@ -13,7 +13,7 @@
 //! The calls:
 //!
 //! - `compile SLOTS WORKERS -> done`, or the fault; `live SLOTS SESSIONS WORKERS -> done`; `records`, `report`,
-//!   `chart`, `network-tapes` and `network-report` with the numbers of `compile`;
+//!   `chart`, `network-tapes`, `network-report` and `network-chart` with the numbers of `compile`;
 //! - `meet SLOTS SESSIONS WORKERS -> done, in both cells at once`: threads wait for each other in two cells;
 //! - `starve SLOTS SESSIONS WORKERS`: so too; then one of them takes all memory, and gives it back when the call has
 //!   ended;
@@ -34,14 +34,13 @@
 
 use crate::bench::{Bench, Call, Pace, make_call};
 use crate::gate::Shortage;
-use crate::room::ROOMS;
 use crate::tapes::{aired, cells, part_of, shown};
 use std::alloc::Global;
 use std::process::Abort;
 use std::sync::Wait;
 use std::test::Fail;
 use std::thread::Threads;
-use test_support::{Row, Words, is_refused, octets_of};
+use test_support::{Room, Row, Words, is_refused, octets_of};
 
 /// The pace that the next two words say.
 fn pace_of(words: &mut Words) -> Result<Pace, Fail> {
@@ -137,7 +136,8 @@ fn done<T: AllocGlobal + Threads + Wait + Sync>(
         | "report"
         | "chart"
         | "network-tapes"
-        | "network-report" => called(rt, bench, verb, words),
+        | "network-report"
+        | "network-chart" => called(rt, bench, verb, words),
         "all" | "aired" | "cells" | "shown" => read_back(rt.alloc(), bench, verb, words),
         _ => set(rt.alloc(), bench, verb, words),
     }
@@ -200,7 +200,7 @@ fn refused_in_each<T: AllocGlobal + Threads + Wait + Sync>(
     is_repeated: bool,
 ) -> Result<String, Fail> {
     let (least, call) = number_of(rest)?;
-    for blocks in 0..ROOMS {
+    for blocks in 0..Room::MOST {
         bench.shortage = Some(Shortage { blocks, entry });
         let found = carried_out(rt, bench, call)?;
         if !is_memory(&found) {

@@ -100,7 +100,7 @@ chart 2 2 -> done
 all -> worked
 ";
 
-/// The tapes and the report of a network of one group.
+/// The tapes, the report and the chart of a network of one group.
 const NETWORK: &str = "
 in cell,1,1
 in write,0,a,4370,0,1,en,2,2,0,1-1,@
@@ -116,6 +116,11 @@ keep
 scarce 200 network-report 2 1 -> refused; done
 all -> worked
 scarce-threads 200 network-report 2 2 -> refused; done
+all -> worked
+
+network-chart 2 1 -> done
+keep
+scarce 200 network-chart 2 1 -> refused; done
 all -> worked
 ";
 
