@@ -235,10 +235,7 @@ fn push_front_if_first(page: &mut Page, slots: u16, group: u16) -> Result<(), Al
 fn push_foot_if(page: &mut Page, is_last: bool) -> Result<(), AllocError>
     ensures { OnOk result (page.new ≡ page.old ++ foot_if is_last) }
 {
-    if is_last {
-        page.markup(FOOT)?;
-    }
-    Ok(())
+    if is_last { page.markup(FOOT) } else { Ok(()) }
 }
 
 /// The part of a network's group in the chart of all of its groups: the sections of its cells, folded under its number.

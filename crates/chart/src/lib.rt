@@ -1,7 +1,8 @@
 //! The chart of a run, for people: one page in HTML, in which each message of a cell is a bar over the slots, each
 //! refused order a mark, and the loads that a cell has reserved a line.
 //!
-//! [`write_chart`] writes it, [`chart_octets`] makes it, and [`part_octets`] makes the part of a network's group. `specs/ChartText.antt` says which octets: of each cell the lines are those of the rows of
+//! [`write_chart`] writes it, [`chart_octets`] makes it, and [`part_octets`] makes the part of a network's group.
+//! `specs/ChartText.antt` says which octets: of each cell the lines are those of the rows of
 //! its report, in their order, and every text of a message goes through `specs/Escape.antt`.
 #![tactic(auto)]
 

@@ -253,10 +253,12 @@ fault_between r made first_left last_left old_held new_held f status held first 
 pub front_written : {R W : Type 0} (r : Run) (made : Product) (first_left last_left : Option (List ℕ))
     (f : ProductFault) (status : ℕ) (held : W → Option (List ℕ)) (last : Source R) (old new : Sink W)
     → status ≡ status_of_product_fault f
-    → IsOutputFault made r.books r.slots r.sessions.number first_left last_left (held (writer_of old)) (held (writer_of new)) f
+    → IsOutputFault made r.books r.slots r.sessions.number first_left last_left (held (writer_of old))
+        (held (writer_of new)) f
     → IsRunBetween (task.Make r made) status held last old new
     → (status ≡ 1) ⊎ (status ≡ 4)
-    → Writes held Keeps old new ⊎ WritesFirstGroups (task.Make r made) None first_left (held (writer_of old)) (held (writer_of new))
+    → Writes held Keeps old new ⊎ WritesFirstGroups (task.Make r made) None first_left (held (writer_of old))
+        (held (writer_of new))
 front_written r made first_left last_left f status held last old new is why ends other =
     by_books r.books refl why
   where
@@ -277,18 +279,23 @@ front_written r made first_left last_left f status held last old new is why ends
         apart h = search (rules, h)
 
     by_fault : (f : ProductFault) → status_of_product_fault f ≢ 3
-        → IsOutputFault made books.EachGroup r.slots r.sessions.number first_left last_left (held (writer_of old)) (held (writer_of new)) f
-        → Writes held Keeps old new ⊎ WritesFirstGroups (task.Make r made) None first_left (held (writer_of old)) (held (writer_of new))
+        → IsOutputFault made books.EachGroup r.slots r.sessions.number first_left last_left (held (writer_of old))
+            (held (writer_of new)) f
+        → Writes held Keeps old new ⊎ WritesFirstGroups (task.Make r made) None first_left (held (writer_of old))
+            (held (writer_of new))
     by_fault (fault.Run (run.Book f)) not why = inl why.1
     by_fault (fault.Run f) not why = absurd why
     by_fault (fault.Group group f) not why = inr (
       group,
-      written_of (AreFirstParts made r.slots r.sessions.number group) first_left last_left (held (writer_of old)) (held (writer_of new)) why.0,
+      written_of (AreFirstParts made r.slots r.sessions.number group) first_left last_left (held (writer_of old))
+          (held (writer_of new)) why.0,
     )
     by_fault fault.WriteFailed not why = absurd (not refl)
 
     by_books : (b : Books) → r.books ≡ b
-        → IsOutputFault made b r.slots r.sessions.number first_left last_left (held (writer_of old)) (held (writer_of new)) f
-        → Writes held Keeps old new ⊎ WritesFirstGroups (task.Make r made) None first_left (held (writer_of old)) (held (writer_of new))
+        → IsOutputFault made b r.slots r.sessions.number first_left last_left (held (writer_of old))
+            (held (writer_of new)) f
+        → Writes held Keeps old new ⊎ WritesFirstGroups (task.Make r made) None first_left (held (writer_of old))
+            (held (writer_of new))
     by_books (books.One from) one why = inl (ends.nothing_written (alone from one))
     by_books books.EachGroup each why = by_fault f (λ three. not_three other (is ∙ three)) why

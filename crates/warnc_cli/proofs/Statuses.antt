@@ -29,10 +29,12 @@ book_status row (kinds.Text text.Refused) = inr (inr refl)
 book_status row (kinds.Text fault) = inr (inl refl)
 book_status row kind = inr (inl refl)
 
+-- a fault of the desk is of memory, or of what it holds
 pub desk_status : (f : DeskFault) → OneOrFour (status_of_desk_fault f)
 desk_status (desk.Memory done) = inr refl
 desk_status other = inl refl
 
+-- and so is one of its settlement
 pub settle_status : (f : SettleFault) → OneOrFour (status_of_settle_fault f)
 settle_status settle.Refused = inr refl
 settle_status other = inl refl

@@ -171,10 +171,12 @@ fn run_page<R: Read, W: Write, F: Write>(
     sink: &mut Sink<W>,
     faults: &mut F,
 ) -> u8
-    ensures done { IsDoneBy (Task.Page language.entry id serial) result R.remaining W.contents source.old sink.old sink.new }
+    ensures done { IsDoneBy (Task.Page language.entry id serial) result R.remaining W.contents source.old sink.old
+        sink.new }
     ensures wrote { WroteSomeBy (Task.Page language.entry id serial) result W.contents sink.old sink.new }
     ensures refused { IsRefusedBy (Task.Page language.entry id serial) result R.remaining source.old }
-    ensures front { WroteFrontBy (Task.Page language.entry id serial) result R.remaining W.contents source.old sink.old sink.new }
+    ensures front { WroteFrontBy (Task.Page language.entry id serial) result R.remaining W.contents source.old sink.old
+        sink.new }
     ensures ends { IsRunBetween (Task.Page language.entry id serial) result W.contents source.new sink.old sink.new }
 {
     match page_stream(alloc, source, sink, language, id, serial) {

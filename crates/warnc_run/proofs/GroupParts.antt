@@ -24,7 +24,8 @@ use Rattle.warnc_run.specs.declared.product.ProductFault.TheVariants as fault
 use Rattle.warnc_run.specs.declared.parts.Part.{Part}
 use Rattle.warnc_run.specs.Engine.{IsEngineAtEnds}
 use Rattle.warnc_run.specs.Made.{Makes}
-use Rattle.warnc_run.specs.Network.{joined_parts, ArePartsFrom, GroupRuns, HasNoPart, IsNetworkFault, IsOfNetwork, IsPartOf}
+use Rattle.warnc_run.specs.Network.{joined_parts, ArePartsFrom, GroupRuns, HasNoPart, IsNetworkFault, IsOfNetwork}
+use Rattle.warnc_run.specs.Network.{IsPartOf}
 use Rattle.warnc_run.specs.NetworkSteps.{is_of_writer, octets_of_part, AreGroupsOf, AreMadeFor, HasNoEmptyTape}
 use Rattle.warnc_run.specs.NetworkSteps.{IsMadeOf, IsWritten, StopsAt, StopsParts, StopsPartsOf, WritesFrontOf}
 use Rattle.warnc_run.specs.NetworkSteps.{WritesParts, WritesPartsFront, WritesPartsOf}
@@ -425,7 +426,8 @@ ends_of runs network octets a b (Ok done) held first last old new means read sta
 }
 ends_of runs network octets a b (Err (fault.Run f)) held first last old new means read stays good well failed stops =
     absurd (stops octets means)
-ends_of runs network octets a b (Err (fault.Group g f)) held first last old new means read stays good well failed stops =
+ends_of runs network octets a b (Err (fault.Group g f)) held first last old new means read stays good well failed stops
+    =
     record {
       not_failed = tt;
       nothing_written = λ no. absurd (no tt);
@@ -436,7 +438,8 @@ ends_of runs network octets a b (Err (fault.Group g f)) held first last old new 
       source_stays = stays;
       sink_stays = λ is. absurd (cc (good, is));
     }
-ends_of runs network octets a b (Err fault.WriteFailed) held first last old new means read stays good well failed stops =
+ends_of runs network octets a b (Err fault.WriteFailed) held first last old new means read stays good well failed stops
+    =
     record {
       not_failed = tt;
       nothing_written = λ no. absurd (no tt);

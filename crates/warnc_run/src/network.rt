@@ -33,8 +33,8 @@ pub(crate) struct NetworkRun<'a> {
 }
 
 /// Reads a network book, runs the book of each of its groups by itself and by one worker, as many of them side by side
-/// as there are workers, and writes the parts of the groups in their order, a few at a time: the tapes of as many groups
-/// as there are workers, or the texts of eight times as many.
+/// as there are workers, and writes the parts of the groups in their order, a few at a time: the tapes of as many
+/// groups as there are workers, or the texts of eight times as many.
 ///
 /// # Errors
 ///
@@ -46,7 +46,8 @@ pub(crate) fn write_network<T: AllocGlobal + Threads + Wait + Sync, R: Read, W: 
     run: &Run,
     made: Product,
 ) -> Result<(), ProductFault>
-    ensures ok { IsMade result R.remaining W.contents (IsOfNetwork made run.now.slots run.now.sessions.number) source.old
+    ensures ok { IsMade result R.remaining W.contents (IsOfNetwork made run.now.slots run.now.sessions.number)
+        source.old
         source.new sink.old sink.new }
     ensures err { IsUnmade result R.remaining W.contents (IsNetworkFault made run.now.slots run.now.sessions.number)
         source.old source.new sink.old sink.new }

@@ -19,9 +19,9 @@ use std::io::Read;
 use std::sync::Wait;
 use std::thread::Threads;
 
-/// Reads a book, or a network book for a group, has the cells of a desk carry out what the book's one session orders, in
-/// runs of `slots` slots, as [`compile_stream`](crate::compile_stream) does, and returns the records of the cells, in
-/// the order of the book. The records don't depend on the number of workers, which play the cells.
+/// Reads a book, or a network book for a group, has the cells of a desk carry out what the book's one session orders,
+/// in runs of `slots` slots, as [`compile_stream`](crate::compile_stream) does, and returns the records of the cells,
+/// in the order of the book. The records don't depend on the number of workers, which play the cells.
 ///
 /// # Errors
 ///

@@ -1,4 +1,5 @@
-//! How books are run: which, for how many slots, how many sessions order at a desk, and how many workers play its cells.
+//! How books are run: which, for how many slots, how many sessions order at a desk, and how many workers play its
+//! cells.
 
 ghost use Rattle.std.specs.Prelude.{◌≡◌, ◌<◌, ◌≤◌, MatchOption};
 
