@@ -254,11 +254,11 @@ pub front_written : {R W : Type 0} (r : Run) (made : Product) (first_left last_l
     (f : ProductFault) (status : ℕ) (held : W → Option (List ℕ)) (last : Source R) (old new : Sink W)
     → status ≡ status_of_product_fault f
     → IsOutputFault made r.books r.slots r.sessions.number first_left last_left (held (writer_of old))
-        (held (writer_of new)) f
+    (held (writer_of new)) f
     → IsRunBetween (task.Make r made) status held last old new
     → (status ≡ 1) ⊎ (status ≡ 4)
     → Writes held Keeps old new ⊎ WritesFirstGroups (task.Make r made) None first_left (held (writer_of old))
-        (held (writer_of new))
+    (held (writer_of new))
 front_written r made first_left last_left f status held last old new is why ends other =
     by_books r.books refl why
   where
@@ -280,9 +280,9 @@ front_written r made first_left last_left f status held last old new is why ends
 
     by_fault : (f : ProductFault) → status_of_product_fault f ≢ 3
         → IsOutputFault made books.EachGroup r.slots r.sessions.number first_left last_left (held (writer_of old))
-            (held (writer_of new)) f
+        (held (writer_of new)) f
         → Writes held Keeps old new ⊎ WritesFirstGroups (task.Make r made) None first_left (held (writer_of old))
-            (held (writer_of new))
+        (held (writer_of new))
     by_fault (fault.Run (run.Book f)) not why = inl why.1
     by_fault (fault.Run f) not why = absurd why
     by_fault (fault.Group group f) not why = inr (
@@ -294,8 +294,8 @@ front_written r made first_left last_left f status held last old new is why ends
 
     by_books : (b : Books) → r.books ≡ b
         → IsOutputFault made b r.slots r.sessions.number first_left last_left (held (writer_of old))
-            (held (writer_of new)) f
+        (held (writer_of new)) f
         → Writes held Keeps old new ⊎ WritesFirstGroups (task.Make r made) None first_left (held (writer_of old))
-            (held (writer_of new))
+        (held (writer_of new))
     by_books (books.One from) one why = inl (ends.nothing_written (alone from one))
     by_books books.EachGroup each why = by_fault f (λ three. not_three other (is ∙ three)) why

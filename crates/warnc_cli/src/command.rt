@@ -96,7 +96,11 @@ fn task_in<'a, S: AsStr>(words: &'a [S]) -> Option<Task<'a>>
         "compile" => run_in(words, Product::Tapes, Sessions { number: 1 }),
         "live" => run_in(words, Product::Tapes, sessions_in(words)?),
         "report" => run_in(words, Product::Report, Sessions { number: 1 }),
-        "chart" => run_in(words, Product::Chart(wanted_in(words)?), Sessions { number: 1 }),
+        "chart" => run_in(
+            words,
+            Product::Chart(wanted_in(words)?),
+            Sessions { number: 1 },
+        ),
         "verify" => Some(Task::Verify {
             origin: origin_in(words)?,
             slots: slots_in(words)?,

@@ -12,9 +12,9 @@ ghost use Rattle.warnc_run.specs.declared.fault.RunFault.TheVariants as faults;
 ghost use Rattle.warnc_run.specs.declared.product.Product.TheVariants as product;
 
 use crate::book::book_from;
-use crate::run::{Sessions, Workers};
 use crate::fault::RunFault;
 use crate::output::write_run;
+use crate::run::{Sessions, Workers};
 use alert_book::Origin;
 use device_ends::{Sink, Source};
 use order_desk::{Gate, Open};

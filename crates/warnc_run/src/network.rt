@@ -9,10 +9,10 @@ ghost use Rattle.warnc_run.specs.Engine.{IsEngineAtEnds};
 ghost use Rattle.warnc_run.specs.Made.{IsMade, IsUnmade};
 ghost use Rattle.warnc_run.specs.Network.{IsNetworkFault, IsOfNetwork};
 
-use crate::run::{Run, Sessions};
 use crate::fault::RunFault;
 use crate::parts::write_groups;
 use crate::product::{Product, ProductFault};
+use crate::run::{Run, Sessions};
 use alert_book::{BookFault, BookFaultKind, MAX_NETWORK, Network};
 use device_ends::{ReadFault, Sink, Source, read_up_to};
 use std::alloc::{AllocGlobal, Global};

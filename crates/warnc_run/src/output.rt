@@ -5,9 +5,9 @@ ghost use Rattle.device_ends.specs.Sink.{sink_failed, writer_of};
 ghost use Rattle.warnc_run.specs.Faults.{IsPieceFault, IsWriteFault};
 ghost use Rattle.warnc_run.specs.RunSteps.{HasWritten, IsSomeBook, StopsAtTape};
 
-use crate::run::{Sessions, Workers};
 use crate::fault::RunFault;
 use crate::finish::{write_in_turn, write_tapes};
+use crate::run::{Sessions, Workers};
 use crate::tapes::{records_after, tapes_by_several};
 use alert_book::Book;
 use cbch_blocks::Tape;

@@ -13,11 +13,11 @@ ghost use Rattle.warnc_run.specs.NetworkSteps.{AreMadeFor, HasNoEmptyTape, IsMad
 ghost use Rattle.warnc_run.specs.NetworkSteps.{StopsPartsOf, WritesFrontOf, WritesPartsOf};
 ghost use Rattle.warnc_run.specs.RunSteps.{octets_of_text};
 
-use crate::run::Workers;
 use crate::fault::RunFault;
 use crate::finish::write_tapes;
 use crate::network::NetworkRun;
 use crate::product::{Product, ProductFault};
+use crate::run::Workers;
 use crate::tapes::tapes_by_one;
 use crate::text::{Text, text_of_book};
 use cbch_blocks::Tape;

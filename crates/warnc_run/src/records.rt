@@ -7,8 +7,8 @@ ghost use Rattle.warnc_run.specs.Records.{HasNoRecords, HasRecords};
 ghost use Rattle.warnc_run.specs.declared.fault.RunFault.TheVariants as faults;
 
 use crate::book::book_from;
-use crate::run::{Sessions, Workers};
 use crate::fault::RunFault;
+use crate::run::{Sessions, Workers};
 use crate::tapes::records_after;
 use alert_book::Origin;
 use bsc_table::CellRecord;

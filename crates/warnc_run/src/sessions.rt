@@ -5,8 +5,8 @@ ghost use Rattle.warnc_run.specs.Faults.{IsOfRun};
 ghost use Rattle.warnc_run.specs.RunSteps.{IsFirstUserFault, IsSomeBook};
 ghost use Rattle.warnc_run.specs.declared.fault.RunFault.TheVariants as faults;
 
-use crate::run::Sessions;
 use crate::fault::RunFault;
+use crate::run::Sessions;
 use crate::session::run_session;
 use alert_book::Book;
 use order_desk::{Desk, Gate, Pass};

@@ -5,8 +5,8 @@ ghost use Rattle.book_runs.specs.Live.{IsLiveRun};
 ghost use Rattle.warnc_run.specs.Faults.{IsOfBook};
 ghost use Rattle.warnc_run.specs.RunSteps.{HaveRunLive, IsSomeBook};
 
-use crate::run::Sessions;
 use crate::fault::RunFault;
+use crate::run::Sessions;
 use alert_book::Book;
 use bsc_table::CellRecord;
 use order_desk::{Desk, Pass};

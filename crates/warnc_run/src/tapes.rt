@@ -5,8 +5,8 @@ ghost use Rattle.cbch_blocks.specs.RecordBlocks.{tape_of_record};
 ghost use Rattle.warnc_run.specs.Faults.{IsOfBook};
 ghost use Rattle.warnc_run.specs.RunSteps.{AreTapesOf, HaveRunLive, IsOfTapes, IsSomeBook};
 
-use crate::run::{Sessions, Workers};
 use crate::fault::RunFault;
+use crate::run::{Sessions, Workers};
 use crate::sessions::run_sessions;
 use crate::settled::settled_records;
 use crate::workers::play_out;

@@ -12,9 +12,9 @@ ghost use Rattle.bsc_table.specs.Record.{Record};
 ghost use Rattle.warnc_run.specs.declared.fault.RunFault.TheVariants as faults;
 
 use crate::book::book_from;
-use crate::run::{Books, Run, Sessions, Workers};
 use crate::fault::RunFault;
 use crate::product::{Product, ProductFault};
+use crate::run::{Books, Run, Sessions, Workers};
 use crate::tapes::records_after;
 use alert_book::{Book, Origin};
 use bsc_table::CellRecord;
@@ -145,7 +145,15 @@ fn text_of_records<T: AllocGlobal + Threads + Wait + Sync>(
         }
         Text::ChartPart(group, is_last, wanted) => {
             let readings = readings_by(rt, records, workers)?;
-            match part_octets(rt.alloc(), slots, group, is_last, wanted, records, &readings) {
+            match part_octets(
+                rt.alloc(),
+                slots,
+                group,
+                is_last,
+                wanted,
+                records,
+                &readings,
+            ) {
                 Ok(octets) => Ok(octets),
                 Err(fault) => Err(of_memory(fault)),
             }

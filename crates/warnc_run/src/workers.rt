@@ -4,8 +4,8 @@ ghost use Rattle.std.specs.Prelude.{◌≡◌, ◌<◌, ◌≤◌, length, All, 
 ghost use Rattle.tickets.specs.Draws.{first_seat, IsSeatOf};
 ghost use Rattle.warnc_run.specs.Faults.{IsOfRun};
 
-use crate::run::Workers;
 use crate::fault::RunFault;
+use crate::run::Workers;
 use crate::sessions::{UserEnd, passes_or_fault};
 use order_desk::{Desk, Gate, Pass};
 use std::alloc::{AllocGlobal, Global};

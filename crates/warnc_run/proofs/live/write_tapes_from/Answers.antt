@@ -47,7 +47,7 @@ pub returns-in_err-book-clause-err : goal.returns-in_err-book-clause-err
 returns-in_err-book-clause-err g c =
     let fault = fault_of_reading c.args.origin c.args.slots c.args.sessions.number
     (IsLiveFrom c.args.origin c.args.slots c.args.sessions.number) _ _ _ _ c.in_err-book.field-0.0
-        c.in_err-book.ensures.err
+    c.in_err-book.ensures.err
     (Keeps-refl _) in
     let is : c.from_residual.result ≡ Err c.in_err-book.field-0.0 = search (rules, c.from_residual.ensures) in
     where_it_is _ c.from_residual.result c.in_err-book.field-0.0 is fault
