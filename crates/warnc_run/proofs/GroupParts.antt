@@ -335,7 +335,7 @@ made_at runs group network input all shown i came each means same within is =
     let at : came ≡ get_or all i came =
     subst (λ (rs : List (Result Part RunFault)). came ≡ get_or rs i came) same is in
     subst (IsMadeOf runs (group + i) input) (sym at)
-    (each i came (subst (λ (rs : List (Result Part RunFault)). i < length rs) same within) input means)
+    ((each i came (subst (λ (rs : List (Result Part RunFault)). i < length rs) same within)).made input means)
 
 -- octets that mean a network have its groups
 pub groups_counted : (network : NetworkRows) (groups : ℕ) (input : List ℕ) → AreGroupsOf network groups

@@ -41,8 +41,9 @@ abbrev pub AreGroupsOf : NetworkRows → (groups : ℕ) → Type 0
 AreGroupsOf network groups = groups ≡ groups_of (length network.cells)
 
 -- what came of a group, whatever the octets are that mean this
-abbrev pub IsMadeFor : GroupRuns → (group : ℕ) → NetworkRows → Result Part RunFault → Type 0
-IsMadeFor runs group network came = (input : List ℕ) → MeansNetwork input network → IsMadeOf runs group input came
+pub record IsMadeFor (runs : GroupRuns) (group : ℕ) (network : NetworkRows) (came : Result Part RunFault) : Type 0
+  where
+    pub made : (input : List ℕ) → MeansNetwork input network → IsMadeOf runs group input came
 
 -- and of the groups from this one on
 abbrev pub AreMadeFor : GroupRuns → (group : ℕ) → NetworkRows → List (Result Part RunFault) → Type 0

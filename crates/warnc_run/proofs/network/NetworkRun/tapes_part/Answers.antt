@@ -12,19 +12,21 @@ tapes_by_one-requires-clause-book g c κs within =
     a_book c.args.group read.0 c.in_ok-book.book (c.in_ok-book.ensures read.0 read.1)
 
 pub returns : goal.returns
-returns g c = λ input means.
-    let are = c.in_ok-tapes.ensures.ok in
-    let network = c.args.self.now in
-    let from = origin.Group c.args.group in
-    let made = made_live c.session_laws.ensures.shown c.session_laws.ensures.accepted
-    c.legal_histories.ensures.legal_histories_are_served from input c.in_ok-book.book network.slots
-    network.sessions.number c.in_ok-tapes.tapes.items network.few_slots (c.in_ok-book.ensures input means) are in (
-      record {
-        records = made.records;
-        run = made.run;
-        written = made.written
-            ∙ ap (λ (m : Product).
-            octets_of_group m network.slots network.groups c.args.group made.records) (sym c.requires.tapes);
-      },
-      tapes_have_octets c.in_ok-tapes.tapes.items are.records are.made,
-    )
+returns g c = record {
+  made = λ input means.
+      let are = c.in_ok-tapes.ensures.ok in
+      let network = c.args.self.now in
+      let from = origin.Group c.args.group in
+      let made = made_live c.session_laws.ensures.shown c.session_laws.ensures.accepted
+      c.legal_histories.ensures.legal_histories_are_served from input c.in_ok-book.book network.slots
+      network.sessions.number c.in_ok-tapes.tapes.items network.few_slots (c.in_ok-book.ensures input means) are in (
+        record {
+          records = made.records;
+          run = made.run;
+          written = made.written
+              ∙ ap (λ (m : Product).
+              octets_of_group m network.slots network.groups c.args.group made.records) (sym c.requires.tapes);
+        },
+        tapes_have_octets c.in_ok-tapes.tapes.items are.records are.made,
+      );
+}

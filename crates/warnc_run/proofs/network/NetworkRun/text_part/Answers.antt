@@ -10,16 +10,18 @@ text_of_book-requires-clause-book g c κs within =
     a_book c.args.group read.0 c.in_ok-book.book (c.in_ok-book.ensures read.0 read.1)
 
 pub returns : goal.returns
-returns g c = λ input means.
-    let is = c.in_ok-octets.ensures.ok in
-    let network = c.args.self.now in (
-      record {
-        records = is.records;
-        run = run_of_book c.session_laws.ensures.shown c.session_laws.ensures.accepted
-            c.legal_histories.ensures.legal_histories_are_served (origin.Group c.args.group) input
-            c.in_ok-book.book network.slots network.sessions.number is.records network.few_slots
-            (c.in_ok-book.ensures input means) is.live;
-        written = is.made_of ∙ c.text-text.ensures is.records;
-      },
-      tt,
-    )
+returns g c = record {
+  made = λ input means.
+      let is = c.in_ok-octets.ensures.ok in
+      let network = c.args.self.now in (
+        record {
+          records = is.records;
+          run = run_of_book c.session_laws.ensures.shown c.session_laws.ensures.accepted
+              c.legal_histories.ensures.legal_histories_are_served (origin.Group c.args.group) input
+              c.in_ok-book.book network.slots network.sessions.number is.records network.few_slots
+              (c.in_ok-book.ensures input means) is.live;
+          written = is.made_of ∙ c.text-text.ensures is.records;
+        },
+        tt,
+      );
+}
