@@ -8,7 +8,7 @@ use Rattle.book_runs.specs.Live.{IsLiveRun}
 use Rattle.book_runs.specs.LiveLaws.{OneSessionIsARun}
 use Rattle.book_runs.specs.OneRun.{RunsAreOne}
 use Rattle.book_runs.specs.Run.{Exchange, IsRun}
-use Rattle.warnc_run.specs.Network.{joined_parts, octets_of_group, ArePartsFrom, GroupRuns, IsPartOf}
+use Rattle.warnc_run.specs.Network.{joined_parts, octets_of_group, ArePartsFrom, IsPartOf}
 use Rattle.warnc_run.specs.OneOutput.{OutputIsOne}
 use Rattle.warnc_run.specs.Products.{octets_of, RunOf}
 use Rattle.warnc_run.specs.declared.run.Books.TheVariants as books

@@ -1,6 +1,6 @@
 -- What handsets read of the tapes of records, one after the other.
 use Rattle.std.proofs.Common.{◌≡◌, ◌≢◌, ℕ, suc, ◌+◌, ◌<◌, ◌≤◌, ◌∙◌, List, [], ◌∷◌, ◌++◌, length, map, take, get_or}
-use Rattle.std.proofs.Common.{All, Option, ap, ap₂, append_assoc, rules, sym, subst, refl}
+use Rattle.std.proofs.Common.{All, Option, ap, append_assoc, sym, subst, refl}
 use native.Mathlib.Omega.{arith}
 use Rattle.std.proofs.Math.Seq.{take-suc}
 use Rattle.std.proofs.lemmas.List.{get_or-map, length-map, map-append}

@@ -28,7 +28,7 @@ use Rattle.cbsp_wire.specs.Range.{cells_are_valid}
 use Rattle.bsc_table.specs.Promised.{IsServed, LegalHistoriesAreServed}
 use Rattle.bsc_table.specs.Record.{Record}
 use Rattle.cbch_blocks.specs.RecordBlocks.{tape_of_record}
-use Rattle.book_runs.specs.Live.{IsLiveRun, IsRunBy}
+use Rattle.book_runs.specs.Live.{IsRunBy}
 use Rattle.book_runs.specs.LiveLaws.{LiveRunsAcceptWhatWasOrdered, LiveRunsShowTheBook}
 use Rattle.warnc_run.specs.declared.fault.RunFault.{RunFault}
 use Rattle.warnc_run.specs.declared.fault.RunFault.TheVariants as run

@@ -1,15 +1,10 @@
 -- What `--network` makes of the octets that are read: of a network book the parts of all its groups, one after the
 -- other. Own.
-use Rattle.std.specs.Prelude.{◌≡◌, ◌≢◌, ◌↔◌, ◌==◌, ⊤, ℕ, ◌+◌, ◌<◌, ◌≤◌, List, [], ◌∷◌, length, map, Option, Result}
-use Rattle.std.specs.Prelude.{IfErr, IsErrOf, IsTrue, OnOk, true, false}
+use Rattle.std.specs.Prelude.{◌≡◌, ◌==◌, ⊤, ℕ, ◌+◌, ◌<◌, ◌≤◌, List, [], ◌∷◌, length, map, Option}
 use Rattle.std.specs.Io.KnownBytes.{Keeps}
 use Rattle.std.specs.List.{flat_map}
-use Rattle.device_ends.specs.Sink.{sink_failed, writer_of}
-use Rattle.device_ends.specs.Source.{source_failed}
-use Rattle.device_ends.specs.declared.reading.Source.{Source}
-use Rattle.device_ends.specs.declared.writing.Sink.{Sink}
 use Rattle.alert_book.specs.declared.network.Origin.TheVariants as origin
-use Rattle.alert_book.specs.Book.{unread, Contents}
+use Rattle.alert_book.specs.Book.{Contents}
 use Rattle.alert_book.specs.Network.{HasGroups, IsGroupBook, RefusesNetwork}
 use Rattle.bsc_table.specs.Record.{Record}
 use Rattle.chart.specs.ChartText.{chart_part}

@@ -1,4 +1,4 @@
-use Rattle.std.proofs.Common.{◌≡◌, ◌≤◌, Err, List, ℕ, refl, rules, subst, sym}
+use Rattle.std.proofs.Common.{◌≡◌, ◌≤◌, Err, refl, rules, subst, sym}
 use Rattle.std.proofs.KnownBytes.{Keeps-refl}
 use Rattle.warnc_run.specs.Faults.{HasReadFrom}
 use Rattle.warnc_run.specs.Products.{IsOutput}
