@@ -1,13 +1,14 @@
 #!/usr/bin/env python3
 """Compares the charts of a built program with its reports, and with what a browser makes of them.
 
-Usage: chart_check.py PROGRAM [BOOKS]            makes so many random books (20 if no number is given) and one by hand
+Usage: chart_check.py PROGRAM [BOOKS]            makes so many random books (20 if no number is given), for each ten of
+                                                 them a network book of up to four groups, and one by hand
        chart_check.py PROGRAM --picture FILE     writes a picture of the chart of the book by hand (PNG)
 
 Of each chart the bars, marks, refusals, texts and loads are counted and compared with the rows of `report`, with what
-`read` shows of the tapes of `compile`; the lines of the loads have to stay within the cell's room. Chromium, where it
-is installed, opens each page: it has to find the same bars, and no element that the program didn't write, whatever the
-texts say.
+`read` shows of the tapes of `compile`; the lines of the loads have to stay within the cell's room. In the chart of a
+network each group has to hold its own cells. Chromium, where it is installed, opens each page: it has to find the same
+bars, and no element that the program didn't write, whatever the texts say.
 """
 import csv
 import html.parser
@@ -33,15 +34,29 @@ TOP = os.path.dirname(os.path.dirname(os.path.realpath(__file__)))
 SLOTS_BY_HAND = 48
 # how many charts a browser opens, which takes it over a second each
 BROWSED = 10
+# how many cells a group of a network has at most
+GROUP = 64
 
 
 class Page(html.parser.HTMLParser):
-    """What stands in a page: its cells, each with its lines, in order."""
+    """What stands in a page: its cells, each with its lines, in order, and the groups, each with its cells' names."""
 
     def __init__(self, text):
         super().__init__()
         self.cells, self.elements, self.inside, self.title = [], set(), [], ""
         self.feed(text)
+        self.groups = self.groups_taken_out()
+
+    def groups_taken_out(self):
+        """Returns the groups, which so far stand among the cells, and leaves the cells alone there."""
+        groups = []
+        for section in self.cells:
+            if section["name"].startswith("Group "):
+                groups.append((section["name"], []))
+            elif groups:
+                groups[-1][1].append(section["name"])
+        self.cells = [it for it in self.cells if not it["name"].startswith("Group ")]
+        return groups
 
     def handle_starttag(self, tag, attributes):
         self.elements.add(tag)
@@ -83,9 +98,9 @@ def rows_of(program, words, given):
     return list(csv.DictReader(io.StringIO(run(program, words, given).decode(), newline="")))
 
 
-def random_book(chance):
-    """Returns a book of a few cells and orders, whose texts are hostile."""
-    cells = [f"1-{ci}" for ci in range(1, chance.randint(2, 5))]
+def random_book(chance, most_cells=4):
+    """Returns a book of one to so many cells and of some orders, whose texts are hostile."""
+    cells = [f"1-{ci}" for ci in range(1, 1 + chance.randint(1, most_cells))]
     lines = [f"cell,1,{cell[2:]}" for cell in cells]
     names, at = [], 0
     for number in range(chance.randint(1, 25)):
@@ -156,13 +171,26 @@ def dom_of(browser, path):
                               stdout=subprocess.PIPE, stderr=subprocess.DEVNULL, check=True).stdout.decode()
 
 
-def differences(program, browser, book, slots):
-    """Yields in what the chart of a book differs from its report."""
-    given = book.encode()
-    rows = rows_of(program, ["report", "--slots", str(slots)], given)
-    tapes = run(program, ["compile", "--slots", str(slots)], given)
-    shown = {(it["lac"], it["ci"], it["id"], it["serial"]): it["text"] for it in rows_of(program, ["read"], tapes)}
-    chart = run(program, ["chart", "--slots", str(slots)], given)
+def shown_of(program, given, options):
+    """Returns the texts that phones show of the tapes of a book, by cell, identifier and serial number."""
+    tapes = run(program, ["compile", *options], given)
+    return {(it["lac"], it["ci"], it["id"], it["serial"]): it["text"] for it in rows_of(program, ["read"], tapes)}
+
+
+def groups_of(book):
+    """Returns the groups of a network book, each with its cells' names, in the order of the book."""
+    names = [f"Cell {lac}-{ci}" for lac, ci in re.findall(r"^cell,(\d+),(\d+)$", book, re.M)]
+    return [(f"Group {first // GROUP}", names[first:first + GROUP]) for first in range(0, len(names), GROUP)]
+
+
+def differences(program, browser, book, options, slots=SLOTS_BY_HAND):
+    """Yields in what the chart of a book, or of a network book, differs from its report."""
+    given, groups, length = book.encode(), groups_of(book) if "--network" in options else [], ["--slots", str(slots)]
+    rows = rows_of(program, ["report", *options, *length], given)
+    shown = {}
+    for each in [["--group", str(it)] for it in range(len(groups))] or [options]:
+        shown.update(shown_of(program, given, [*each, *length]))
+    chart = run(program, ["chart", *options, *length], given)
     wanted = expected(rows, shown)
     pages = [("the chart", Page(chart.decode()))]
     if browser:
@@ -174,6 +202,8 @@ def differences(program, browser, book, slots):
     for name, page in pages:
         if found(page) != wanted:
             yield f"{name} has {found(page)}, the report {wanted}"
+        if page.groups != groups:
+            yield f"{name} has the groups {page.groups}, the book {groups}"
         if page.elements - ELEMENTS:
             yield f"{name} has elements {page.elements - ELEMENTS}"
         if page.title != "Warnings by cell":
@@ -210,10 +240,11 @@ def main(words):
         if browser:
             take_picture(program, browser, words[2])
         return 0
-    chance = random.Random(41)
-    books = [book_by_hand(), *(random_book(chance) for _ in range(int(words[1]) if words[1:] else 20))]
-    wrong = [it for number, book in enumerate(books)
-             for it in differences(program, browser if number < BROWSED else None, book, SLOTS_BY_HAND)]
+    chance, count = random.Random(41), int(words[1]) if words[1:] else 20
+    books = [(book_by_hand(), []), *((random_book(chance), []) for _ in range(count))]
+    books[5:5] = [(random_book(chance, 4 * GROUP), ["--network"]) for _ in range(-(-count // 10))]
+    wrong = [it for number, (book, options) in enumerate(books)
+             for it in differences(program, browser if number < BROWSED else None, book, options)]
     print("\n".join(wrong) or f"{len(books)} charts are as their reports{', in the browser too' if browser else ''}")
     return 1 if wrong else 0
 
