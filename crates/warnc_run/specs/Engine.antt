@@ -14,7 +14,7 @@ use Rattle.warnc_run.specs.declared.product.Product.TheVariants as product
 use Rattle.warnc_run.specs.declared.product.ProductFault.{ProductFault}
 use Rattle.warnc_run.specs.declared.product.ProductFault.TheVariants as fault
 use Rattle.warnc_run.specs.declared.run.Run.{Run}
-use Rattle.warnc_run.specs.Faults.{IsOfProduct, IsRunFault, IsWriteFault}
+use Rattle.warnc_run.specs.Faults.{IsOfProduct, IsPieceFault, IsRunFault, IsWriteFault}
 use Rattle.warnc_run.specs.Made.{MakesFront}
 use Rattle.warnc_run.specs.Network.{IsNetworkFault, IsOfNetwork}
 use Rattle.warnc_run.specs.Products.{IsOutput}
@@ -53,6 +53,12 @@ abbrev pub IsOfWriter : ProductFault → Type 0
 IsOfWriter (fault.Run f) = IsWriteFault f
 IsOfWriter (fault.Group group f) = ⊥
 IsOfWriter fault.WriteFailed = ⊤
+
+-- a fault of several workers: a tape of the book's cells isn't that of its record
+abbrev pub IsOfPiece : ProductFault → Type 0
+IsOfPiece (fault.Run f) = IsPieceFault f
+IsOfPiece (fault.Group group f) = ⊥
+IsOfPiece fault.WriteFailed = ⊥
 
 -- a fault with which something may be written: the writer's, or that of a group, whose network's first groups were
 abbrev pub MayBeWritten : ProductFault → Type 0

@@ -1,7 +1,7 @@
 //! The engine of all commands over a book: which books are run, how, and what is made of them.
 
-ghost use Rattle.std.specs.Prelude.{◌≡◌};
-ghost use Rattle.warnc_run.specs.Engine.{IsEngineAtEnds, IsMadeBy, IsOutputFault, IsProductOf, IsUnmadeBy};
+ghost use Rattle.std.specs.Prelude.{◌≡◌, IfErr};
+ghost use Rattle.warnc_run.specs.Engine.{IsEngineAtEnds, IsMadeBy, IsOfPiece, IsOutputFault, IsProductOf, IsUnmadeBy};
 ghost use Rattle.warnc_run.specs.Made.{IsMade, IsUnmade};
 ghost use Rattle.warnc_run.specs.declared.product.ProductFault.TheVariants as faults;
 
@@ -85,6 +85,9 @@ pub fn run_product<T: AllocGlobal + Threads + Wait + Sync, R: Read, W: Write, G:
     ensures err { IsUnmade result R.remaining W.contents (IsUnmadeBy run.now made) source.old source.new sink.old
         sink.new }
 
+    // One worker sends no pages, so no tape of its is another record's.
+    ensures no_piece { run.now.workers.number ≡ 1 → IfErr result (λ fault. IsOfPiece fault → ⊥) }
+
     // At any reader and any writer.
     ensures any_ends { IsEngineAtEnds result W.contents source.old source.new sink.old sink.new }
 {
@@ -112,6 +115,7 @@ fn write_tapes<T: AllocGlobal + Threads + Wait + Sync, R: Read, W: Write, G: Gat
         run.now.sessions.number) source.old source.new sink.old sink.new }
     ensures err { IsUnmade result R.remaining W.contents (IsOutputFault Product.Tapes (Books.One origin) run.now.slots
         run.now.sessions.number) source.old source.new sink.old sink.new }
+    ensures no_piece { run.now.workers.number ≡ 1 → IfErr result (λ fault. IsOfPiece fault → ⊥) }
     ensures any_ends { IsEngineAtEnds result W.contents source.old source.new sink.old sink.new }
 {
     match write_tapes_from(
