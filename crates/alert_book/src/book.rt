@@ -26,7 +26,7 @@ pub(crate) mod declared;
 pub(crate) mod fields;
 pub(crate) mod names;
 pub(crate) mod number;
-pub(crate) mod order;
+pub mod order;
 pub(crate) mod packing;
 pub(crate) mod row;
 
@@ -81,15 +81,16 @@ impl Book {
     }
 }
 
-/// The rows of a book, as far as they are read.
+/// The rows of a book, in their order: the cells that they declare, and the orders that they give. No text of them is
+/// judged.
 #[derive(Debug, Drop)]
-struct RowsSoFar {
+pub struct BookRows {
     cells: Vec<Cell>,
     orders: Vec<Order>,
     names: Names,
 }
 
-impl Model for RowsSoFar {
+impl Model for BookRows {
     ghost use Rattle.alert_book.specs.Book.{Rows};
 
     ghost Value = { Rows };
@@ -103,12 +104,19 @@ impl Model for RowsSoFar {
     ghost invariant = { λ known. All IsSendable known.orders.items × AreNames known.names known.orders.items };
 }
 
-impl RowsSoFar {
+impl BookRows {
     ghost use Rattle.std.specs.Prelude.{Ok, Err};
     ghost use Rattle.csv.specs.Records.{fields_of};
     ghost use Rattle.alert_book.specs.Book.{with_row};
     ghost use Rattle.alert_book.specs.Row.{row_of};
     ghost use Rattle.alert_book.specs.declared.book.row.Row.{Row};
+
+    /// The orders that the rows give.
+    pub fn orders(&self) -> &[Order]
+        ensures { result.now ≡ self.now.orders }
+    {
+        &self.orders
+    }
 
     /// Reads the row of this number.
     fn read(&mut self, alloc: Global, row: u32, fields: ByteRecord) -> Result<(), RowFault>
@@ -144,12 +152,16 @@ pub(crate) fn fault_of_row(row: u32, fault: RowFault) -> BookFault
     }
 }
 
-/// The rows of a book's octets.
-fn read_rows(alloc: Global, octets: &[u8]) -> Result<RowsSoFar, BookFault>
+/// The rows of a book's octets. [`read_book`] reads the same, and judges the texts, too.
+///
+/// # Errors
+///
+/// The first fault of a row, or out of memory.
+pub fn read_rows(alloc: Global, octets: &[u8]) -> Result<BookRows, BookFault>
     ensures ok { IfOk result (λ known. AreRowsOf octets.now known) }
     ensures err { IfErr result (λ fault. (fault ≡ refused) ⊎ IsRowFault octets.now fault) }
 {
-    let mut known = RowsSoFar {
+    let mut known = BookRows {
         cells: Vec::new(alloc),
         orders: Vec::new(alloc),
         names: Names::new(alloc),

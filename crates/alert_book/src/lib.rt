@@ -12,7 +12,8 @@ mod laws;
 pub mod network;
 pub mod session;
 
-pub use book::{Book, MAX_INPUT, read_book};
+pub use book::order::{Action, Alert, Order, Sending, Text};
+pub use book::{Book, BookRows, MAX_INPUT, read_book, read_rows};
 pub use fault::{BookFault, BookFaultKind};
 pub use laws::{book_laws, network_laws, session_laws, text_laws};
 pub use network::all_groups::Network;

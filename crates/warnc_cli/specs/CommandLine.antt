@@ -61,6 +61,10 @@ pub record AsksForPage (words : List (List ℕ)) (language : List ℕ) (id seria
 abbrev pub AsksForRead : (words : List (List ℕ)) → Type 0
 AsksForRead words = slice_get words 1 ≡ Some (codes "read")
 
+-- the words ask for `texts`
+abbrev pub AsksForTexts : (words : List (List ℕ)) → Type 0
+AsksForTexts words = slice_get words 1 ≡ Some (codes "texts")
+
 -- the words ask for `groups`
 abbrev pub AsksForGroups : (words : List (List ℕ)) → Type 0
 AsksForGroups words = slice_get words 1 ≡ Some (codes "groups")

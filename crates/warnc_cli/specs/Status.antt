@@ -3,6 +3,8 @@ use Rattle.std.specs.Prelude.{ℕ, ◌==◌, if◌then◌else◌}
 use Rattle.alert_book.specs.declared.fault.BookFault.{BookFault}
 use Rattle.alert_book.specs.declared.fault.BookFaultKind.{BookFaultKind}
 use Rattle.alert_book.specs.declared.fault.BookFaultKind.TheVariants as kinds
+use Rattle.book_texts.specs.declared.texts.TextsFault.{TextsFault}
+use Rattle.book_texts.specs.declared.texts.TextsFault.TheVariants as texts
 use Rattle.cbs_page.specs.declared.paging.TextFault.TheVariants as text
 use Rattle.handset.specs.declared.tape.TapeFault.{TapeFault}
 use Rattle.handset.specs.declared.tape.TapeFault.TheVariants as tapes
@@ -67,6 +69,13 @@ status_of_tape_fault tape.TooLong = 1
 status_of_tape_fault (tape.Air why) = 1
 status_of_tape_fault tape.Refused = 4
 status_of_tape_fault tape.WriteFailed = 3
+
+abbrev pub status_of_texts_fault : TextsFault → ℕ
+status_of_texts_fault texts.ReadFailed = 3
+status_of_texts_fault texts.TooLong = 1
+status_of_texts_fault (texts.Row f) = 1
+status_of_texts_fault texts.Refused = 4
+status_of_texts_fault texts.WriteFailed = 3
 
 abbrev pub status_of_desk_fault : DeskFault → ℕ
 status_of_desk_fault (desk.Memory done) = 4

@@ -5,9 +5,10 @@ use Rattle.alert_book.specs.declared.fault.BookFault.{BookFault}
 use Rattle.alert_book.specs.declared.fault.BookFaultKind.{BookFaultKind}
 use Rattle.alert_book.specs.declared.network.Origin.{Origin}
 use Rattle.alert_book.specs.declared.network.Origin.TheVariants as origin
-use Rattle.alert_book.specs.Book.{Contents, IsWrong, max_book}
+use Rattle.alert_book.specs.Book.{Contents, IsRowFault, IsWrong, max_book}
 use Rattle.alert_book.specs.Network.{HasGroups, IsGroupBook, IsWrongNetwork, max_network}
 use Rattle.alert_book.specs.Origin.{IsBookFrom}
+use Rattle.book_texts.specs.TextsOutput.{IsTextsOutput}
 use Rattle.device_ends.specs.Moves.{WritesOutput}
 use Rattle.gsmtap.specs.Capture.{IsCapture}
 use Rattle.gsmtap.specs.TapeOfCapture.{IsAirFault, IsTapeOfCapture}
@@ -28,7 +29,7 @@ use Rattle.warnc_run.specs.Groups.{IsGroupCount}
 use Rattle.warnc_run.specs.Network.{AreFirstParts}
 use Rattle.warnc_verify.specs.Verified.{Differs, HasDifferences, HasRun, IsVerified}
 use Rattle.warnc_cli.specs.CommandLine.{AsksForGroups, AsksForPage, AsksForPcap, AsksForRead, AsksForRun, AsksForTape}
-use Rattle.warnc_cli.specs.CommandLine.{AsksForVerify}
+use Rattle.warnc_cli.specs.CommandLine.{AsksForTexts, AsksForVerify}
 use Rattle.warnc_cli.specs.Status.{status_of_book_fault, status_of_page_fault}
 use Rattle.warnc_cli.specs.declared.command.Task.{Task}
 use Rattle.warnc_cli.specs.declared.command.Task.TheVariants as task
@@ -40,6 +41,7 @@ IsTaskOf words task.Read = AsksForRead words
 IsTaskOf words (task.Pcap settings) = AsksForPcap words settings
 IsTaskOf words (task.Tape wanted) = AsksForTape words wanted
 IsTaskOf words task.Groups = AsksForGroups words
+IsTaskOf words task.Texts = AsksForTexts words
 IsTaskOf words (task.Make run made) = AsksForRun words run made
 IsTaskOf words (task.Verify from slots file workers) = AsksForVerify words from slots file.now workers.number
 
@@ -52,6 +54,7 @@ Means task.Read = IsReadOutput
 Means (task.Pcap settings) = IsCapture settings
 Means (task.Tape wanted) = IsTapeOfCapture wanted
 Means task.Groups = IsGroupCount
+Means task.Texts = IsTextsOutput
 Means (task.Make run made) = IsMadeBy run made
 Means (task.Verify from slots file workers) = λ input output. ⊥
 
@@ -105,6 +108,10 @@ abbrev pub IsNoBook : (input : List ℕ) → Type 0
 IsNoBook input = (max_book < length input)
     ⊎ ((f : BookFault) × IsWrong input f × (status_of_book_fault f ≡ 1))
 
+-- the input is refused: it has more octets than a book may have, or a row that is none of a book
+abbrev pub IsNoRows : (input : List ℕ) → Type 0
+IsNoRows input = (max_book < length input) ⊎ ((f : BookFault) × IsRowFault input f)
+
 -- the input is refused as a network book, of which a group is asked for
 abbrev pub IsNoNetwork : (group : ℕ) (input : List ℕ) → Type 0
 IsNoNetwork group input = (max_network < length input)
@@ -145,6 +152,7 @@ RefusesOne task.Read = IsNoTapes
 RefusesOne (task.Pcap settings) = IsNoTapes
 RefusesOne (task.Tape wanted) = IsNoAir wanted
 RefusesOne task.Groups = IsNoNetwork 0
+RefusesOne task.Texts = IsNoRows
 RefusesOne (task.Make run made) = IsNoRunOf run.books run.slots run.sessions.number
 RefusesOne (task.Verify from slots file workers) = λ input. ⊥
 

@@ -40,6 +40,8 @@ pub enum Task<'a> {
     Tape(Wanted),
     /// `groups`.
     Groups,
+    /// `texts`.
+    Texts,
     /// `compile`, `live`, `report` or `chart`.
     Make {
         /// Which books are run, and how.
@@ -93,6 +95,7 @@ fn task_in<'a, S: AsStr>(words: &'a [S]) -> Option<Task<'a>>
             from: from_in(words)?,
         })),
         "groups" => Some(Task::Groups),
+        "texts" => Some(Task::Texts),
         "compile" => run_in(words, Product::Tapes, Sessions { number: 1 }),
         "live" => run_in(words, Product::Tapes, sessions_in(words)?),
         "report" => run_in(words, Product::Report, Sessions { number: 1 }),
@@ -410,6 +413,7 @@ fn warnc<'a>(alloc: Global) -> Result<Command<'a>, AllocError> {
         .subcommand(chart(alloc)?)?
         .subcommand(read(alloc))?
         .subcommand(verify(alloc)?)?
+        .subcommand(texts(alloc))?
         .subcommand(page(alloc)?)?
         .subcommand(live(alloc)?)?
         .subcommand(pcap(alloc)?)?
@@ -473,6 +477,13 @@ fn verify<'a>(alloc: Global) -> Result<Command<'a>, AllocError> {
         .arg(slots(alloc))?
         .arg(group(alloc))?
         .arg(workers(alloc))
+}
+
+/// The command line of `texts`.
+fn texts<'a>(alloc: Global) -> Command<'a> {
+    Command::new(alloc, "texts")
+        .about("Reads a book of alerts, as CSV, and writes what its texts cost: coding,\npages, and the room on the last one")
+        .after_help("Example: warnc texts < book.csv")
 }
 
 /// The command line of `page`.

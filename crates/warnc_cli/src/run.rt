@@ -16,6 +16,7 @@ use crate::command::{Task, asks_for_text, task_of};
 use crate::status::{DEVICE, DONE, MEMORY, REFUSED_INPUT, USAGE, failed, failed_with_book};
 use crate::unreadable::Unreadable;
 use alert_book::Origin;
+use book_texts::texts_stream;
 use cbs_page::Serial;
 use clap::Error;
 use clap::error::ErrorKind;
@@ -151,6 +152,7 @@ fn run_task<T: AllocGlobal + Threads + Wait + Sync, B: Read, R: Read, W: Write, 
         Task::Pcap(settings) => run_pcap(alloc, settings, source, sink, faults),
         Task::Tape(wanted) => run_tape(alloc, wanted, source, sink, faults),
         Task::Groups => run_groups(rt, source, sink, faults),
+        Task::Texts => run_texts(alloc, source, sink, faults),
         Task::Make { run, made } => run_books(rt, run, made, source, sink, faults),
         Task::Verify {
             origin,
@@ -258,6 +260,25 @@ fn run_groups<T: AllocGlobal + Threads + Sync, R: Read, W: Write, F: Write>(
     ensures ends { IsRunBetween Task.Groups result W.contents source.new sink.old sink.new }
 {
     match groups_stream(rt, source, sink) {
+        Ok(()) => DONE,
+        Err(fault) => failed(&fault, faults),
+    }
+}
+
+/// Runs `texts`, and returns the status.
+fn run_texts<R: Read, W: Write, F: Write>(
+    alloc: Global,
+    source: &mut Source<R>,
+    sink: &mut Sink<W>,
+    faults: &mut F,
+) -> u8
+    ensures done { IsDoneBy Task.Texts result R.remaining W.contents source.old sink.old sink.new }
+    ensures wrote { WroteSomeBy Task.Texts result W.contents sink.old sink.new }
+    ensures refused { IsRefusedBy Task.Texts result R.remaining source.old }
+    ensures front { WroteFrontBy Task.Texts result R.remaining W.contents source.old sink.old sink.new }
+    ensures ends { IsRunBetween Task.Texts result W.contents source.new sink.old sink.new }
+{
+    match texts_stream(alloc, source, sink) {
         Ok(()) => DONE,
         Err(fault) => failed(&fault, faults),
     }

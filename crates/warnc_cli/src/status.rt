@@ -3,9 +3,11 @@
 ghost use Rattle.std.specs.Prelude.{◌≡◌, ℕ};
 ghost use Rattle.warnc_cli.specs.Status.{status_of_book_fault, status_of_page_fault, status_of_pcap_fault};
 ghost use Rattle.warnc_cli.specs.Status.{status_of_product_fault, status_of_read_fault, status_of_run_fault};
-ghost use Rattle.warnc_cli.specs.Status.{status_of_tape_fault, status_of_tapes_fault, status_of_verify_fault};
+ghost use Rattle.warnc_cli.specs.Status.{status_of_tape_fault, status_of_tapes_fault, status_of_texts_fault};
+ghost use Rattle.warnc_cli.specs.Status.{status_of_verify_fault};
 
 use alert_book::{BookFault, BookFaultKind};
+use book_texts::TextsFault;
 use cbs_page::TextFault;
 use handset::TapeFault;
 use order_desk::{DeskFault, SettleFault};
@@ -118,6 +120,18 @@ impl Fault for TapeCommandFault {
             TapeCommandFault::TooLong | TapeCommandFault::Air(_) => REFUSED_INPUT,
             TapeCommandFault::ReadFailed | TapeCommandFault::WriteFailed => DEVICE,
             TapeCommandFault::Refused => MEMORY,
+        }
+    }
+}
+
+impl Fault for TextsFault {
+    ghost status_of = { status_of_texts_fault };
+
+    fn status(&self) -> u8 {
+        match *self {
+            TextsFault::TooLong | TextsFault::Row(_) => REFUSED_INPUT,
+            TextsFault::ReadFailed | TextsFault::WriteFailed => DEVICE,
+            TextsFault::Refused => MEMORY,
         }
     }
 }

@@ -1,0 +1,36 @@
+-- What a text costs: how many pages it takes, and what room its last one has. The alphabet and the pages are those of a
+-- text that is sent (3GPP TS 23.038, clauses 6.1.2.2, 6.2.1 and 6.2.3), but here a text may take any number of pages.
+use Rattle.std.specs.Prelude.{◌≡◌, ℕ, ◌-◌, Bool, not, is_some, List, [], ◌∷◌, length, Option, find, position, sum_by}
+use Rattle.gsm_alphabet.specs.Alphabet.{code_of}
+use Rattle.cbs_page.specs.Text.{alphabet_for, capacity, cost_of, IsPagingOf}
+use Rattle.cbs_page.specs.declared.coding.Alphabet.{Alphabet}
+use Rattle.book_texts.specs.declared.cost.TextCost.{TextCost}
+
+-- how many codes the last of some pieces takes, where the piece before them takes this many
+abbrev pub last_cost : (cost : ℕ → ℕ) (before : ℕ) → List (List ℕ) → ℕ
+last_cost cost before [] = before
+last_cost cost before (piece ∷ rest) = last_cost cost (sum_by cost piece) rest
+
+-- how many more codes the last page of a text has room for, which is cut into these pieces
+abbrev pub room_after : Alphabet → List (List ℕ) → ℕ
+room_after alphabet pieces = capacity alphabet - last_cost (cost_of alphabet) 0 pieces
+
+-- what a text costs: no text takes no page
+pub record IsCostOf (text : List ℕ) (cost : TextCost) : Type 0 where
+  pub alphabet : cost.alphabet ≡ alphabet_for text
+  pub characters : cost.characters ≡ length text
+  pub pieces : List (List ℕ)
+  pub paging : IsPagingOf text pieces
+  pub pages : cost.pages ≡ length pieces
+  pub room : cost.room ≡ room_after (alphabet_for text) pieces
+
+-- a character that GSM 7-bit lacks, so that a text with it is sent in UCS-2
+abbrev pub forces_ucs2 : ℕ → Bool
+forces_ucs2 character = not (is_some (code_of character))
+
+-- the first of a text's, and how many characters stand before it
+abbrev pub first_forcing : List ℕ → Option ℕ
+first_forcing text = find forces_ucs2 text
+
+abbrev pub place_of_forcing : List ℕ → Option ℕ
+place_of_forcing text = position forces_ucs2 text

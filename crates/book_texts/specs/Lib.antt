@@ -1,0 +1,5 @@
+pub mod Cost
+pub mod Fit
+pub mod FitSteps
+pub mod TextsOutput
+pub mod TextsSteps

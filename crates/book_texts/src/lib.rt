@@ -1,0 +1,15 @@
+//! What the texts of a book cost: the command `texts`, from a reader to a writer.
+//!
+//! [`cost_of_text`] says how many pages a text takes and what room the last one has, and [`first_forcing`] which
+//! character has it sent in UCS-2. [`texts_stream`] writes a line of that for each text of a book, also for those that
+//! can't be sent.
+#![tactic(auto)]
+
+mod cost;
+mod fit;
+mod table;
+mod texts;
+
+pub use fit::cut_for;
+pub use cost::{TextCost, cost_of_text, first_forcing, place_of_forcing};
+pub use texts::{TextsFault, texts_stream};

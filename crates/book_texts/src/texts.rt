@@ -1,0 +1,125 @@
+//! The command `texts`: a book to a table of what its texts cost.
+
+ghost use Rattle.std.specs.Prelude.{◌≡◌, ◌⊎◌, ◌≤◌, ◌+◌, ◌++◌, ℕ, List, length, IfErr, IfOk, OnOk};
+ghost use Rattle.device_ends.specs.Moves.{ConsumesSome};
+ghost use Rattle.device_ends.specs.Source.{reader_of};
+ghost use Rattle.device_ends.specs.Stream.{FaultOfInput, IsStreamBetween, OutputOfInput};
+ghost use Rattle.alert_book.specs.Book.{refused, IsRowFault};
+ghost use Rattle.book_texts.specs.TextsOutput.{header_line, AreLinesOf, IsTextsFault, IsTextsOutput, IsTextsWriteFault};
+ghost use Rattle.alert_book.specs.declared.fault.BookFault.{BookFault};
+ghost use Rattle.book_texts.specs.declared.texts.TextsFault.TheVariants as faults;
+
+use crate::table::Table;
+use alert_book::{BookFault, BookFaultKind, MAX_INPUT, Order, read_rows};
+use device_ends::{Failed, ReadFault, Sink, Source, read_up_to, write_all};
+use std::alloc::{AllocError, Global};
+use std::io::{Read, Write};
+use thiserror::Error;
+
+/// Why `texts` writes no table. If several of the first three apply, it is the first of them.
+#[derive(Clone, Copy, Debug, PartialEq, Eq, Error)]
+pub enum TextsFault {
+    /// The reader failed.
+    #[error("read failed")]
+    ReadFailed,
+    /// There are more than 16,777,216 octets.
+    #[error("book is too long")]
+    TooLong,
+    /// A row is none of a book: the first such row.
+    #[error("{0}")]
+    Row(BookFault),
+    /// Out of memory.
+    #[error("out of memory")]
+    Refused,
+    /// The writer failed. Some of the table may be out.
+    #[error("write failed")]
+    WriteFailed,
+}
+
+/// Reads a book, and writes a table of what its texts cost, as CSV: a row of the columns' names, and then a row for
+/// each order that sends a text, in order. The texts needn't be such as can be sent. With `pages` the last column is to
+/// how many characters each text is cut so that it takes that many pages at most ([`cut_for`](crate::cut_for)). Nothing
+/// is written before all of the table is made.
+///
+/// # Errors
+///
+/// The first [`TextsFault`] that applies, with nothing written but after `WriteFailed`.
+pub fn texts_stream<R: Read, W: Write>(
+    alloc: Global,
+    source: &mut Source<R>,
+    sink: &mut Sink<W>,
+    pages: Option<u16>,
+) -> Result<(), TextsFault>
+    // What was written is the table of the texts that were read, at any reader of some book.
+    ensures ok { OnOk result (OutputOfInput R.remaining W.contents (IsTextsOutput pages) source.old sink.old sink.new) }
+    ensures err { IfErr result (FaultOfInput R.remaining W.contents (IsTextsFault pages) source.old sink.old sink.new) }
+
+    // One octet past the bound is read at most.
+    ensures reads { ConsumesSome (R.remaining (reader_of source.old)) (R.remaining (reader_of source.new))
+        (MAX_INPUT + 1) }
+
+    // At any reader and any writer.
+    ensures any_ends { IsStreamBetween TextsFault.ReadFailed IsTextsWriteFault result W.contents source.old source.new
+        sink.old sink.new }
+{
+    let input = match read_up_to(source, alloc, MAX_INPUT) {
+        Ok(input) => input,
+        Err(ReadFault::Device) => return Err(TextsFault::ReadFailed),
+        Err(ReadFault::Refused) => return Err(TextsFault::Refused),
+    };
+    if input.len() > MAX_INPUT {
+        return Err(TextsFault::TooLong);
+    }
+    let output = match texts_output(alloc, &input, pages) {
+        Ok(output) => output,
+        Err(fault) => return Err(fault),
+    };
+    match write_all(sink, &output) {
+        Ok(()) => Ok(()),
+        Err(Failed) => Err(TextsFault::WriteFailed),
+    }
+}
+
+/// The table of a book's octets.
+fn texts_output(
+    alloc: Global,
+    input: &[u8],
+    pages: Option<u16>,
+) -> Result<Vec<u8>, TextsFault>
+    requires { length input.now ≤ 16777216 }
+    ensures ok { IfOk result (λ output. IsTextsOutput pages input.now output.items) }
+    ensures err { IfErr result (λ fault. (fault ≡ faults.Refused)
+        ⊎ ((f : BookFault) × (fault ≡ faults.Row f) × IsRowFault input.now f)) }
+{
+    let rows = match read_rows(alloc, input) {
+        Ok(rows) => rows,
+        Err(fault) => return Err(fault_of_row(fault)),
+    };
+    match table_of(alloc, rows.orders(), pages) {
+        Ok(output) => Ok(output),
+        Err(_) => Err(TextsFault::Refused),
+    }
+}
+
+/// The fault that a fault of a book's rows is.
+fn fault_of_row(fault: BookFault) -> TextsFault
+    ensures refused { fault ≡ refused → result ≡ faults.Refused }
+    ensures row { (result ≡ faults.Refused) ⊎ (result ≡ faults.Row fault) }
+{
+    match fault.kind {
+        BookFaultKind::Refused => TextsFault::Refused,
+        _ => TextsFault::Row(fault),
+    }
+}
+
+/// The table of orders.
+fn table_of(alloc: Global, orders: &[Order], pages: Option<u16>) -> Result<Vec<u8>, AllocError>
+    ensures { IfOk result (λ octets. (lines : List ℕ) × AreLinesOf pages orders.now lines
+        × (octets.items ≡ header_line pages ++ lines)) }
+{
+    let mut table = Table::new(alloc, pages)?;
+    for order in orders {
+        table.push_order(order, pages)?;
+    }
+    table.into_octets()
+}
