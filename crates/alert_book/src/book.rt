@@ -115,7 +115,7 @@ impl BookRows {
     pub fn orders(&self) -> &[Order]
         ensures { result.now ≡ self.now.orders }
     {
-        &self.orders
+        self.orders.as_slice()
     }
 
     /// Reads the row of this number.

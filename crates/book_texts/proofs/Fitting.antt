@@ -1,13 +1,13 @@
 -- How many pages a front takes, and which of the fronts is the best.
-use Rattle.std.proofs.Common.{◌≡◌, ◌≢◌, ◌⊎◌, ◌↔◌, ℕ, ◌+◌, ◌<◌, ◌≤◌, List, [], ◌∷◌, ◌++◌, length, take, refl, sym, ◌∙◌, ap}
+use Rattle.std.proofs.Common.{◌≡◌, ◌≢◌, ◌⊎◌, ◌↔◌, ℕ, ◌+◌, ◌<◌, ◌≤◌, List, [], ◌∷◌, ◌++◌, length, take, refl, sym, ◌∙◌}
+use Rattle.std.proofs.Common.{ap}
 use Rattle.std.proofs.Common.{Bool, true, false, inl, inr, subst, arith, append_assoc, append-nil, rules}
-use Rattle.std.specs.Prelude.{nat_le, get_or}
 use Rattle.std.proofs.lemmas.Bool.{cases_lt, le-leb, le-ltb, lt-leb, lt-ltb}
 use Rattle.std.proofs.lemmas.Bool.Decides.{leb_tells}
 use Rattle.cbs_page.proofs.Cutting.{count_from}
 use Rattle.cbs_page.proofs.PagingLaws.{one_paging}
 use Rattle.cbs_page.proofs.PaginateLaws.{has_pages}
-use Rattle.cbs_page.specs.Text.{alphabet_for, capacity, codes_of, cost_of, IsPagingOf}
+use Rattle.cbs_page.specs.Text.{alphabet_for, capacity, codes_of, cost_of}
 use Rattle.cbs_page.specs.declared.coding.Alphabet.{Alphabet}
 use Rattle.book_texts.specs.Fit.{ends_word, FitsIn, IsCut, IsWhole}
 use Rattle.book_texts.specs.FitSteps.{best_with, length_of_best, pages_from, HasFilled, IsBest}
@@ -65,13 +65,13 @@ fits_if_few alphabet text p pages is in_it filled some =
     let same = ap (λ xs. pages_from p.alphabet 0 xs) (append-nil text) in
     omega (arith, end, same) in
     let count : p.count ≡ length has.pieces =
-    all ∙ ap (λ (a : Alphabet). pages_from a 0 text) own ∙ same_count (alphabet_for text) 0 text ∙ has.count in
-    (
+    all ∙ ap (λ (a : Alphabet). pages_from a 0 text) own ∙ same_count (alphabet_for text) 0 text ∙ has.count in (
       λ few. (has.pieces, has.paging, omega (arith, count, few)),
       λ fits.
-      let one : fits.0 ≡ has.pieces =
-      one_paging (cost_of (alphabet_for text)) (capacity (alphabet_for text)) text fits.0 has.pieces fits.1 has.paging in
-      omega (arith, count, fits.2, ap length one),
+          let one : fits.0 ≡ has.pieces =
+          one_paging (cost_of (alphabet_for text)) (capacity (alphabet_for text)) text fits.0 has.pieces fits.1
+          has.paging in
+          omega (arith, count, fits.2, ap length one),
     )
 
 -- no text takes no page

@@ -1,5 +1,6 @@
 -- What was read up to one octet past the bound is the whole book, or too long as the whole input is.
-use Rattle.std.proofs.Common.{◌≡◌, ◌⊎◌, ℕ, ◌+◌, ◌<◌, ◌≤◌, List, length, take, min, arith, subst, sym, Option, Some, None, ap}
+use Rattle.std.proofs.Common.{◌≡◌, ◌⊎◌, ℕ, ◌+◌, ◌<◌, ◌≤◌, List, length, take, min, arith, subst, sym, Option, Some}
+use Rattle.std.proofs.Common.{None, ap}
 use Rattle.std.proofs.Common.{◌∙◌, IfSome, inl, inr}
 use Rattle.std.specs.Io.KnownBytes.{Keeps}
 use Rattle.std.proofs.lemmas.List.{length-take, take_all}
@@ -31,7 +32,8 @@ abbrev pub IsRowOrMemory : List ℕ → TextsFault → Type 0
 IsRowOrMemory read f = (f ≡ fault.Refused) ⊎ ((b : BookFault) × (f ≡ fault.Row b) × IsRowFault read b)
 
 -- it is a fault of the whole input
-pub fault_of_read : (pages : Option ℕ) (left : Option (List ℕ)) (read given : List ℕ) (old new : Option (List ℕ)) (f : TextsFault)
+pub fault_of_read : (pages : Option ℕ) (left : Option (List ℕ)) (read given : List ℕ) (old new : Option (List ℕ))
+    (f : TextsFault)
     → IfSome left (λ input. read ≡ take (max_book + 1) input)
     → given ≡ read
     → length read ≤ max_book

@@ -1,5 +1,6 @@
 -- What `warnc texts` makes of a book: a table of what the texts of its orders cost, as CSV. Own.
-use Rattle.std.specs.Prelude.{◌≡◌, ℕ, ◌<◌, ◌≤◌, List, [], ◌∷◌, ◌++◌, length, Option, None, Some, codes, encode_utf8, is_some}
+use Rattle.std.specs.Prelude.{◌≡◌, ℕ, ◌<◌, ◌≤◌, List, [], ◌∷◌, ◌++◌, length, Option, None, Some, codes, encode_utf8}
+use Rattle.std.specs.Prelude.{is_some}
 use Rattle.std.specs.Prelude.{if◌then◌else◌, position, Bool}
 use Rattle.std.specs.Fmt.{decimal}
 use Rattle.std.specs.Io.KnownBytes.{Keeps}
@@ -12,7 +13,6 @@ use Rattle.cbs_page.specs.declared.coding.Alphabet.TheVariants.{Gsm, Ucs2}
 use Rattle.alert_book.specs.Book.{max_book, sending_of, AreRowsOf, IsRowFault, Rows}
 use Rattle.alert_book.specs.declared.book.order.Order.{Order}
 use Rattle.alert_book.specs.declared.book.order.Sending.{Sending}
-use Rattle.alert_book.specs.declared.fault.BookFault.{BookFault}
 use Rattle.book_texts.specs.Cost.{first_forcing, place_of_forcing, IsCostOf}
 use Rattle.book_texts.specs.Fit.{IsCut}
 use Rattle.book_texts.specs.declared.cost.TextCost.{TextCost}
@@ -96,8 +96,8 @@ pub record IsTextsOutput (pages : Option ℕ) (input output : List ℕ) : Type 0
   pub lines_are : AreLinesOf pages rows.orders lines
   pub written : output ≡ header_line pages ++ lines
 
--- why no table is written: the input is too long, or a row has a fault, the first of them; or out of memory, or a device
--- failed; after a fault of the writer a front of the table is out, and after any other fault nothing is
+-- why no table is written: the input is too long, or a row has a fault, the first of them; or out of memory, or a
+-- device failed; after a fault of the writer a front of the table is out, and after any other fault nothing is
 abbrev pub IsTextsFault : (pages : Option ℕ) (input : List ℕ) (old new : Option (List ℕ)) → TextsFault → Type 0
 IsTextsFault pages input old new fault.TooLong = (max_book < length input) × Keeps old new
 IsTextsFault pages input old new (fault.Row f) = (length input ≤ max_book) × IsRowFault input f × Keeps old new

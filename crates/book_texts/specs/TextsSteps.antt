@@ -1,8 +1,8 @@
 -- Steps of a table of texts (own): how far pages are filled, and what a table holds as it is written. The contracts of
 -- private functions alone speak of it.
-use Rattle.std.specs.Prelude.{◌≡◌, ◌≤◌, ℕ, List, length, Some, false}
+use Rattle.std.specs.Prelude.{◌≡◌, ℕ, List, length, Some, false}
 use Rattle.csv.specs.Writing.{default_writer, fields_written, has_written, text_written, writer_setup}
-use Rattle.cbs_page.specs.Text.{capacity, cost_of, IsPagingIn}
+use Rattle.cbs_page.specs.Text.{cost_of, IsPagingIn}
 use Rattle.cbs_page.specs.declared.coding.Alphabet.{Alphabet}
 use Rattle.book_texts.specs.Cost.{last_cost}
 use Rattle.book_texts.specs.declared.cost.Filling.{Filling}

@@ -10,6 +10,6 @@ mod fit;
 mod table;
 mod texts;
 
-pub use fit::cut_for;
 pub use cost::{TextCost, cost_of_text, first_forcing, place_of_forcing};
+pub use fit::cut_for;
 pub use texts::{TextsFault, texts_stream};

@@ -81,11 +81,7 @@ pub fn texts_stream<R: Read, W: Write>(
 }
 
 /// The table of a book's octets.
-fn texts_output(
-    alloc: Global,
-    input: &[u8],
-    pages: Option<u16>,
-) -> Result<Vec<u8>, TextsFault>
+fn texts_output(alloc: Global, input: &[u8], pages: Option<u16>) -> Result<Vec<u8>, TextsFault>
     requires { length input.now ≤ 16777216 }
     ensures ok { IfOk result (λ output. IsTextsOutput pages input.now output.items) }
     ensures err { IfErr result (λ fault. (fault ≡ faults.Refused)

@@ -1,5 +1,6 @@
 pub mod WordLaws
 pub mod SomeTape
+pub mod NoRows
 pub mod NoRun
 pub mod Statuses
 pub mod NotVerified

@@ -22,7 +22,7 @@ writes task.Read book input old new one wrote = wrote
 writes (task.Pcap settings) book input old new one wrote = wrote
 writes (task.Tape wanted) book input old new one wrote = wrote
 writes task.Groups book input old new one wrote = wrote
-writes task.Texts book input old new one wrote = wrote
+writes (task.Texts pages) book input old new one wrote = wrote
 writes (task.Make run made) book input old new one wrote = wrote
 
 -- what it refuses
@@ -34,7 +34,7 @@ refuses task.Read book input one refused = refused
 refuses (task.Pcap settings) book input one refused = refused
 refuses (task.Tape wanted) book input one refused = refused
 refuses task.Groups book input one refused = refused
-refuses task.Texts book input one refused = refused
+refuses (task.Texts pages) book input one refused = refused
 refuses (task.Make run made) book input one refused = refused
 
 -- the first groups that it wrote
@@ -46,7 +46,7 @@ groups task.Read book input old new wrote = wrote
 groups (task.Pcap settings) book input old new wrote = wrote
 groups (task.Tape wanted) book input old new wrote = wrote
 groups task.Groups book input old new wrote = wrote
-groups task.Texts book input old new wrote = wrote
+groups (task.Texts pages) book input old new wrote = wrote
 groups (task.Make run made) book input old new wrote = wrote
 
 -- nothing, or the first groups

@@ -23,7 +23,7 @@ of_one_input words task.Read asked other = tt
 of_one_input words (task.Pcap settings) asked other = tt
 of_one_input words (task.Tape wanted) asked other = tt
 of_one_input words task.Groups asked other = tt
-of_one_input words task.Texts asked other = tt
+of_one_input words (task.Texts pages) asked other = tt
 of_one_input words (task.Make run made) asked other = tt
 
 -- what a task may have written, its words say that it may
@@ -47,8 +47,8 @@ may_write words (task.Tape wanted) status asked (inl done) = inl done
 may_write words (task.Tape wanted) status asked (inr device) = inr (inl device)
 may_write words task.Groups status asked (inl done) = inl done
 may_write words task.Groups status asked (inr device) = inr (inl device)
-may_write words task.Texts status asked (inl done) = inl done
-may_write words task.Texts status asked (inr device) = inr (inl device)
+may_write words (task.Texts pages) status asked (inl done) = inl done
+may_write words (task.Texts pages) status asked (inr device) = inr (inl device)
 
 -- a book's report is headed, and so is a network's
 headed : (words : List (List ℕ)) (b : Books) → GivesBooks words b → is_given words (codes "--group") ≡ false
@@ -85,4 +85,4 @@ writes_some words task.Read asked compile live report = tt
 writes_some words (task.Pcap settings) asked compile live report = tt
 writes_some words (task.Tape wanted) asked compile live report = tt
 writes_some words task.Groups asked compile live report = tt
-writes_some words task.Texts asked compile live report = tt
+writes_some words (task.Texts pages) asked compile live report = tt

@@ -61,9 +61,15 @@ pub record AsksForPage (words : List (List ℕ)) (language : List ℕ) (id seria
 abbrev pub AsksForRead : (words : List (List ℕ)) → Type 0
 AsksForRead words = slice_get words 1 ≡ Some (codes "read")
 
+-- the words give the number of pages for which texts are cut, or none
+abbrev pub GivesPages : (words : List (List ℕ)) → Option ℕ → Type 0
+GivesPages words None = is_given words (codes "--pages") ≡ false
+GivesPages words (Some pages) = GivesNumber words (codes "--pages") pages
+
 -- the words ask for `texts`
-abbrev pub AsksForTexts : (words : List (List ℕ)) → Type 0
-AsksForTexts words = slice_get words 1 ≡ Some (codes "texts")
+pub record AsksForTexts (words : List (List ℕ)) (pages : Option ℕ) : Type 0 where
+  pub command : slice_get words 1 ≡ Some (codes "texts")
+  pub pages_given : GivesPages words pages
 
 -- the words ask for `groups`
 abbrev pub AsksForGroups : (words : List (List ℕ)) → Type 0

@@ -41,7 +41,7 @@ IsTaskOf words task.Read = AsksForRead words
 IsTaskOf words (task.Pcap settings) = AsksForPcap words settings
 IsTaskOf words (task.Tape wanted) = AsksForTape words wanted
 IsTaskOf words task.Groups = AsksForGroups words
-IsTaskOf words task.Texts = AsksForTexts words
+IsTaskOf words (task.Texts pages) = AsksForTexts words pages
 IsTaskOf words (task.Make run made) = AsksForRun words run made
 IsTaskOf words (task.Verify from slots file workers) = AsksForVerify words from slots file.now workers.number
 
@@ -54,7 +54,7 @@ Means task.Read = IsReadOutput
 Means (task.Pcap settings) = IsCapture settings
 Means (task.Tape wanted) = IsTapeOfCapture wanted
 Means task.Groups = IsGroupCount
-Means task.Texts = IsTextsOutput
+Means (task.Texts pages) = IsTextsOutput pages
 Means (task.Make run made) = IsMadeBy run made
 Means (task.Verify from slots file workers) = λ input output. ⊥
 
@@ -152,7 +152,7 @@ RefusesOne task.Read = IsNoTapes
 RefusesOne (task.Pcap settings) = IsNoTapes
 RefusesOne (task.Tape wanted) = IsNoAir wanted
 RefusesOne task.Groups = IsNoNetwork 0
-RefusesOne task.Texts = IsNoRows
+RefusesOne (task.Texts pages) = IsNoRows
 RefusesOne (task.Make run made) = IsNoRunOf run.books run.slots run.sessions.number
 RefusesOne (task.Verify from slots file workers) = λ input. ⊥
 

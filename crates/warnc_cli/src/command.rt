@@ -5,7 +5,7 @@ ghost use Rattle.std.specs.Prelude.{slice_get};
 ghost use Rattle.warnc_cli.specs.CommandLine.{asks_for_text, begins_with, is_given, is_text_word, GivesNumber};
 ghost use Rattle.warnc_cli.specs.CommandLine.{GivesChannel, GivesSlots, GivesThreads, GivesValue};
 ghost use Rattle.warnc_cli.specs.CommandLine.{GivesCell, GivesFrom, GivesWanted, IsAddress, IsCell, IsNumber};
-ghost use Rattle.warnc_cli.specs.CommandLine.{slots_given, GivesBooks, GivesOrigin, GivesProduct};
+ghost use Rattle.warnc_cli.specs.CommandLine.{slots_given, GivesBooks, GivesOrigin, GivesPages, GivesProduct};
 ghost use Rattle.warnc_cli.specs.Tasks.{IsTaskOf};
 
 use alert_book::Origin;
@@ -41,7 +41,10 @@ pub enum Task<'a> {
     /// `groups`.
     Groups,
     /// `texts`.
-    Texts,
+    Texts {
+        /// For how many pages each text is cut.
+        pages: Option<u16>,
+    },
     /// `compile`, `live`, `report` or `chart`.
     Make {
         /// Which books are run, and how.
@@ -95,7 +98,9 @@ fn task_in<'a, S: AsStr>(words: &'a [S]) -> Option<Task<'a>>
             from: from_in(words)?,
         })),
         "groups" => Some(Task::Groups),
-        "texts" => Some(Task::Texts),
+        "texts" => Some(Task::Texts {
+            pages: pages_in(words)?,
+        }),
         "compile" => run_in(words, Product::Tapes, Sessions { number: 1 }),
         "live" => run_in(words, Product::Tapes, sessions_in(words)?),
         "report" => run_in(words, Product::Report, Sessions { number: 1 }),
@@ -174,6 +179,17 @@ fn cell_in<S: AsStr>(words: &[S]) -> Option<Cell>
     ensures { IfSome result (GivesCell (map S.text words.now)) }
 {
     cell_of(value_of(words, "--cell")?)
+}
+
+/// The number of pages for which texts are cut, if the words give one.
+fn pages_in<S: AsStr>(words: &[S]) -> Option<Option<u16>>
+    ensures { IfSome result (GivesPages (map S.text words.now)) }
+{
+    if !is_given(words, "--pages") {
+        return Some(None);
+    }
+    let pages = number_of(words, "--pages")?;
+    Some(Some(pages))
 }
 
 /// The one cell that the words want, if they want one.
@@ -413,7 +429,7 @@ fn warnc<'a>(alloc: Global) -> Result<Command<'a>, AllocError> {
         .subcommand(chart(alloc)?)?
         .subcommand(read(alloc))?
         .subcommand(verify(alloc)?)?
-        .subcommand(texts(alloc))?
+        .subcommand(texts(alloc)?)?
         .subcommand(page(alloc)?)?
         .subcommand(live(alloc)?)?
         .subcommand(pcap(alloc)?)?
@@ -480,10 +496,13 @@ fn verify<'a>(alloc: Global) -> Result<Command<'a>, AllocError> {
 }
 
 /// The command line of `texts`.
-fn texts<'a>(alloc: Global) -> Command<'a> {
+fn texts<'a>(alloc: Global) -> Result<Command<'a>, AllocError> {
     Command::new(alloc, "texts")
-        .about("Reads a book of alerts, as CSV, and writes what its texts cost: coding,\npages, and the room on the last one")
-        .after_help("Example: warnc texts < book.csv")
+        .about(
+            "Reads a book of alerts, as CSV, and writes what each text of it costs:\nits coding, its pages, and what forces UCS-2, as CSV",
+        )
+        .after_help("Example: warnc texts --pages 2 < book.csv")
+        .arg(pages(alloc))
 }
 
 /// The command line of `page`.
@@ -628,6 +647,17 @@ fn language<'a>(alloc: Global) -> Arg<'a> {
         "LANGUAGE",
         "The text's language: de, en, it, fr, es, nl, sv, da,\npt, fi, no, el, tr, hu, pl, und, cs, he, ar, ru or is",
     )
+}
+
+/// The option of the number of pages.
+fn pages<'a>(alloc: Global) -> Arg<'a> {
+    optional(
+        alloc,
+        "pages",
+        "PAGES",
+        "Writes, too, to how many characters each text is cut\nso that it takes so many pages at most, 1 to 15",
+    )
+    .value_parser(value_parser!(u16).range(1..=15))
 }
 
 /// The option of the message identifier.

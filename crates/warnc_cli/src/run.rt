@@ -152,7 +152,7 @@ fn run_task<T: AllocGlobal + Threads + Wait + Sync, B: Read, R: Read, W: Write, 
         Task::Pcap(settings) => run_pcap(alloc, settings, source, sink, faults),
         Task::Tape(wanted) => run_tape(alloc, wanted, source, sink, faults),
         Task::Groups => run_groups(rt, source, sink, faults),
-        Task::Texts => run_texts(alloc, source, sink, faults),
+        Task::Texts { pages } => run_texts(alloc, pages, source, sink, faults),
         Task::Make { run, made } => run_books(rt, run, made, source, sink, faults),
         Task::Verify {
             origin,
@@ -268,17 +268,18 @@ fn run_groups<T: AllocGlobal + Threads + Sync, R: Read, W: Write, F: Write>(
 /// Runs `texts`, and returns the status.
 fn run_texts<R: Read, W: Write, F: Write>(
     alloc: Global,
+    pages: Option<u16>,
     source: &mut Source<R>,
     sink: &mut Sink<W>,
     faults: &mut F,
 ) -> u8
-    ensures done { IsDoneBy Task.Texts result R.remaining W.contents source.old sink.old sink.new }
-    ensures wrote { WroteSomeBy Task.Texts result W.contents sink.old sink.new }
-    ensures refused { IsRefusedBy Task.Texts result R.remaining source.old }
-    ensures front { WroteFrontBy Task.Texts result R.remaining W.contents source.old sink.old sink.new }
-    ensures ends { IsRunBetween Task.Texts result W.contents source.new sink.old sink.new }
+    ensures done { IsDoneBy (Task.Texts pages) result R.remaining W.contents source.old sink.old sink.new }
+    ensures wrote { WroteSomeBy (Task.Texts pages) result W.contents sink.old sink.new }
+    ensures refused { IsRefusedBy (Task.Texts pages) result R.remaining source.old }
+    ensures front { WroteFrontBy (Task.Texts pages) result R.remaining W.contents source.old sink.old sink.new }
+    ensures ends { IsRunBetween (Task.Texts pages) result W.contents source.new sink.old sink.new }
 {
-    match texts_stream(alloc, source, sink) {
+    match texts_stream(alloc, source, sink, pages) {
         Ok(()) => DONE,
         Err(fault) => failed(&fault, faults),
     }

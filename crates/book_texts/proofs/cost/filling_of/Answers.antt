@@ -4,7 +4,7 @@ use Rattle.std.proofs.lemmas.Iterator.{YieldsList-from_chars}
 use Rattle.std.proofs.lemmas.Iterator.Consumers.{YieldsList-turn, YieldsList-end}
 use Rattle.std.proofs.lemmas.List.{length_push, at_drop_all, nil_from_length}
 use Rattle.cbs_page.proofs.Cutting.{count_from}
-use Rattle.cbs_page.specs.Text.{capacity, codes_of, cost_of}
+use Rattle.cbs_page.specs.Text.{capacity, codes_of}
 use Rattle.cbs_page.proofs.CuttingLaws.{count-takes, count-begins}
 use Rattle.cbs_page.proofs.PaginateLaws.{has_pages}
 use Rattle.cbs_page.specs.declared.coding.Alphabet.{Alphabet}
@@ -109,7 +109,8 @@ returns-else-characters-eq0-clause-filled c =
     c.loop-character.yielded_by _ _ c.in-None.is c.next.ensures.steps in
     at_end c.args.alphabet (chars c.args.text.now) _ _ _ _ c.loop-character.invariant.characters
     (omega (arith, ended.1)) c.loop-character.invariant.counted c.loop-character.invariant.last
-    (nothing_in _ _ _ c.loop-character.invariant.characters (omega (arith, ended.1)) (search (rules, c.if-characters-eq0.false)))
+    (nothing_in _ _ _ c.loop-character.invariant.characters (omega (arith, ended.1))
+    (search (rules, c.if-characters-eq0.false)))
 
 pub returns-then-characters-eq0-clause-filled : goal.returns-then-characters-eq0-clause-filled
 returns-then-characters-eq0-clause-filled c =

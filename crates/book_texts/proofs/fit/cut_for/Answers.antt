@@ -1,6 +1,6 @@
-use Rattle.std.proofs.Common.{◌≡◌, ◌+◌, ◌++◌, ◌∷◌, ◌≤◌, [], ℕ, List, ap, arith, length, refl, subst, sym, take, true, ◌∙◌}
+use Rattle.std.proofs.Common.{◌≡◌, ◌+◌, ◌++◌, ◌∷◌, [], ℕ, List, ap, arith, length, subst, sym, take, true}
+use Rattle.std.proofs.Common.{◌∙◌}
 use Rattle.std.specs.Str.{chars}
-use Rattle.std.specs.Prelude.{get_or}
 use Rattle.std.proofs.Math.ListN.{get_or-eq_default}
 use Rattle.std.proofs.lemmas.Iterator.{YieldsList-from_chars}
 use Rattle.std.proofs.lemmas.Iterator.Consumers.{YieldsList-turn, YieldsList-end}
@@ -47,4 +47,5 @@ returns c =
     c.loop-character.invariant.characters (omega (arith, ended.1)) (omega (arith, ended.1))
     (c.fits-2.ensures (take n text) c.loop-character.invariant.taken) gap c.with.ensures
     c.loop-character.invariant.best in
-    subst (λ (k : ℕ). IsCut c.args.pages text k) (sym c.length.ensures) (cut_at_best c.args.pages text c.with.result best)
+    subst (λ (k : ℕ). IsCut c.args.pages text k) (sym c.length.ensures)
+    (cut_at_best c.args.pages text c.with.result best)

@@ -14,13 +14,16 @@ loop-order-preserved c =
     let orders : take c.loop-order.order-index c.args.orders.now ++ c.order-item.result ∷ []
     ≡ take (c.loop-order.order-index + 1) c.args.orders.now =
     ap (λ (o : Order). take c.loop-order.order-index c.args.orders.now ++ o ∷ []) c.order-item.is
-    ∙ sym (take_more c.args.orders.now c.loop-order.order-index c.order-item.result (omega (arith,
-    c.loop-order-test.true))) in
-    (
+    ∙ sym (take_more c.args.orders.now c.loop-order.order-index c.order-item.result (omega (
+      arith,
+      c.loop-order-test.true,
+    ))) in (
       had.0 ++ line.0,
       subst (λ (xs : List Order). AreLinesOf c.args.pages xs (had.0 ++ line.0)) orders
-          (one_line_more c.args.pages (take c.loop-order.order-index c.args.orders.now) c.order-item.result had.0 line.0 had.1 line.1),
-      subst (λ (xs : List ℕ). IsTable c.push_order.new.self xs) (append_assoc (header_line c.args.pages) had.0 line.0) line.2,
+          (one_line_more c.args.pages (take c.loop-order.order-index c.args.orders.now) c.order-item.result had.0
+          line.0 had.1 line.1),
+      subst (λ (xs : List ℕ). IsTable c.push_order.new.self xs) (append_assoc (header_line c.args.pages) had.0 line.0)
+          line.2,
     )
 
 pub returns : goal.returns

@@ -8,5 +8,6 @@ returns-then-len-gt-MAX_INPUT-clause-err g c =
 
 pub returns-in-Err-clause-err : goal.returns-in-Err-clause-err
 returns-in-Err-clause-err g c =
-    fault_of_read c.args.pages _ c.in-Ok.input.items c.deref.result.now _ _ c.in-Err.fault c.in-Ok.ensures.value c.deref.ensures.value
+    fault_of_read c.args.pages _ c.in-Ok.input.items c.deref.result.now _ _ c.in-Err.fault c.in-Ok.ensures.value
+    c.deref.ensures.value
     (omega arith) c.in-Err.ensures.err (search rules)

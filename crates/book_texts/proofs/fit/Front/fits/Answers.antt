@@ -1,4 +1,5 @@
-use Rattle.std.proofs.Common.{◌≡◌, ◌≢◌, ◌↔◌, ◌≤◌, ℕ, Bool, true, false, List, [], length, refl, sym, ◌∙◌, ap, arith, subst, rules}
+use Rattle.std.proofs.Common.{◌≡◌, ◌≢◌, ℕ, true, false, List, [], length, refl, sym, ◌∙◌, ap}
+use Rattle.std.proofs.Common.{subst, rules}
 use Rattle.std.specs.Prelude.{is_some}
 use Rattle.std.specs.List.{list_all}
 use Rattle.std.proofs.lemmas.Bool.{le-leb, leb-true}
@@ -7,8 +8,6 @@ use Rattle.gsm_alphabet.specs.Alphabet.{code_of}
 use Rattle.cbs_page.specs.Text.{alphabet_for}
 use Rattle.cbs_page.specs.declared.coding.Alphabet.TheVariants as alphabet
 use Rattle.book_texts.specs.Fit.{FitsIn}
-use Rattle.book_texts.specs.FitSteps.{HasTaken}
-use Rattle.book_texts.specs.declared.fit.Front.{Front}
 use Rattle.book_texts.proofs.Fitting.{fits_if_few, fits_nothing}
 use Rattle.book_texts.proofs.fit.Front.fits.Goals as goal
 

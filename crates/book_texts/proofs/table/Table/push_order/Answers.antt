@@ -1,4 +1,4 @@
-use Rattle.std.proofs.Common.{◌≡◌, List, ℕ, Option, Some, rules, subst}
+use Rattle.std.proofs.Common.{◌≡◌, List, ℕ, Some, rules, subst}
 use Rattle.std.specs.Str.{chars}
 use Rattle.std.proofs.lemmas.Result.{on_ok_weaker}
 use Rattle.alert_book.specs.Book.{sending_of}

@@ -1,0 +1,10 @@
+//! Tests of `book_texts` by its public calls, as tables of lines: what texts cost and where they are cut, tables of
+//! books octet for octet, ends that fail, and refused memory.
+#![tactic(auto)]
+
+#[cfg(test)]
+mod memory;
+#[cfg(test)]
+mod rows;
+#[cfg(test)]
+mod tables;
