@@ -88,11 +88,11 @@ def processors():
     return len(os.sched_getaffinity(0))
 
 
-def lanes():
+def lanes(memory=MEMORY):
     """Returns how many checks run at a time: one a processor, and no more than memory holds."""
     with open("/proc/meminfo", encoding="ascii") as lines:
         free = next(int(line.split()[1]) for line in lines if line.startswith("MemAvailable:")) << 10
-    return max(1, min(processors(), free // MEMORY))
+    return max(1, min(processors(), free // memory))
 
 
 class Progress:

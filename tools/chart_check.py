@@ -13,6 +13,7 @@ bars, and no element that the program didn't write, whatever the texts say.
 import csv
 import html.parser
 import io
+import itertools
 import os
 import random
 import re
@@ -20,6 +21,8 @@ import shutil
 import subprocess
 import sys
 import tempfile
+
+from books import GROUP, Alert, Sending, cell_line, random_orders
 
 SCALE = 232792560
 ELEMENTS = set("html head meta title style body h1 p details summary div b i bdi svg desc rect path span br".split())
@@ -34,8 +37,6 @@ TOP = os.path.dirname(os.path.dirname(os.path.realpath(__file__)))
 SLOTS_BY_HAND = 48
 # how many charts a browser opens, which takes it over a second each
 BROWSED = 10
-# how many cells a group of a network has at most
-GROUP = 64
 
 
 class Page(html.parser.HTMLParser):
@@ -100,25 +101,18 @@ def rows_of(program, words, given):
 
 def random_book(chance, most_cells=4):
     """Returns a book of one to so many cells and of some orders, whose texts are hostile."""
-    cells = [f"1-{ci}" for ci in range(1, 1 + chance.randint(1, most_cells))]
-    lines = [f"cell,1,{cell[2:]}" for cell in cells]
-    names, at = [], 0
-    for number in range(chance.randint(1, 25)):
-        at += chance.choice((0, 0, 1, 2, 7))
-        where = chance.choice(("*", cells[0], cells[-1]))
+    cells = [(1, ci) for ci in range(1, 1 + chance.randint(1, most_cells))]
+
+    def sending():
         text = chance.choice(TEXTS)
-        quoted = '"' + text.replace('"', '""') + '"'
-        language = "ru" if text.startswith("В") else "en"
-        order = f"{language},{chance.randint(0, 2)},{chance.randint(1, 9)},{chance.choice((0, 0, 3))}"
-        verb = chance.choice(("write", "write", "update", "stop")) if names else "write"
-        if verb == "write":
-            names.append(f"n{number}")
-            lines.append(f"write,{at},n{number},{4370 + number % 5},0,{number},{order},{where},{quoted}")
-        elif verb == "update":
-            lines.append(f"update,{at},{chance.choice(names)},{order},{where},{quoted}")
-        else:
-            lines.append(f"stop,{at},{chance.choice(names)},{where}")
-    return "\n".join(lines) + "\n"
+        return Sending("ru" if text.startswith("В") else "en", chance.randint(0, 2), chance.randint(1, 9),
+                             chance.choice((0, 0, 3)), text)
+
+    slots = itertools.accumulate(chance.choice((0, 0, 1, 2, 7)) for _ in range(chance.randint(1, 25)))
+    orders = random_orders(
+        chance, slots, lambda number: Alert(f"n{number}", 4370 + number % 5, 0, number), sending,
+        lambda: chance.choice((None, cells[:1], cells[-1:])))
+    return "".join([*map(cell_line, cells), *(it.line() for it in orders)])
 
 
 def expected(rows, shown):

@@ -1,28 +1,54 @@
 #!/usr/bin/env python3
-"""Checks that the man page and the completions name the commands and options that the program takes, and no others.
+"""Writes the texts that list the commands and options of the program, by what its source says of them to clap.
 
-Usage: command_line.py              compares them with crates/warnc_cli/src/command.rt, which describes them to clap
-       command_line.py PROGRAM      compares with that description also what the --help of a built program lists
+Usage: command_line.py              says which texts are stale, and fails if one is
+       command_line.py --write      writes them
+       command_line.py PROGRAM      says also where the --help of a built program isn't as the source has it
        command_line.py --help       prints this
+
+The source is crates/warnc_cli/src/command.rt. The completions are written whole. Of the man page, docs/warnc.1, the
+commands are put in the program's order and their options are written; what stands between the heading of a command and
+its options stays, and a new command gets the line of its --help there. Of docs/usage.md the table of commands is
+written.
 """
 import os
 import re
 import subprocess
 import sys
+import textwrap
+from dataclasses import dataclass, field
 
 TOP = os.path.dirname(os.path.dirname(os.path.realpath(__file__)))
 SOURCE = "crates/warnc_cli/src/command.rt"
+STRING = r'"((?:[^"\\]|\\.)*)"'
+HELP = ("help", "Prints what a command takes")
+# a range of up to this many numbers is listed in completions
+FEW = 16
+WIDTH = 120
 
-# Of each text: how a command and what is said of it stand there, and how the list of all commands does.
-TEXTS = {
-    "docs/warnc.1": (r"^\.SS (\w+)\n(.*?)(?=^\.S[SH])", r"^\.SS (\w+)"),
-    "tools/completions/warnc.bash": (r"^ +(\w+)\) words=\"(.*?)\" ;;", r"words=\"([a-z ]+) -h --help -V --version\""),
-    "tools/completions/_warnc": (r"^    (\w+)\)\n(.*?);;", r"^    '([a-z]+):"),
-    "tools/completions/warnc.fish": (
-        r"^complete -c warnc -n '__fish_seen_subcommand_from (\w+)'([^\n]*)", r"__fish_use_subcommand -a (\w+)"),
-}
-# An option as it is typed, or as fish has it.
-OPTION = r"(?<![\w-])(?:--|-l )(\w[\w-]*)"
+
+@dataclass
+class Option:
+    """An option as clap is told of it."""
+
+    name: str
+    value: str
+    text: str
+    is_required: bool
+    excludes: list
+    choices: list
+
+
+@dataclass
+class Command:
+    """A command as clap is told of it."""
+
+    name: str
+    text: str
+    options: list = field(default_factory=list)
+
+
+# --- The source ---
 
 
 def read(path):
@@ -30,87 +56,346 @@ def read(path):
         return it.read()
 
 
+def fail(text):
+    sys.exit(f"tools/command_line.py: {SOURCE} {text}")
+
+
 def only(pattern, text):
     """Returns what a pattern finds in a part of the source, where it has to be once."""
     found = re.findall(pattern, text, re.M | re.S)
     if len(found) != 1:
-        sys.exit(f"tools/command_line.py: {SOURCE} has '{pattern}' {len(found)} times in:\n{text}")
+        fail(f"has '{pattern}' {len(found)} times in:\n{text}")
     return found[0]
+
+
+def plain(string):
+    """Returns what a string of the source says, in one line."""
+    return " ".join(string.replace('\\"', '"').replace("\\n", " ").split())
 
 
 def given(body, method):
     """Returns the functions whose results a body gives to a method of clap; each call has to be of that form."""
     names = re.findall(rf"\.{method}\((\w+)\(alloc\)", body)
     if len(names) != body.count(f".{method}("):
-        sys.exit(f"tools/command_line.py: {SOURCE} calls {method} in a form that isn't known:\n{body}")
+        fail(f"calls {method} in a form that isn't known:\n{body}")
     return names
 
 
+def choices_of(text, body):
+    """Returns the values that an option has, if they are few: those of a short range, or words after a colon."""
+    bounds = re.search(r"\.\s*range\((\d+)\.\.=(\d+)\)", body)
+    if bounds:
+        least, most = map(int, bounds.groups())
+        return [str(it) for it in range(least, most + 1)] if most - least < FEW else []
+    words = re.split(r", | or ", text.partition(": ")[2])
+    return words if len(words) > 1 and all(re.fullmatch("[a-z]+", it) for it in words) else []
+
+
+def option_of(body):
+    kind, said = only(rf"\b(option|optional|threads|flag)\(\s*alloc,((?:\s*{STRING},?)+)\s*\)", body)[:2]
+    name, *value, text = (plain(it) for it in re.findall(STRING, said))
+    excludes = re.findall(rf"\.conflicts_with\({STRING}\)", body)
+    return Option(name, value[0] if value else "", text, kind == "option", excludes, choices_of(text, body))
+
+
 def of_source():
-    """Returns the options of each command, and the languages, as the source describes them to clap."""
+    """Returns the commands that the source describes, in the order of the program."""
     bodies = dict(re.findall(r"^fn (\w+)<'a>\(alloc: Global\)[^{]*\{\n(.*?)^\}", read(SOURCE), re.M | re.S))
-    commands = {"help": set()}
-    for command in given(bodies["warnc"], "subcommand"):
-        options = (bodies[it] for it in given(bodies[command], "arg"))
-        name = only(r'Command::new\(alloc, "(\w+)"\)', bodies[command])
-        commands[name] = {only(r'\b(?:option|optional|threads|flag)\(\s*alloc,\s*"([\w-]+)"', it) for it in options}
-    return commands, plain(only(r"\"The text's language: ([^\"]*)\"", bodies["language"]))
+    commands = []
+    for body in (bodies[it] for it in given(bodies["warnc"], "subcommand")):
+        name, text = only(rf"Command::new\(alloc, {STRING}\)", body), only(rf"\.about\(\s*{STRING},?\s*\)", body)
+        commands.append(Command(name, plain(text), [option_of(bodies[it]) for it in given(body, "arg")]))
+    return commands
 
 
-def of_program(program):
-    """Returns the options of each command, as a built program lists them."""
-    def said(*words):
-        return subprocess.run([program, *words], stdout=subprocess.PIPE, text=True, check=True).stdout
-
-    listed = re.search(r"^Commands:\n((?: +.*\n)+)", said("--help"), re.M)[1]
-    commands = [it for it in re.findall(r"^  (\w+)", listed, re.M) if it != "help"]
-    options = r"^ +(?:-\w, )?--([\w-]+)"
-    return {"help": set(), **{it: set(re.findall(options, said(it, "--help"), re.M)) - {"help"} for it in commands}}
+# --- A built program ---
 
 
-def plain(text):
-    """Returns the words of a text, with one space between them. A line of the source may end a line by `\\n`."""
-    return " ".join(re.sub(r"\bor\b|,|\\n", " ", text).split())
+def said_by(program, *words):
+    return subprocess.run([program, *words], stdout=subprocess.PIPE, text=True, check=True).stdout
 
 
-def differences(path, commands, languages):
-    """Yields in what a text differs from the program."""
-    text = read(path).replace("\\-", "-")
-    part, listed = TEXTS[path]
-    named = {}
-    for command, said in re.findall(part, text, re.M | re.S):
-        named.setdefault(command, set()).update(set(re.findall(OPTION, said)) - {"help"})
-    yield from between(path, named, commands)
-    if set(" ".join(re.findall(listed, text, re.M)).split()) != set(commands):
-        yield f"{path} doesn't list the commands {', '.join(sorted(commands))}"
-    if languages not in plain(text):
-        yield f"{path} doesn't name the languages {languages}"
-    options = {"help", "version"}.union(*commands.values())
-    for option in sorted(options ^ set(re.findall(OPTION, text))):
-        yield f"{path} {'lacks' if option in options else 'names'} --{option}"
+def unlike(program, commands):
+    """Yields where a built program's help isn't as the source has it."""
+    listed = re.search(r"^Commands:\n((?: +.*\n)+)", said_by(program, "--help"), re.M)[1]
+    if [it for it in re.findall(r"^  (\w+)", listed, re.M) if it != HELP[0]] != [it.name for it in commands]:
+        yield f"{program} --help lists other commands"
+    for command in commands:
+        said = said_by(program, command.name, "--help")
+        options = set(re.findall(r"^ +(?:-\w, )?--([\w-]+)", said, re.M)) - {"help"}
+        if options != {it.name for it in command.options}:
+            yield f"{program} {command.name} --help lists other options"
+        for text in (command.text, *(it.text for it in command.options)):
+            if text not in " ".join(said.split()):
+                yield f"{program} {command.name} --help doesn't say: {text}"
 
 
-def between(path, named, commands):
-    """Yields which commands and options of the program are not named, and which are named that it doesn't have."""
-    for command in sorted(set(named) | set(commands)):
-        if command not in commands or command not in named:
-            yield f"{path} {'names' if command in named else 'lacks'} the command {command}"
-            continue
-        for option in sorted(named[command] ^ commands[command]):
-            yield f"{path} {'names' if option in named[command] else 'lacks'} --{option} of {command}"
+# --- What texts have of an option ---
+
+
+def without_default(text):
+    """Returns the text of an option, and its value if it isn't given."""
+    found = re.fullmatch(r"(.*) \[(.*)\]", text)
+    return found.groups() if found else (text, None)
+
+
+def uncapped(text):
+    return text[0].lower() + text[1:]
+
+
+# --- The man page ---
+
+
+def roff(text):
+    return text.replace("-", "\\-")
+
+
+def man_lines(text):
+    """Yields the lines of a sentence; options that it names stand on lines of their own, in bold."""
+    for part in re.split(r" ?(--[\w-]+) ?", text):
+        if part.startswith("--"):
+            yield f".B {roff(part)}"
+        elif part:
+            yield from textwrap.wrap(roff(part), WIDTH, break_on_hyphens=False)
+
+
+def man_option(option, known):
+    """Yields the lines of an option; one that was described before is told in a line."""
+    yield ".TP"
+    yield f'.BI \\-\\-{roff(option.name)} " {roff(option.value)}"' if option.value else f".B \\-\\-{roff(option.name)}"
+    before = known.setdefault((option.name, option.text), None)
+    if before:
+        yield from ("As for", f".BR {before} .")
+        return
+    text, default = without_default(option.text)
+    end = f"; {default} if it isn't given." if default else "."
+    yield from man_lines(text + end)
+    if option.is_required:
+        yield "Has to be given."
+    for name in option.excludes:
+        yield from ("Can't be given beside", f".BR \\-\\-{roff(name)} .")
+
+
+def man_commands(commands, page):
+    """Returns the section of the commands, with what the page says of each before its options."""
+    said = dict(re.findall(r"^\.SS (\w+)\n(.*?)(?=^\.TP|^\.S[SH]|^It has no options)", page, re.M | re.S))
+    lines, known = [], {}
+    for command in [*commands, Command(*HELP)]:
+        lines += [f".SS {command.name}", *said.get(command.name, command.text + ".\n").splitlines()]
+        for option in command.options:
+            lines += man_option(option, known)
+            known[option.name, option.text] = known[option.name, option.text] or command.name
+        if not command.options and command.name != HELP[0]:
+            lines.append("It has no options.")
+    return "\n".join(lines) + "\n"
+
+
+def man_page(commands):
+    page = read("docs/warnc.1")
+    front, commands_of_page, rest = re.fullmatch(r"(.*?)(^\.SS .*?)(^\.SH BOOKS.*)", page, re.M | re.S).groups()
+    return front + man_commands(commands, commands_of_page + rest) + rest
+
+
+# --- The table of usage.md ---
+
+
+def in_words(option, others):
+    """Returns an option as a line of words has it, with those that can't be given beside it."""
+    def form(one):
+        # a choice of two or three is named
+        value = "|".join(one.choices) if len(one.choices) <= 3 else one.value
+        return f"--{one.name} {value or one.value}".rstrip()
+
+    forms = list(map(form, (option, *others)))
+    return forms[0] if option.is_required else f"[{'|'.join(forms)}]"
+
+
+def words_of(command):
+    """Returns the words of a command: options that have to be given first."""
+    excluding = {name: it for it in command.options for name in it.excludes}
+    hidden = {it.name for it in excluding.values()}
+    ordered = sorted((it for it in command.options if it.name not in hidden), key=lambda it: not it.is_required)
+    return " ".join([command.name, *(in_words(it, [excluding[it.name]] if it.name in excluding else [])
+                                     for it in ordered)])
+
+
+def usage(commands):
+    page = read("docs/usage.md")
+    rows = ["| Command | What it does |", "|---|---|"]
+    for it in commands:
+        words = words_of(it).replace("|", "\\|")
+        rows.append(f"| `{words}` | {it.text} |")
+    return re.sub(r"^\| Command \|.*?\n\n", lambda _: "\n".join(rows) + "\n\n", page, count=1, flags=re.M | re.S)
+
+
+# --- Completions ---
+
+
+def head(where):
+    return f"# Completes the words of warnc in {where}\n# tools/command_line.py writes it by what {SOURCE} says.\n\n"
+
+
+BASH = """_warnc() {{
+    local word=${{COMP_WORDS[COMP_CWORD]}} before=${{COMP_WORDS[COMP_CWORD - 1]}} words=
+    # bash takes `--lang=de` for three words
+    if [ "$word" = "=" ]; then
+        word=
+    elif [ "$before" = "=" ]; then
+        before=${{COMP_WORDS[COMP_CWORD - 2]}}
+    fi
+    # after an option without a value comes another option
+    case $before in {flags}) before= ;; esac
+    if [ "$COMP_CWORD" -eq 1 ]; then
+        words="{commands} -h --help -V --version"
+    else
+        case $before in
+{values}
+        {files})
+            mapfile -t COMPREPLY < <(compgen -f -- "$word")
+            compopt -o filenames
+            return
+            ;;
+        --*)
+            # the value of any other option can't be guessed
+            ;;
+        *)
+            case ${{COMP_WORDS[1]}} in
+{options}
+            help) words="{helped}" ;;
+            esac
+            ;;
+        esac
+    fi
+    COMPREPLY=($(compgen -W "$words" -- "$word"))
+}}
+
+complete -F _warnc warnc
+"""
+
+
+def bash(commands):
+    every = {it.name: it for command in commands for it in command.options}.values()
+    names = " ".join(it.name for it in commands)
+    options = [f"            {it.name}) words=\"{' '.join(f'--{one.name}' for one in it.options)} -h --help\" ;;"
+               .replace('" -h', '"-h') for it in commands]
+    values = [f"        --{it.name}) words=\"{' '.join(it.choices)}\" ;;" for it in every if it.choices]
+    return head("bash. To install it, source it in ~/.bashrc.") + BASH.format(
+        flags=" | ".join(f"--{it.name}" for it in every if not it.value), commands=f"{names} {HELP[0]}",
+        values="\n".join(values), files=" | ".join(f"--{it.name}" for it in every if it.value == "FILE"),
+        options="\n".join(options), helped=names)
+
+
+ZSH = """local -a commands help line
+local context state state_descr
+typeset -A opt_args
+
+commands=(
+{commands}
+)
+help=('(- *)'{{-h,--help}}'[print what the command takes]')
+
+_arguments -C \\
+    '(- *)'{{-h,--help}}'[print the commands]' \\
+    '(- *)'{{-V,--version}}'[print the version and the toolchain]' \\
+    '1:command:->command' \\
+    '*::option:->option'
+
+case $state in
+command)
+    _describe command commands
+    ;;
+option)
+    case $line[1] in
+{options}
+    help)
+        _describe command commands
+        ;;
+    esac
+    ;;
+esac
+"""
+
+
+def zsh_text(text):
+    """Returns a text as a quoted word of zsh may have it in brackets."""
+    return re.sub(r"([\[\]:\\])", r"\\\1", text).replace("'", "'\\''")
+
+
+def zsh_option(option, others):
+    text = zsh_text(uncapped(without_default(option.text)[0].partition(": ")[0]))
+    not_beside = [f"--{it.name}" for it in others if it.name in option.excludes or option.name in it.excludes]
+    front = f"({' '.join(not_beside)})" if not_beside else ""
+    if not option.value:
+        return f"'{front}--{option.name}[{text}]'"
+    action = "_files" if option.value == "FILE" else f"({' '.join(option.choices)})" if option.choices else ""
+    return f"'{front}--{option.name}=[{text}]:{option.value}:{action}'"
+
+
+def zsh(commands):
+    named = [f"    '{it.name}:{zsh_text(uncapped(it.text))}'" for it in [*commands, Command(*HELP)]]
+    options = []
+    for it in commands:
+        words = " \\\n            ".join(["_arguments $help", *(zsh_option(one, it.options) for one in it.options)])
+        options.append(f"    {it.name})\n        {words}\n        ;;")
+    return "#compdef warnc\n" + head("zsh. To install it, put it into a folder of $fpath.") + ZSH.format(
+        commands="\n".join(named), options="\n".join(options))
+
+
+FISH = """complete -c warnc -f
+complete -c warnc -s h -l help -d 'Print what is taken'
+complete -c warnc -n __fish_use_subcommand -s V -l version -d 'Print the version and the toolchain'
+
+"""
+
+
+def fish_option(command, option):
+    text = without_default(option.text)[0].partition(": ")[0].replace("'", "\\'")
+    kind = "" if not option.value else "-r -F " if option.value == "FILE" else "-x "
+    line = f"complete -c warnc -n '__fish_seen_subcommand_from {command}' {kind}-l {option.name} -d '{text}'"
+    if not option.choices:
+        return line
+    more = f"-a '{' '.join(option.choices)}'"
+    return f"{line} {more}" if len(line) + len(more) < WIDTH else f"{line} \\\n    {more}"
+
+
+def fish(commands):
+    lines = [f"complete -c warnc -n __fish_use_subcommand -a {it.name} -d '{quoted}'" for it, quoted in
+             ((one, one.text.replace("'", "\\'")) for one in [*commands, Command(*HELP)])]
+    lines += ["", *(fish_option(command.name, it) for command in commands for it in command.options)]
+    names = " ".join(it.name for it in commands)
+    lines.append(f"complete -c warnc -n '__fish_seen_subcommand_from {HELP[0]}' -a '{names}'")
+    return head("fish. To install it, put it into ~/.config/fish/completions.") + FISH + "\n".join(lines) + "\n"
+
+
+TEXTS = {
+    "docs/warnc.1": man_page,
+    "docs/usage.md": usage,
+    "tools/completions/warnc.bash": bash,
+    "tools/completions/_warnc": zsh,
+    "tools/completions/warnc.fish": fish,
+}
 
 
 def main(words):
     if words in (["-h"], ["--help"]):
         print(__doc__)
         return 0
-    if len(words) > 1 or words and not os.path.isfile(words[0]):
+    if len(words) > 1 or words and words != ["--write"] and not os.path.isfile(words[0]):
         print(f"tools/command_line.py: unknown words: {' '.join(words)}\n\n{__doc__}", file=sys.stderr)
         return 2
-    commands, languages = of_source()
-    found = [it for path in TEXTS for it in differences(path, commands, languages)]
-    for program in words:
-        found += between(program, of_program(program), commands)
+    commands, found = of_source(), []
+    for path, made in TEXTS.items():
+        text = made(commands)
+        if text == read(path):
+            continue
+        if words == ["--write"]:
+            with open(os.path.join(TOP, path), "w", encoding="utf-8") as it:
+                it.write(text)
+            print(f"tools/command_line.py: {path} is written")
+        else:
+            found.append(f"{path} isn't what 'tools/command_line.py --write' writes")
+    if words and words != ["--write"]:
+        found += unlike(words[0], commands)
     print("\n".join(found), end="\n" if found else "")
     return 1 if found else 0
 

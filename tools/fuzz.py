@@ -65,6 +65,7 @@ import termios
 import time
 
 import capture_reference
+import books
 import gsm
 
 TOP = os.path.dirname(os.path.dirname(os.path.realpath(__file__)))
@@ -99,14 +100,8 @@ LENGTHS = (0, 1, 2, 40, 41, 42, 82, 91, 92, 93, 94, 186, 187, 614, 615, 616, 139
 TOKENS = (b",", b'"', b'""', b"\r", b"\n", b"\r\n", b"\x00", b"\xef\xbb\xbf", b"*", b"-", b" ", b"1-1", b"cell,1,1\n",
           b"stop,0,a,*\n", bytes(gsm.TYPES), gsm.IDLE, b"\xff\xff", b"\x1b") + BROKEN
 
-COLUMNS = {
-    b"cell": ("lac", "ci"),
-    b"write": ("at", "name", "id", "scope", "code", "lang", "category", "period", "broadcasts", "cells", "text"),
-    b"update": ("at", "name", "lang", "category", "period", "broadcasts", "cells", "text"),
-    b"stop": ("at", "name", "cells"),
-}
-LIMITS = {"lac": (0, 65535), "ci": (0, 65535), "at": (0, 65535), "id": (0, 65535), "scope": (0, 3), "code": (0, 1023),
-          "category": (0, 2), "period": (1, 1024), "broadcasts": (0, 65535)}
+COLUMNS = {verb.encode(): [it.lower() for it in columns] for verb, columns in books.COLUMNS.items()}
+LIMITS = {column.lower(): bounds for column, bounds in books.RANGES.items()}
 ODD_NUMBERS = (b"", b"-1", b"+1", b" 1", b"1 ", b"00001", b"000001", b"99999", b"100000", b"1e3", b"0x1", b"1.0",
                "١".encode(), b"1\x00", b"18446744073709551616")
 

@@ -45,6 +45,7 @@ import sys
 import textwrap
 
 import gsm
+from books import COLUMNS, RANGES
 
 # --- Messages ---
 
@@ -278,16 +279,6 @@ def answer_to_one_tape(octets):
 
 # --- Books ---
 
-COLUMNS = {
-    "cell": "LAC CI".split(),
-    "write": "AT NAME ID SCOPE CODE LANG CATEGORY PERIOD BROADCASTS CELLS TEXT".split(),
-    "update": "AT NAME LANG CATEGORY PERIOD BROADCASTS CELLS TEXT".split(),
-    "stop": "AT NAME CELLS".split(),
-}
-RANGES = {
-    "LAC": (0, 65535), "CI": (0, 65535), "AT": (0, 65535), "ID": (0, 65535), "BROADCASTS": (0, 65535),
-    "SCOPE": (0, 3), "CODE": (0, 1023), "PERIOD": (1, 1024), "CATEGORY": (0, 2),
-}
 MARK = b"\xEF\xBB\xBF"
 
 

@@ -23,6 +23,8 @@ import tempfile
 import time
 from concurrent.futures import ThreadPoolExecutor
 
+from build import lanes
+
 TOP = os.path.dirname(os.path.dirname(os.path.realpath(__file__)))
 PARTS = ("src", "specs", "proofs")
 # what a check is likely to hold at most, in bytes
@@ -204,13 +206,6 @@ def try_crate(name, size):
     return len(refused), len(left)
 
 
-def lanes():
-    """Returns how many crates are tried at a time: one a processor, and no more than memory holds."""
-    with open("/proc/meminfo", encoding="ascii") as lines:
-        free = next(int(line.split()[1]) for line in lines if line.startswith("MemAvailable:")) << 10
-    return max(1, min(len(os.sched_getaffinity(0)), free // MEMORY))
-
-
 def git(*words):
     return subprocess.run(["git", *words], cwd=TOP, stdout=subprocess.PIPE, text=True, check=True).stdout.strip()
 
@@ -241,7 +236,7 @@ def keep_record(crates):
 def main():
     parser = argparse.ArgumentParser(description=__doc__, formatter_class=argparse.RawDescriptionHelpFormatter)
     parser.add_argument("--batch", type=int, default=12, help="how many edits share a check at most")
-    parser.add_argument("--lanes", type=int, default=lanes(), help="how many crates are tried at a time")
+    parser.add_argument("--lanes", type=int, default=lanes(MEMORY), help="how many crates are tried at a time")
     parser.add_argument("--since", metavar="COMMIT", help="tries the crates that changed since this commit")
     parser.add_argument("crates", metavar="CRATE", nargs="*")
     words = parser.parse_args()

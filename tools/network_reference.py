@@ -10,81 +10,61 @@ A row with no cell of a group orders nothing there, but its name and its update 
 each has one more cell, of which nothing is compared, and which such rows are for; and a group of 64 cells is two plain
 books of 32.
 """
+import dataclasses
+import itertools
 import random
 import subprocess
 import sys
 
+import books
 import gsm
 
 SLOTS = 64
-GROUP = 64
 HALF = 32
 SPARE = (65535, 65535)
 TEXTS = ("Stay in!", "Go up to the roof " * 6, "Вода", "a" * 93 + "{", "@", "x" * 186)
 
 
 def random_network(rng):
-    """Returns the rows of a network book: ("cell", cell), or the fields of another row with their cells,
-    or None for all."""
-    cells = rng.sample([(lac, ci) for lac in range(1, 9) for ci in range(100)], rng.randrange(1, 701))
-    rows, names, updates, left = [], [], {}, list(cells)
-    kinds = ["cell"] * len(cells) + ["order"] * rng.randrange(0, 40)
+    """Returns the rows of a network book: cells, as pairs of LAC and CI, and orders."""
+    left = rng.sample([(lac, ci) for lac in range(1, 9) for ci in range(100)], rng.randrange(1, 701))
+    kinds = ["cell"] * len(left) + ["order"] * rng.randrange(0, 40)
     if rng.random() < 0.7:
         kinds.sort()
     else:
         rng.shuffle(kinds)
-    declared, at = [], 0
+    declared, rows = [], []
+    orders = books.random_orders(
+        rng, itertools.accumulate(rng.randrange(0, 4) for _ in kinds),
+        lambda number: books.Alert(f"a{number}", rng.randrange(0, 65536), 1, number),
+        lambda: books.Sending(rng.choice(("en", "ru")), rng.randrange(0, 3), rng.choice((1, 2, 4, 8, 30)),
+                              rng.randrange(0, 4), rng.choice(TEXTS)),
+        lambda: None if rng.random() < 0.3
+        else rng.sample(declared, min(len(declared), rng.choice((1, 2, 7, 40)))))
     for kind in kinds:
         if kind == "cell":
             declared.append(left.pop())
-            rows.append(("cell", declared[-1]))
-            continue
-        if not declared:
-            continue
-        at += rng.randrange(0, 4)
-        some = None if rng.random() < 0.3 else rng.sample(declared, min(len(declared), rng.choice((1, 2, 7, 40))))
-        sending = [rng.choice(("en", "ru")), str(rng.randrange(0, 3)), str(rng.choice((1, 2, 4, 8, 30))),
-                   str(rng.randrange(0, 4))]
-        verb = rng.choice(("write", "write", "update", "stop"))
-        if verb == "write" or not names:
-            number = len(names)
-            names.append(f"a{number}")
-            updates[names[-1]] = 0
-            head = ["write", str(at), names[-1], str(rng.randrange(0, 65536)), "1", str(number)]
-            rows.append((head + sending, some, rng.choice(TEXTS)))
-        elif verb == "update":
-            name = rng.choice(names)
-            if updates[name] < 15:
-                updates[name] += 1
-                rows.append((["update", str(at), name] + sending, some, rng.choice(TEXTS)))
-        else:
-            rows.append((["stop", str(at), rng.choice(names)], some, None))
+            rows.append(declared[-1])
+        elif declared:
+            rows.append(next(orders))
     return rows
-
-
-def line(fields, cells, text):
-    """Returns the row of a book."""
-    named = "*" if cells is None else " ".join(f"{lac}-{ci}" for lac, ci in cells)
-    return ",".join(fields + [named] + ([text] if text is not None else [])) + "\n"
 
 
 def network_text(rows):
     """Returns the network book."""
-    return "".join(f"cell,{it[1][0]},{it[1][1]}\n" if it[0] == "cell" else line(*it) for it in rows)
+    return "".join(it.line() if isinstance(it, books.Order) else books.cell_line(it) for it in rows)
 
 
 def plain_text(rows, own):
     """Returns the plain book of some cells, and of the spare one."""
-    text = "".join(f"cell,{lac},{ci}\n" for lac, ci in own + [SPARE])
-    declared, here = [], set(own)
+    lines, declared, here = [books.cell_line(it) for it in own + [SPARE]], [], set(own)
     for row in rows:
-        if row[0] == "cell":
-            declared.append(row[1])
+        if not isinstance(row, books.Order):
+            declared.append(row)
             continue
-        fields, cells, said = row
-        kept = [it for it in (declared if cells is None else cells) if it in here]
-        text += line(fields, kept or [SPARE], said)
-    return text
+        kept = [it for it in (declared if row.cells is None else row.cells) if it in here]
+        lines.append(dataclasses.replace(row, cells=kept or [SPARE]).line())
+    return "".join(lines)
 
 
 def ran(program, words, book):
@@ -125,10 +105,10 @@ def main():
     for seed in range(most):
         rows = random_network(random.Random(seed))
         network = network_text(rows)
-        cells = [it[1] for it in rows if it[0] == "cell"]
+        cells = [it for it in rows if not isinstance(it, books.Order)]
         groups = int(ran(program, ["groups"], network))
         report, tapes = wanted(reference, rows, cells)
-        alike = (groups == max(1, -(-len(cells) // GROUP))
+        alike = (groups == max(1, -(-len(cells) // books.GROUP))
                  and has_all(program, "report", network, groups, report)
                  and has_all(program, "compile", network, groups, tapes))
         if not alike:

@@ -16,6 +16,7 @@ import subprocess
 import sys
 import tempfile
 
+import books
 import gsm
 
 # those of the data codings 00 to 0F
@@ -27,11 +28,11 @@ TEXTS = ("Stay in!", "{fire} at 3€", "Go up to the roof " * 8, "Вода", "a"
 class Asked:
     """What a cell was asked: an accepted message."""
 
-    def __init__(self, order, ident, serial, start, end, slots):
+    def __init__(self, sent, ident, serial, start, end, slots):
         self.ident, self.serial, self.start = ident, serial, start
-        self.category, self.period, self.broadcasts = order["category"], order["period"], order["broadcasts"]
-        self.pages, is_gsm = gsm.pieces_of(order["text"])
-        self.dcs = gsm.LANGUAGES[order["lang"]] if is_gsm else gsm.UCS2
+        self.category, self.period, self.broadcasts = sent.category, sent.period, sent.broadcasts
+        self.pages, is_gsm = gsm.pieces_of(sent.text)
+        self.dcs = gsm.LANGUAGES[sent.language] if is_gsm else gsm.UCS2
         over = start + self.broadcasts * self.period if self.broadcasts else slots
         self.stop = end if end < min(over, slots) else None
 
@@ -45,30 +46,16 @@ class Asked:
 
 
 def random_book(rng):
-    """Returns the text of a book, its cells, and its orders by identifier and serial number."""
+    """Returns the text of a book, its cells, and what it sends by identifier and serial number."""
     cells = [(rng.randrange(1, 4), it) for it in rng.sample(range(1, 9), rng.randrange(1, 4))]
-    rows, orders, names = [f"cell,{lac},{ci}" for lac, ci in cells], {}, []
-    for at in sorted(rng.randrange(0, 30) for _ in range(rng.randrange(1, 9))):
-        kind = rng.choice(("write", "write", "update", "stop")) if names else "write"
-        chosen = rng.sample(cells, rng.randrange(1, len(cells) + 1))
-        where = "*" if rng.random() < 0.5 else " ".join(f"{lac}-{ci}" for lac, ci in chosen)
-        text, lang = rng.choice(TEXTS), rng.choice(LANGUAGES)
-        order = {"text": text, "lang": lang, "category": rng.choice((0, 1, 2, 2)), "period": rng.randrange(1, 9),
-                 "broadcasts": rng.choice((0, 0, 1, 2, 3))}
-        tail = f'{lang},{order["category"]},{order["period"]},{order["broadcasts"]},{where},"{text}"'
-        if kind == "write":
-            name = {"name": f"n{len(names)}", "ident": 4370 + len(names), "code": rng.randrange(1024), "update": 0}
-            names.append(name)
-            rows.append(f"write,{at},{name['name']},{name['ident']},1,{name['code']},{tail}")
-        elif kind == "update":
-            name = rng.choice(names)
-            name["update"] += 1
-            rows.append(f"update,{at},{name['name']},{tail}")
-        else:
-            rows.append(f"stop,{at},{rng.choice(names)['name']},{where}")
-        if kind != "stop":
-            orders[name["ident"], 1 << 14 | name["code"] << 4 | name["update"]] = order
-    return "".join(it + "\n" for it in rows), cells, orders
+    made = list(books.random_orders(
+        rng, sorted(rng.randrange(0, 30) for _ in range(rng.randrange(1, 9))),
+        lambda number: books.Alert(f"n{number}", 4370 + number, 1, rng.randrange(1024)),
+        lambda: books.Sending(rng.choice(LANGUAGES), rng.choice((0, 1, 2, 2)), rng.randrange(1, 9),
+                              rng.choice((0, 0, 1, 2, 3)), rng.choice(TEXTS)),
+        lambda: None if rng.random() < 0.5 else rng.sample(cells, rng.randrange(1, len(cells) + 1))))
+    sent = {(it.alert.identifier, it.alert.serial()): it.sending for it in made if it.sending}
+    return "".join([*map(books.cell_line, cells), *(it.line() for it in made)]), cells, sent
 
 
 def asked_of(report, orders, slots):

@@ -1,5 +1,5 @@
 # Completes the words of warnc in bash. To install it, source it in ~/.bashrc.
-# tools/command_line.py compares the commands and options here with crates/warnc_cli/src/command.rt.
+# tools/command_line.py writes it by what crates/warnc_cli/src/command.rt says.
 
 _warnc() {
     local word=${COMP_WORDS[COMP_CWORD]} before=${COMP_WORDS[COMP_CWORD - 1]} words=
@@ -9,41 +9,37 @@ _warnc() {
     elif [ "$before" = "=" ]; then
         before=${COMP_WORDS[COMP_CWORD - 2]}
     fi
+    # after an option without a value comes another option
+    case $before in --network | --used) before= ;; esac
     if [ "$COMP_CWORD" -eq 1 ]; then
-        words="compile live read pcap tape report groups chart verify page help -h --help -V --version"
+        words="compile report chart read verify page live pcap tape groups help -h --help -V --version"
     else
         case $before in
         --lang) words="de en it fr es nl sv da pt fi no el tr hu pl und cs he ar ru is" ;;
-        --channel) words="51 52" ;;
         --scope) words="0 1 2 3" ;;
         --update) words="0 1 2 3 4 5 6 7 8 9 10 11 12 13 14 15" ;;
-        --used)
-            words="--channel -h --help"
-            ;;
-        --network)
-            words="--slots --workers -h --help"
-            ;;
+        --channel) words="51 52" ;;
         --book)
             mapfile -t COMPREPLY < <(compgen -f -- "$word")
             compopt -o filenames
             return
             ;;
         --*)
-            # any other option takes a number, which nobody can guess
+            # the value of any other option can't be guessed
             ;;
         *)
             case ${COMP_WORDS[1]} in
             compile) words="--slots --group --network --workers -h --help" ;;
-            live) words="--slots --group --network --sessions --workers -h --help" ;;
+            report) words="--slots --group --network --workers -h --help" ;;
+            chart) words="--slots --group --network --cell --workers -h --help" ;;
             read) words="-h --help" ;;
+            verify) words="--book --slots --group --workers -h --help" ;;
+            page) words="--lang --id --scope --code --update -h --help" ;;
+            live) words="--slots --group --network --sessions --workers -h --help" ;;
             pcap) words="--used --channel -h --help" ;;
             tape) words="--cell --slots --from -h --help" ;;
-            report) words="--slots --group --network --workers -h --help" ;;
             groups) words="-h --help" ;;
-            chart) words="--slots --group --network --cell --workers -h --help" ;;
-            verify) words="--slots --group --book --workers -h --help" ;;
-            page) words="--lang --id --scope --code --update -h --help" ;;
-            help) words="compile live read pcap tape report groups chart verify page" ;;
+            help) words="compile report chart read verify page live pcap tape groups" ;;
             esac
             ;;
         esac
