@@ -29,3 +29,4 @@ pub mod OneNetwork
 pub mod GroupOrders
 pub mod AllGroupsLaws
 pub mod Origins
+pub mod FoundLaws
