@@ -30,3 +30,4 @@ pub mod GroupOrders
 pub mod AllGroupsLaws
 pub mod Origins
 pub mod FoundLaws
+pub mod RowNumbers

@@ -13,7 +13,7 @@ mod laws;
 pub mod network;
 pub mod session;
 
-pub use book::row::Verb;
+pub use book::row::{Verb, columns_of};
 pub use book::{Book, MAX_INPUT, read_book};
 pub use fault::{BookFault, BookFaultKind, RowFault};
 pub use judging::columns::{Column, Found, columns_after};

@@ -5,3 +5,4 @@ pub mod Told
 pub mod Checked
 pub mod Laws
 pub mod TableSteps
+pub mod CheckSteps

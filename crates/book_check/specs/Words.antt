@@ -1,7 +1,7 @@
 -- The words of what is told of a book's faults: the names of columns, values as they are shown, and what is wanted. Own.
 use Rattle.std.specs.Prelude.{ℕ, zero, suc, ◌+◌, ◌-◌, ◌==◌, ◌&&◌, ◌||◌, not, nat_le, nat_lt, Bool, if◌then◌else◌, Option}
 use Rattle.std.specs.Prelude.{Some, None, List, [], ◌∷◌, ◌++◌, codes, encode_utf8, find, is_some, length, position}
-use Rattle.std.specs.Prelude.{slice_get, take}
+use Rattle.std.specs.Prelude.{slice_get, take, unwrap_or}
 use Rattle.std.specs.Fmt.{decimal}
 use Rattle.std.specs.List.{flat_map, list_any}
 use Rattle.std.specs.Str.{bytes_eq, chars, is_utf8}
@@ -11,7 +11,7 @@ use Rattle.cbs_page.specs.declared.paging.TextFault.{TextFault}
 use Rattle.cbs_page.specs.declared.paging.TextFault.TheVariants as text
 use Rattle.cbsp_wire.specs.declared.message.Cell.{Cell}
 use Rattle.alert_book.specs.Fields.{are_texts, column}
-use Rattle.alert_book.specs.Judging.{Counted, columns_after, row_with_name, undeclared_in}
+use Rattle.alert_book.specs.Judging.{Counted, columns_after, row_with_name, text_or_none, undeclared_in}
 use Rattle.alert_book.specs.Row.{columns_of}
 use Rattle.alert_book.specs.declared.book.row.Verb.{Verb}
 use Rattle.alert_book.specs.declared.book.row.Verb.TheVariants as verbs
@@ -76,6 +76,10 @@ abbrev pub shown_value : List ℕ → List ℕ
 shown_value field = if is_utf8 field then cut_field field else flat_map shown_octet (cut_field field)
 
 -- What is wanted
+
+-- a field, or no text where it isn't UTF-8
+abbrev pub text_of : List ℕ → List ℕ
+text_of field = unwrap_or (text_or_none field) []
 
 -- a number, or the form of a list of cells
 abbrev pub number_words : Option Column → List ℕ
@@ -163,9 +167,9 @@ says_of_row row after fields verb place fault.Columns = columns_words verb field
 says_of_row row after fields verb place fault.Verb = verb_words (length fields) (column fields 0)
 says_of_row row after fields verb place fault.Number = number_words (column_of verb place)
 says_of_row row after fields verb place fault.UnknownCell =
-    undeclared_words (undeclared_in after.known.cells (column fields (place - 1)))
+    undeclared_words (undeclared_in after.known.cells (text_of (column fields (place - 1))))
 says_of_row row after fields verb place fault.TwiceNamed =
-    twice_words (column_of verb place) (row_with_name after.known.orders (column fields (place - 1)))
+    twice_words (column_of verb place) (row_with_name after.known.orders (text_of (column fields (place - 1))))
 says_of_row row after fields verb place fault.UnknownName = unknown_words verb
 says_of_row row after fields verb place fault.TooManyUpdates = codes "an alert has 15 updates at most"
 says_of_row row after fields verb place fault.TooManyRows = too_many_words row
@@ -175,12 +179,16 @@ says_of_row row after fields verb place fault.Refused = []
 abbrev pub is_ucs2 : ℕ → Bool
 is_ucs2 character = not (is_some (code_of character))
 
--- why a text is UCS-2: its first such character, and the place of that, counted from 0
-abbrev pub ucs2_words : Option ℕ → Option ℕ → List ℕ
-ucs2_words None place = []
-ucs2_words (Some character) None = []
-ucs2_words (Some character) (Some place) =
-    codes ": UCS-2 because of " ++ (encode_utf8 character ++ (codes " at " ++ decimal place))
+-- of a text that has too many pages, and why it is UCS-2: its first such character, and the place of that, counted
+-- from 0
+abbrev pub pages_words_by : Option ℕ → Option ℕ → List ℕ
+pages_words_by None place = codes "15 pages are the most"
+pages_words_by (Some character) None = codes "15 pages are the most"
+pages_words_by (Some character) (Some place) =
+    codes "15 pages are the most: UCS-2 because of " ++ (encode_utf8 character ++ (codes " at " ++ decimal place))
+
+abbrev pub pages_words : List ℕ → List ℕ
+pages_words field = pages_words_by (find is_ucs2 (chars field)) (position is_ucs2 (chars field))
 
 -- what is said of a text's fault
 abbrev pub says_of_text : List ℕ → TextFault → List ℕ
@@ -188,9 +196,7 @@ says_of_text field text.BadLanguage =
     codes "unknown language: de, en, it, fr, es, nl, sv, da, pt, fi, no, el, tr, hu, pl, und, cs, he, ar, ru or is"
 says_of_text field text.Empty = codes "a text"
 says_of_text field (text.BadCharacter place) = codes "bad character at " ++ decimal place
-says_of_text field text.TooManyPages =
-    codes "15 pages are the most"
-    ++ ucs2_words (find is_ucs2 (chars field)) (position is_ucs2 (chars field))
+says_of_text field text.TooManyPages = pages_words (text_of field)
 says_of_text field text.Refused = []
 
 -- where a row's text stands, and its language

@@ -190,7 +190,7 @@ fn record_start(text: &[u8], start: Cursor) -> Cursor
     ensures same { SameRecord text.now start result }
 {
     let mut cursor = start;
-    while cursor.at < text.len() {
+    'blanks: while cursor.at < text.len() {
         let octet = text[cursor.at];
         if !is_line_end(octet) {
             return cursor;
@@ -207,7 +207,7 @@ fn record_end(text: &[u8], start: Cursor) -> Cursor
     ensures passes { PassesRecord text.now start result }
 {
     let mut cursor = start;
-    while cursor.at < text.len() {
+    'octets: while cursor.at < text.len() {
         let next = next_within(cursor.within, text[cursor.at]);
         cursor = behind(text, cursor, next);
         if next.ends {

@@ -67,7 +67,7 @@ pub(crate) fn verb_of(word: &str) -> Option<Verb>
 }
 
 /// How many columns a row of a verb has, the verb's own among them.
-pub(crate) fn columns_of(verb: Verb) -> usize
+pub fn columns_of(verb: Verb) -> usize
     ensures { result ≡ columns_of verb }
 {
     match verb {

@@ -1,0 +1,1 @@
+//! Checks that are short of memory.
