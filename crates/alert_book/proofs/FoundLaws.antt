@@ -1,7 +1,8 @@
 -- A row's fault is that of the first column whose judge refuses it, or one of the whole row.
 use Rattle.std.proofs.Common.{◌≡◌, ℕ, Bool, true, false, cond, Option, Some, None, List, length, Result, Ok, Err, refl}
-use Rattle.std.proofs.Common.{count_by, ap, ◌∙◌}
-use Rattle.std.specs.Prelude.{option_map, nat_le, nat_lt, not, ◌==◌}
+use Rattle.std.proofs.Common.{count_by, ap, ◌∙◌, ◌+◌, ◌<◌, arith, inl, inr}
+use Rattle.std.specs.Prelude.{option_map, nat_le, nat_lt, not, ◌==◌, IsErr}
+use Rattle.std.proofs.lemmas.Bool.{cases_Bool, leb-true}
 use Rattle.std.specs.Result.{result_err}
 use Rattle.cbsp_wire.specs.declared.message.Cell.{Cell}
 use Rattle.alert_book.specs.declared.book.order.Alert.{Alert}
@@ -18,7 +19,8 @@ use Rattle.alert_book.specs.Cells.{cell_with, cells_of_field, is_among}
 use Rattle.alert_book.specs.Fields.{alert_at, alert_with, are_texts, column, if_right, known_name, new_name, number}
 use Rattle.alert_book.specs.Fields.{sending_by, sending_with}
 use Rattle.alert_book.specs.Judging.{ci_fault, found_after_verb, found_at, found_in, found_of_verb, found_or, is_full}
-use Rattle.alert_book.specs.Judging.{no_text_column, FoundIsFault}
+use Rattle.alert_book.specs.Judging.{no_text_column, counted_after, counted_with, known_after_row, name_written, next_meant}
+use Rattle.alert_book.specs.Judging.{with_name, Counted, FoundIsFault}
 use Rattle.alert_book.specs.Row.{cell_row, columns_of, is_update_of, is_write, max_cells, max_rows, max_updates}
 use Rattle.alert_book.specs.Row.{new_cell, order_with, row_after_verb, row_of, row_of_verb_by, stop_row, update_row}
 use Rattle.alert_book.specs.Row.{update_with, verb_of, write_row}
@@ -141,18 +143,36 @@ found_is_fault row declared orders fields =
     (after_verb (verb_of (column fields 0)) row declared orders fields))
 
 -- a row whose fault isn't found is right
-pub found_none : (found : Option Found) (meant : Result Row RowFault) (f : RowFault) → Tells found meant
-    → meant ≡ Err f → found ≡ None → ⊥
-found_none None (Ok row) f tells is none = cc
-found_none None (Err kind) f tells is none = cc
-found_none (Some it) meant f tells is none = cc
+pub none_found : (found : Option Found) (meant : Result Row RowFault) → Tells found meant → IsErr meant
+    → found ≡ None → ⊥
+none_found None (Ok row) same wrong none = cc
+none_found None (Err kind) same wrong none = cc
+none_found (Some it) meant same wrong none = cc
 
 -- and what is found is its fault
-pub found_some : (found : Option Found) (meant : Result Row RowFault) (it : Found) → Tells found meant
+pub some_found : (found : Option Found) (meant : Result Row RowFault) (it : Found) → Tells found meant
     → found ≡ Some it → meant ≡ Err it.fault
-found_some None meant it tells is = absurd cc
-found_some (Some other) (Ok row) it tells is = absurd cc
-found_some (Some other) (Err kind) it tells is =
-    let same : other ≡ it = cc in
+some_found None meant it same is = absurd cc
+some_found (Some other) (Ok row) it same is = absurd cc
+some_found (Some other) (Err kind) it same is =
+    let one : other ≡ it = cc in
     let told : other.fault ≡ kind = cc in
-    rw (← same, told) refl
+    rw (← one, told) refl
+
+-- what counts after a row that is wrong
+pub wrong_counts : (before : Counted) (fields : List (List ℕ)) → before.rows < 4096
+    → IsErr (next_meant before fields)
+    → counted_with (before.rows + 1) (with_name (before.rows + 1) before.known (name_written before.known.orders fields))
+    ≡ counted_after before fields
+wrong_counts before fields few wrong =
+    let room : nat_le 4096 before.rows ≡ false = elim (cases_Bool (nat_le 4096 before.rows)) [
+      | inl full ↦ absurd (omega (arith, leb-true 4096 before.rows full, few))
+      | inr room ↦ room
+    ] in
+    rw room (ap (counted_with (before.rows + 1)) (by_meant (next_meant before fields) wrong))
+  where
+    by_meant : (meant : Result Row RowFault) → IsErr meant
+        → with_name (before.rows + 1) before.known (name_written before.known.orders fields)
+        ≡ known_after_row (before.rows + 1) before.known fields meant
+    by_meant (Ok row) wrong = absurd cc
+    by_meant (Err kind) wrong = refl

@@ -31,3 +31,4 @@ pub mod AllGroupsLaws
 pub mod Origins
 pub mod FoundLaws
 pub mod RowNumbers
+pub mod ColumnLaws

@@ -1,7 +1,7 @@
 -- The order that a row gives has the number of the row.
-use Rattle.std.proofs.Common.{◌≡◌, ⊤, ℕ, ◌+◌, ◌<◌, ◌≤◌, Bool, true, false, cond, Option, Some, None, List, length, Result}
-use Rattle.std.proofs.Common.{Ok, Err, refl, tt, count_by}
-use Rattle.std.specs.Prelude.{nat_le, nat_lt, not, ◌==◌}
+use Rattle.std.proofs.Common.{◌≡◌, ℕ, ◌+◌, ◌<◌, ◌≤◌, Bool, true, false, cond, Option, Some, None, List, length, Result}
+use Rattle.std.proofs.Common.{Ok, Err, refl, count_by}
+use Rattle.std.specs.Prelude.{⊤, nat_le, nat_lt, not, ◌==◌}
 use Rattle.cbsp_wire.specs.declared.message.Cell.{Cell}
 use Rattle.alert_book.specs.declared.book.order.Action.TheVariants as action
 use Rattle.alert_book.specs.declared.book.order.Alert.{Alert}

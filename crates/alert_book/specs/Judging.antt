@@ -1,6 +1,6 @@
 -- What each row of a book with faults comes to, beside the rows that have none, and in which column its fault is. Own.
 use Rattle.std.specs.Prelude.{◌≡◌, ◌≢◌, ⊤, ℕ, ◌+◌, ◌-◌, ◌==◌, not, nat_le, nat_lt, Bool, false, if◌then◌else◌}
-use Rattle.std.specs.Prelude.{Option, Some, None, List, [], ◌∷◌, ◌++◌, length, count_by, find, position, unwrap_or}
+use Rattle.std.specs.Prelude.{Option, Some, None, List, [], ◌∷◌, ◌++◌, length, count_by, find}
 use Rattle.std.specs.Prelude.{option_map, Result, Ok, Err}
 use Rattle.std.specs.Option.{option_and_then}
 use Rattle.std.specs.Result.{result_err, result_ok}
@@ -116,12 +116,13 @@ found_after_verb (Some verb) declared orders fields =
     if length fields == columns_of verb then found_of_verb verb declared orders fields
     else Some (found_at 1 fault.Columns)
 
-abbrev pub is_no_text : List ℕ → Bool
-is_no_text field = not (is_utf8 field)
+-- the first column that isn't UTF-8, counted from 1, where the first of these fields has this place; 1 if there is none
+abbrev pub no_text_from : (place : ℕ) → List (List ℕ) → ℕ
+no_text_from place [] = 1
+no_text_from place (field ∷ fields) = if is_utf8 field then no_text_from (place + 1) fields else place
 
--- the first column that isn't UTF-8, counted from 1
 abbrev pub no_text_column : List (List ℕ) → ℕ
-no_text_column fields = unwrap_or (position is_no_text fields) 0 + 1
+no_text_column fields = no_text_from 1 fields
 
 -- the fault of a row of this number, if it has one, and its column: faults of a whole row stand in column 1
 abbrev pub found_in : (row : ℕ) → List Cell → List Order → List (List ℕ) → Option Found

@@ -1,10 +1,11 @@
 //! A book with faults: what each of its rows comes to beside the rows that have none.
 
 ghost use Rattle.std.specs.Prelude.{◌≡◌, ◌+◌, ◌≤◌, ◌<◌, find, option_map, IfOk, IsErr, OnErr, OnOk};
+ghost use Rattle.std.specs.Option.{option_copied};
 ghost use Rattle.std.specs.Result.{result_ok};
 ghost use Rattle.csv.specs.Records.{fields_of};
 ghost use Rattle.alert_book.specs.Book.{with_row};
-ghost use Rattle.alert_book.specs.Fields.{column, new_name};
+ghost use Rattle.alert_book.specs.Fields.{are_texts, column, new_name};
 ghost use Rattle.alert_book.specs.Judging.{counted_after, counted_with, is_undeclared, name_written, next_found};
 ghost use Rattle.alert_book.specs.Judging.{next_meant, no_text_column, none_counted, row_with_name, stand_in};
 ghost use Rattle.alert_book.specs.Judging.{text_or_none, undeclared_in, verb_in, with_name, FoundIsFault, IsVerdict};
@@ -13,7 +14,7 @@ ghost use Rattle.alert_book.specs.NameSteps.{AreNames};
 ghost use Rattle.alert_book.specs.SendableSteps.{IsSendable};
 ghost use Rattle.alert_book.specs.declared.book.row.Row.TheVariants as rows;
 
-use crate::book::cells::{cells_listed, is_among};
+use crate::book::cells::{cells_listed, is_among, list_of};
 use crate::book::fields::{check_new_name, copy_of, first_order, texts_of};
 use crate::book::names::Names;
 use crate::book::order::{Action, Alert, Order, Sending, Text};
@@ -226,21 +227,17 @@ impl Judge {
         ensures { IfOk result (λ cell. cell ≡ undeclared_in self.now.known.cells field.now) }
     {
         match cells_listed(alloc, field)? {
-            Some(cells) => Ok(first_undeclared(&self.cells, &cells)),
+            Some(cells) => Ok(first_undeclared(&self.cells, list_of(&cells)).copied()),
             None => Ok(None),
         }
     }
 }
 
 /// The first of some cells that isn't declared.
-fn first_undeclared(declared: &[Cell], cells: &Cells) -> Option<Cell>
-    ensures { result ≡ find (is_undeclared declared.now) cells.now }
+fn first_undeclared<'a>(declared: &[Cell], cells: &'a [Cell]) -> Option<&'a Cell>
+    ensures { option_copied result ≡ find (is_undeclared declared.now) cells.now }
 {
-    cells
-        .list
-        .iter()
-        .find(|cell| !is_among(declared, **cell))
-        .copied()
+    cells.iter().find(|cell| !is_among(declared, **cell))
 }
 
 /// What an order's text comes to.
@@ -341,16 +338,30 @@ fn stand_in(alloc: Global, row: u32, name: &str) -> Result<Order, AllocError>
     })
 }
 
-/// The first column that isn't UTF-8, counted from 1.
+/// The first column that isn't UTF-8, counted from 1; 1 if there is none.
 fn no_text_column(fields: &ByteRecord) -> usize
     ensures { result ≡ no_text_column (fields_of fields.now) }
 {
     for place in 0..fields.len() {
-        if text_at(fields, place).is_none() {
-            return place + 1;
+        match text_at(fields, place) {
+            Some(_) => {}
+            None => return place + 1,
         }
     }
     1
+}
+
+/// Whether each column is UTF-8.
+pub fn are_texts(fields: &ByteRecord) -> bool
+    ensures { result ≡ are_texts (fields_of fields.now) }
+{
+    for place in 0..fields.len() {
+        match text_at(fields, place) {
+            Some(_) => {}
+            None => return false,
+        }
+    }
+    true
 }
 
 /// A row has a fault by its columns exactly if it has that fault. It does nothing: its contract is the law.

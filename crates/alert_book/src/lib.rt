@@ -17,7 +17,7 @@ pub use book::row::{Verb, columns_of};
 pub use book::{Book, MAX_INPUT, read_book};
 pub use fault::{BookFault, BookFaultKind, RowFault};
 pub use judging::columns::{Column, Found, columns_after};
-pub use judging::{Judge, Verdict, judging_laws, octets_at, text_at, verb_in};
+pub use judging::{Judge, Verdict, are_texts, judging_laws, octets_at, text_at, verb_in};
 pub use laws::{book_laws, network_laws, session_laws, text_laws};
 pub use network::all_groups::Network;
 pub use network::{

@@ -3,14 +3,16 @@
 ghost use Rattle.std.specs.Prelude.{◌≡◌, IfOk, find, position, string_bytes};
 ghost use Rattle.std.specs.Str.{chars};
 ghost use Rattle.csv.specs.Records.{fields_of};
-ghost use Rattle.alert_book.specs.Fields.{are_texts, column};
+ghost use Rattle.alert_book.specs.Fields.{column};
 ghost use Rattle.book_check.specs.Words.{columns_words, count_words, is_ucs2, pages_words, says_of_row, says_of_text};
 ghost use Rattle.book_check.specs.Words.{text_of, twice_words, undeclared_words};
 
 use crate::words::{
     column_of, number_words, too_many_words, unknown_words, verb_name, verb_words,
 };
-use alert_book::{Column, Found, Judge, RowFault, Verb, columns_of, octets_at, text_at};
+use alert_book::{
+    Column, Found, Judge, RowFault, Verb, are_texts, columns_of, octets_at, text_at,
+};
 use cbs_page::TextFault;
 use cbsp_wire::Cell;
 use csv::ByteRecord;
@@ -48,18 +50,6 @@ fn columns_words(
         return count_words(alloc, verb, fields.len());
     }
     String::from_str(alloc, "not UTF-8: save as CSV UTF-8")
-}
-
-/// Whether each column is UTF-8.
-fn are_texts(fields: &ByteRecord) -> bool
-    ensures { result ≡ are_texts (fields_of fields.now) }
-{
-    for place in 0..fields.len() {
-        if text_at(fields, place).is_none() {
-            return false;
-        }
-    }
-    true
 }
 
 /// What is said of cells one of which isn't declared.
