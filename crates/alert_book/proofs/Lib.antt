@@ -29,3 +29,6 @@ pub mod OneNetwork
 pub mod GroupOrders
 pub mod AllGroupsLaws
 pub mod Origins
+pub mod FoundLaws
+pub mod RowNumbers
+pub mod ColumnLaws

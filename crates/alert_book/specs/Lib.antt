@@ -23,3 +23,4 @@ pub mod SessionSteps
 pub mod VersionSteps
 pub mod Stands
 pub mod AdvancingSteps
+pub mod Judging

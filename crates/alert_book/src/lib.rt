@@ -8,13 +8,17 @@
 
 pub mod book;
 pub mod fault;
+pub mod judging;
 mod laws;
 pub mod network;
 pub mod session;
 
 pub use book::order::{Action, Alert, Order, Sending, Text};
+pub use book::row::{Verb, columns_of};
 pub use book::{Book, BookRows, MAX_INPUT, read_book, read_rows};
-pub use fault::{BookFault, BookFaultKind};
+pub use fault::{BookFault, BookFaultKind, RowFault};
+pub use judging::columns::{Column, Found, columns_after};
+pub use judging::{Judge, Verdict, are_texts, judging_laws, octets_at, text_at, verb_in};
 pub use laws::{book_laws, network_laws, session_laws, text_laws};
 pub use network::all_groups::Network;
 pub use network::{

@@ -66,7 +66,7 @@ fn category(field: &str) -> Result<u8, RowFault>
 }
 
 /// The first order of a name.
-fn first_order<'a>(orders: &'a [Order], names: &Names, name: &str) -> Option<&'a Order>
+pub(crate) fn first_order<'a>(orders: &'a [Order], names: &Names, name: &str) -> Option<&'a Order>
     requires { AreNames names.now orders.now }
     ensures first { option_copied result ≡ first_order orders.now name.now }
     ensures sendable { IfSome result (λ order. All IsSendable orders.now → IsSendable order.now) }

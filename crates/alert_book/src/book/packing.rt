@@ -18,7 +18,7 @@ use std::thread::Threads;
 const LEAST_TEXTS: usize = 32;
 
 /// The pages of an order's text, if it has one.
-fn pages_of(alloc: Global, order: &Order) -> Result<Option<Paged>, TextFault>
+pub(crate) fn pages_of(alloc: Global, order: &Order) -> Result<Option<Paged>, TextFault>
     ensures ok { IfOk result (λ paged. ArePagesOf (sending_of order.now.action) paged) }
     ensures err { IfErr result (λ why. (sending : Sending) × (sending_of order.now.action ≡ Some sending)
         × IsTextFault sending.language (chars sending.text) why) }

@@ -22,13 +22,13 @@ use csv::{ByteRecord, StringRecord};
 use std::alloc::Global;
 
 /// The most rows of a book.
-const MAX_ROWS: u32 = 4096;
+pub(crate) const MAX_ROWS: u32 = 4096;
 
 /// The most rows that declare cells.
-const MAX_CELLS: usize = 64;
+pub(crate) const MAX_CELLS: usize = 64;
 
 /// The most updates of a name.
-const MAX_UPDATES: usize = 15;
+pub(crate) const MAX_UPDATES: usize = 15;
 
 /// What a row does.
 #[derive(Debug, Drop)]
@@ -54,7 +54,7 @@ pub enum Verb {
 
 /// The verb that a word is.
 #[tactic(auto, unfolding(crate::specs::Row::verb_of))]
-fn verb_of(word: &str) -> Option<Verb>
+pub(crate) fn verb_of(word: &str) -> Option<Verb>
     ensures { result ≡ verb_of word.now }
 {
     match word {
@@ -67,7 +67,7 @@ fn verb_of(word: &str) -> Option<Verb>
 }
 
 /// How many columns a row of a verb has, the verb's own among them.
-fn columns_of(verb: Verb) -> usize
+pub fn columns_of(verb: Verb) -> usize
     ensures { result ≡ columns_of verb }
 {
     match verb {
@@ -167,7 +167,7 @@ fn count_of_writes(orders: &[Order]) -> usize
 
 /// How many orders update a name.
 #[tactic(auto, using(crate::proofs::NameLaws::none_updates))]
-fn count_of_updates(orders: &[Order], names: &Names, name: &str) -> usize
+pub(crate) fn count_of_updates(orders: &[Order], names: &Names, name: &str) -> usize
     requires { AreNames names.now orders.now }
     ensures { result ≡ count_by (is_update_of name.now) orders.now }
 {

@@ -1,0 +1,342 @@
+-- What the verdicts of a book's rows say of the book.
+use Rattle.std.proofs.Common.{◌≡◌, ◌≢◌, ℕ, zero, suc, ◌+◌, ◌<◌, ◌≤◌, ◌⊎◌, ◌∙◌, ap, sym, refl, subst, arith, inl, inr, tt}
+use Rattle.std.proofs.Common.{Bool, true, false, cond, Option, Some, None, List, [], ◌∷◌, ◌++◌, length, count_by}
+use Rattle.std.proofs.Common.{append_assoc, append-nil, Result, Ok, Err}
+use Rattle.std.specs.Prelude.{nat_le, nat_lt}
+use Rattle.std.specs.Option.{option_or}
+use Rattle.std.proofs.lemmas.Bool.{cases_Bool, le-leb, leb-true}
+use Rattle.csv.specs.Reading.{AreRecords, default_config, strip_bom}
+use Rattle.csv.specs.Machine.{next_record}
+use Rattle.csv.specs.declared.parser.State.TheVariants as st
+use Rattle.cbs_page.specs.declared.paging.Paged.{Paged}
+use Rattle.cbs_page.specs.declared.paging.TextFault.{TextFault}
+use Rattle.alert_book.specs.Book.{after_row, fault_at, kind_of, rows_by, rows_read_by, rows_with, with_row}
+use Rattle.alert_book.specs.Book.{sending_of, ArePagesOf, AreRowsOf, Contents, HavePages, HasWrongText, IsBook, IsWrong}
+use Rattle.alert_book.specs.Book.{Rows}
+use Rattle.alert_book.specs.Judging.{Counted, counted_after, counted_with, known_after_row, name_written, next_meant}
+use Rattle.alert_book.specs.Judging.{none_counted, with_name, CanBeSent, HasTextFault, IsRightRow, IsVerdict}
+use Rattle.alert_book.specs.Judging.{IsVerdictOfRow, IsWrongRow}
+use Rattle.alert_book.specs.Laws.{BooksAreRight}
+use Rattle.alert_book.specs.Row.{row_of}
+use Rattle.alert_book.specs.declared.book.order.Order.{Order}
+use Rattle.alert_book.specs.declared.book.row.Row.{Row}
+use Rattle.alert_book.specs.declared.book.row.Row.TheVariants as rows
+use Rattle.alert_book.specs.declared.fault.BookFault.{BookFault}
+use Rattle.alert_book.specs.declared.fault.BookFaultKind.TheVariants as kind
+use Rattle.alert_book.specs.declared.fault.RowFault.{RowFault}
+use Rattle.alert_book.specs.declared.judging.Verdict.{Verdict}
+use Rattle.alert_book.specs.declared.judging.Verdict.TheVariants as verdict
+use Rattle.alert_book.proofs.BookLaws.{row_fits}
+use Rattle.alert_book.proofs.RowNumbers.{order_has_row}
+use Rattle.book_check.specs.Checked.{AreVerdictsOf, IsChecked}
+use Rattle.book_check.specs.Laws.{first_fault, first_unsendable, first_wrong, BooksAreClean, CleanAreBooks}
+use Rattle.book_check.specs.Laws.{FaultsHaveAFirst, FirstIsTheBooks}
+use Rattle.book_check.specs.Told.{AreVerdicts, is_told}
+
+-- what counts after all rows
+abbrev counted_in : Counted → List (List (List ℕ)) → Counted
+counted_in before [] = before
+counted_in before (fields ∷ records) = counted_in (counted_after before fields) records
+
+-- what counts after a row that is right
+right_counts : (before : Counted) (fields : List (List ℕ)) (meant : Row) → next_meant before fields ≡ Ok meant
+    → counted_after before fields ≡ counted_with (before.rows + 1) (with_row before.known meant)
+right_counts before fields meant right =
+    let fits : before.rows + 1 ≤ 4096 =
+    row_fits (before.rows + 1) before.known.cells before.known.orders fields meant right in
+    let room : nat_le 4096 before.rows ≡ false = elim (cases_Bool (nat_le 4096 before.rows)) [
+      | inl full ↦ absurd (omega (arith, leb-true 4096 before.rows full, fits))
+      | inr room ↦ room
+    ] in
+    rw (room, right) refl
+
+-- what rows mean by their first fault
+abbrev read_as : Option BookFault → Rows → Result Rows BookFault
+read_as None known = Ok known
+read_as (Some f) known = Err f
+
+-- the rows are read up to the first that has a fault of its own
+abbrev Reads : Counted → List (List (List ℕ)) → List Verdict → Type 0
+Reads before records verdicts =
+    rows_read_by row_of (before.rows + 1) before.known records
+    ≡ read_as (first_wrong (before.rows + 1) verdicts) (counted_in before records).known
+
+right_reads : (before : Counted) (fields : List (List ℕ)) (records : List (List (List ℕ))) (more : List Verdict)
+    (meant : Row) → next_meant before fields ≡ Ok meant
+    → Reads (counted_after before fields) records more
+    → rows_read_by row_of (before.rows + 1) before.known (fields ∷ records)
+    ≡ read_as (first_wrong (before.rows + 1 + 1) more) (counted_in (counted_after before fields) records).known
+right_reads before fields records more meant right later =
+    let next = right_counts before fields meant right in
+    ap (λ (r : Result Row RowFault). after_row (before.rows + 1) before.known r
+    (λ known. rows_read_by row_of (before.rows + 1 + 1) known records)) right
+    ∙ subst (λ (c : Counted). rows_read_by row_of (c.rows + 1) c.known records
+    ≡ read_as (first_wrong (c.rows + 1) more) (counted_in (counted_after before fields) records).known) next later
+
+pub reads : (before : Counted) (records : List (List (List ℕ))) (verdicts : List Verdict)
+    → AreVerdicts before records verdicts → Reads before records verdicts
+reads before [] [] are = refl
+reads before [] (told ∷ more) are = absurd are
+reads before (fields ∷ records) [] are = absurd are
+reads before (fields ∷ records) (verdict.Right ∷ more) are =
+    right_reads before fields records more are.0.meant are.0.right
+    (reads (counted_after before fields) records more are.1)
+reads before (fields ∷ records) (verdict.Wrong found ∷ more) are =
+    ap (λ (r : Result Row RowFault). after_row (before.rows + 1) before.known r
+    (λ known. rows_read_by row_of (before.rows + 1 + 1) known records)) are.0.wrong
+reads before (fields ∷ records) (verdict.Unsendable why ∷ more) are =
+    right_reads before fields records more are.0.meant are.0.right
+    (reads (counted_after before fields) records more are.1)
+
+-- rows without a fault of their own are few
+right_few : (before : Counted) (fields : List (List ℕ)) (count : ℕ) (meant : Row) → next_meant before fields ≡ Ok meant
+    → ((counted_after before fields).rows ≤ 4096 → (counted_after before fields).rows + count ≤ 4096)
+    → before.rows + (count + 1) ≤ 4096
+right_few before fields count meant right later =
+    let fits : before.rows + 1 ≤ 4096 =
+    row_fits (before.rows + 1) before.known.cells before.known.orders fields meant right in
+    let next = right_counts before fields meant right in
+    let rest : before.rows + 1 + count ≤ 4096 =
+    subst (λ (c : Counted). c.rows ≤ 4096 → c.rows + count ≤ 4096) next later fits in
+    omega (arith, rest)
+
+few : (before : Counted) (records : List (List (List ℕ))) (verdicts : List Verdict) (row : ℕ)
+    → AreVerdicts before records verdicts → first_wrong row verdicts ≡ None → before.rows ≤ 4096
+    → before.rows + length records ≤ 4096
+few before [] [] row are none fits = omega (arith, fits)
+few before [] (told ∷ more) row are none fits = absurd are
+few before (fields ∷ records) [] row are none fits = absurd are
+few before (fields ∷ records) (verdict.Right ∷ more) row are none fits =
+    right_few before fields (length records) are.0.meant are.0.right
+    (few (counted_after before fields) records more (row + 1) are.1 none)
+few before (fields ∷ records) (verdict.Wrong found ∷ more) row are none fits = absurd cc
+few before (fields ∷ records) (verdict.Unsendable why ∷ more) row are none fits =
+    right_few before fields (length records) are.0.meant are.0.right
+    (few (counted_after before fields) records more (row + 1) are.1 none)
+
+-- so these are all records of the octets
+all_records : (input : List ℕ) (verdicts : List Verdict) (are : AreVerdictsOf input verdicts)
+    → first_wrong 1 verdicts ≡ None → AreRecords default_config st.StartRecord (strip_bom input) are.records
+all_records input verdicts are none = by_end are.whole
+  where
+    by_end : (next_record default_config are.state [] [] are.rest ≡ None) ⊎ (length are.records ≡ 4097)
+        → AreRecords default_config st.StartRecord (strip_bom input) are.records
+    by_end (inl ended) = (are.state, are.rest, are.read, ended)
+    by_end (inr long) =
+        absurd (omega (arith, few none_counted are.records verdicts 1 are.each none (omega arith), long))
+
+-- orders stay, and others come behind them
+Extends : (old new : List Order) → Type 0
+Extends old new = (more : List Order) × (new ≡ old ++ more)
+
+one_behind : (old : List Order) (order : Order) → Extends old (old ++ order ∷ [])
+one_behind old order = (order ∷ [], refl)
+
+row_extends : (row : ℕ) (before : Rows) (fields : List (List ℕ)) (meant : Result Row RowFault)
+    → Extends before.orders (known_after_row row before fields meant).orders
+row_extends row before fields (Ok (rows.Declare cell)) = ([], sym (append-nil before.orders))
+row_extends row before fields (Ok (rows.Give order)) = (order ∷ [], refl)
+row_extends row before fields (Err fault) = by_name (name_written before.orders fields)
+  where
+    by_name : (name : Option (List ℕ)) → Extends before.orders (with_name row before name).orders
+    by_name None = ([], sym (append-nil before.orders))
+    by_name (Some name) = (_, refl)
+
+counted_extends : (before : Counted) (fields : List (List ℕ))
+    → Extends before.known.orders (counted_after before fields).known.orders
+counted_extends before fields = by_room (nat_le 4096 before.rows)
+  where
+    by_room : (full : Bool) → Extends before.known.orders (cond full before (counted_with (before.rows + 1)
+        (known_after_row (before.rows + 1) before.known fields (next_meant before fields)))).known.orders
+    by_room true = ([], sym (append-nil before.known.orders))
+    by_room false = row_extends (before.rows + 1) before.known fields (next_meant before fields)
+
+joins : (a b c : List Order) → Extends a b → Extends b c → Extends a c
+joins a b c ab bc =
+    (ab.0 ++ bc.0, bc.1 ∙ ap (λ (os : List Order). os ++ bc.0) ab.1 ∙ append_assoc a ab.0 bc.0)
+
+all_extend : (before : Counted) (records : List (List (List ℕ)))
+    → Extends before.known.orders (counted_in before records).known.orders
+all_extend before [] = ([], sym (append-nil before.known.orders))
+all_extend before (fields ∷ records) =
+    joins before.known.orders (counted_after before fields).known.orders
+    (counted_in before (fields ∷ records)).known.orders
+    (counted_extends before fields) (all_extend (counted_after before fields) records)
+
+-- the pages of orders, and of one more
+pages_more : (orders : List Order) (pages : List (Option Paged)) (order : Order) (paged : Option Paged)
+    → HavePages orders pages → ArePagesOf (sending_of order.action) paged
+    → HavePages (orders ++ order ∷ []) (pages ++ paged ∷ [])
+pages_more [] [] order paged have here = (here, tt)
+pages_more [] (p ∷ pages) order paged have here = absurd have
+pages_more (o ∷ orders) [] order paged have here = absurd have
+pages_more (o ∷ orders) (p ∷ pages) order paged have here = (have.0, pages_more orders pages order paged have.1 here)
+
+-- some pages are those of these orders
+Paged_are : List Order → Type 0
+Paged_are orders = (pages : List (Option Paged)) × HavePages orders pages
+
+right_paged : (before : Counted) (fields : List (List ℕ)) (right : IsRightRow before fields verdict.Right)
+    → Paged_are before.known.orders → Paged_are (counted_after before fields).known.orders
+right_paged before fields right have =
+    subst (λ (c : Counted). Paged_are c.known.orders) (sym (right_counts before fields right.meant right.right))
+    (by_row right.meant right.text)
+  where
+    by_row : (meant : Row) → IsVerdictOfRow meant verdict.Right → Paged_are (with_row before.known meant).orders
+    by_row (rows.Declare cell) text = have
+    by_row (rows.Give order) text =
+        (have.0 ++ text.0 ∷ [], pages_more before.known.orders have.0 order text.0 have.1 text.1)
+
+-- where no text has a fault, the orders have pages
+all_paged : (before : Counted) (records : List (List (List ℕ))) (verdicts : List Verdict) (row : ℕ)
+    → AreVerdicts before records verdicts → Paged_are before.known.orders
+    → first_wrong row verdicts ≡ None → first_unsendable row verdicts ≡ None
+    → Paged_are (counted_in before records).known.orders
+all_paged before [] [] row are have right sent = have
+all_paged before [] (told ∷ more) row are have right sent = absurd are
+all_paged before (fields ∷ records) [] row are have right sent = absurd are
+all_paged before (fields ∷ records) (verdict.Right ∷ more) row are have right sent =
+    all_paged (counted_after before fields) records more (row + 1) are.1 (right_paged before fields are.0 have) right
+    sent
+all_paged before (fields ∷ records) (verdict.Wrong found ∷ more) row are have right sent = absurd cc
+all_paged before (fields ∷ records) (verdict.Unsendable why ∷ more) row are have right sent = absurd cc
+
+-- the first text that has one is that of the orders
+text_here : (before : Counted) (fields : List (List ℕ)) (records : List (List (List ℕ))) (why : TextFault)
+    (right : IsRightRow before fields (verdict.Unsendable why)) → Paged_are before.known.orders
+    → HasWrongText (counted_in (counted_after before fields) records).known.orders
+    (fault_at (before.rows + 1) (kind.Text why))
+text_here before fields records why right have = by_row right.meant right.right right.text
+  where
+    by_row : (meant : Row) → next_meant before fields ≡ Ok meant → IsVerdictOfRow meant (verdict.Unsendable why)
+        → HasWrongText (counted_in (counted_after before fields) records).known.orders
+        (fault_at (before.rows + 1) (kind.Text why))
+    by_row (rows.Declare cell) is text = absurd text
+    by_row (rows.Give order) is text =
+        let next = right_counts before fields (rows.Give order) is in
+        let more = all_extend (counted_after before fields) records in
+        record {
+          before = before.known.orders;
+          order = order;
+          after = more.0;
+          split = more.1 ∙ ap (λ (c : Counted). c.known.orders ++ more.0) next
+              ∙ append_assoc before.known.orders (order ∷ []) more.0;
+          pages = have.0;
+          paged = have.1;
+          sending = text.sending;
+          sent = text.sent;
+          why = why;
+          wrong = text.wrong;
+          told = text.told;
+          named = ap (λ n. fault_at n (kind.Text why)) (sym (order_has_row (before.rows + 1) before.known.cells
+              before.known.orders fields order is));
+        }
+
+text_wrong : (before : Counted) (records : List (List (List ℕ))) (verdicts : List Verdict) (f : BookFault)
+    → AreVerdicts before records verdicts → Paged_are before.known.orders
+    → first_wrong (before.rows + 1) verdicts ≡ None → first_unsendable (before.rows + 1) verdicts ≡ Some f
+    → HasWrongText (counted_in before records).known.orders f
+text_wrong before [] [] f are have right sent = absurd cc
+text_wrong before [] (told ∷ more) f are have right sent = absurd are
+text_wrong before (fields ∷ records) [] f are have right sent = absurd are
+text_wrong before (fields ∷ records) (verdict.Right ∷ more) f are have right sent =
+    let next = right_counts before fields are.0.meant are.0.right in
+    let rows : before.rows + 1 ≡ (counted_after before fields).rows = ap (λ (c : Counted). c.rows) (sym next) in
+    text_wrong (counted_after before fields) records more f are.1 (right_paged before fields are.0 have)
+    (subst (λ n. first_wrong (n + 1) more ≡ None) rows right)
+    (subst (λ n. first_unsendable (n + 1) more ≡ Some f) rows sent)
+text_wrong before (fields ∷ records) (verdict.Wrong found ∷ more) f are have right sent = absurd cc
+text_wrong before (fields ∷ records) (verdict.Unsendable why ∷ more) f are have right sent =
+    let same : fault_at (before.rows + 1) (kind.Text why) ≡ f = cc in
+    subst (λ (g : BookFault). HasWrongText (counted_in (counted_after before fields) records).known.orders g) same
+    (text_here before fields records why are.0 have)
+
+-- nothing is told where there is no first fault, and there is none where nothing is told
+none_told : (verdicts : List Verdict) (row : ℕ) → first_wrong row verdicts ≡ None
+    → first_unsendable row verdicts ≡ None → count_by is_told verdicts ≡ 0
+none_told [] row right sent = refl
+none_told (verdict.Right ∷ more) row right sent = none_told more (row + 1) right sent
+none_told (verdict.Wrong found ∷ more) row right sent = absurd cc
+none_told (verdict.Unsendable why ∷ more) row right sent = absurd cc
+
+none_first : (verdicts : List Verdict) (row : ℕ) → count_by is_told verdicts ≡ 0
+    → (first_wrong row verdicts ≡ None) × (first_unsendable row verdicts ≡ None)
+none_first [] row none = (refl, refl)
+none_first (verdict.Right ∷ more) row none = none_first more (row + 1) none
+none_first (verdict.Wrong found ∷ more) row none = absurd (omega (arith, none))
+none_first (verdict.Unsendable why ∷ more) row none = absurd (omega (arith, none))
+
+either_first : (wrong text : Option BookFault) → option_or wrong text ≡ None → (wrong ≡ None) × (text ≡ None)
+either_first None text none = (refl, none)
+either_first (Some f) text none = absurd cc
+
+pub faults_have_a_first : FaultsHaveAFirst
+faults_have_a_first verdicts none =
+    let both = either_first (first_wrong 1 verdicts) (first_unsendable 1 verdicts) none in
+    none_told verdicts 1 both.0 both.1
+
+-- the octets mean what counts of their rows
+meant_of : (input : List ℕ) (verdicts : List Verdict) (are : AreVerdictsOf input verdicts)
+    → first_wrong 1 verdicts ≡ None → AreRowsOf input (counted_in none_counted are.records).known
+meant_of input verdicts are none = record {
+  records = are.records;
+  read = all_records input verdicts are none;
+  meant = reads none_counted are.records verdicts are.each
+      ∙ ap (λ (o : Option BookFault). read_as o (counted_in none_counted are.records).known) none;
+}
+
+pub clean_are_books : CleanAreBooks
+clean_are_books input output clean =
+    let firsts = none_first clean.verdicts 1 clean.counted in
+    let known : Rows = (counted_in none_counted clean.are.records).known in
+    let paged : Paged_are known.orders =
+    all_paged none_counted clean.are.records clean.verdicts 1 clean.are.each ([], tt) firsts.0 firsts.1 in
+    (
+      record { cells = known.cells; orders = known.orders; pages = paged.0 },
+      record {
+        bounded = clean.bounded;
+        rows = meant_of input clean.verdicts clean.are firsts.0;
+        paged = paged.1;
+      },
+    )
+
+pub first_is_the_books : FirstIsTheBooks
+first_is_the_books input output count checked f first =
+    by_wrong (first_wrong 1 checked.verdicts) refl
+  where
+    is : AreVerdictsOf input checked.verdicts
+    is = checked.are
+
+    by_wrong : (wrong : Option BookFault) → first_wrong 1 checked.verdicts ≡ wrong → IsWrong input f
+    by_wrong None none =
+        let sent : first_unsendable 1 checked.verdicts ≡ Some f = rw none at first in
+        (
+          checked.bounded,
+          inr (record {
+            rows = (counted_in none_counted is.records).known;
+            meant = meant_of input checked.verdicts is none;
+            wrong = text_wrong none_counted is.records checked.verdicts f is.each ([], tt) none sent;
+          }),
+        )
+    by_wrong (Some g) some =
+        let same : Some g ≡ Some f = rw some at first in
+        (
+          checked.bounded,
+          inl (record {
+            records = is.records;
+            state = is.state;
+            rest = is.rest;
+            read = is.read;
+            wrong = reads none_counted is.records checked.verdicts is.each
+                ∙ ap (λ (o : Option BookFault). read_as o (counted_in none_counted is.records).known) (some ∙ same);
+          }),
+        )
+
+pub books_are_clean : BooksAreRight → BooksAreClean
+books_are_clean right input output count book is checked =
+    by_first (first_fault checked.verdicts) refl
+  where
+    by_first : (first : Option BookFault) → first_fault checked.verdicts ≡ first → count ≡ 0
+    by_first None none = sym checked.counted ∙ faults_have_a_first checked.verdicts none
+    by_first (Some f) some =
+        absurd (right input book f is (first_is_the_books input output count checked f some))

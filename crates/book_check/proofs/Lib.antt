@@ -1,0 +1,3 @@
+pub mod LineLaws
+pub mod SoFarLaws
+pub mod BookLaws

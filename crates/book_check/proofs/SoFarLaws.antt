@@ -1,0 +1,98 @@
+-- What is told of the rows so far, with one more row.
+use Rattle.std.proofs.Common.{◌≡◌, ℕ, ◌+◌, ◌∙◌, ◌⊎◌, ap, sym, refl, subst, arith, cond, Option, Some, None, List, [], ◌∷◌}
+use Rattle.std.proofs.Common.{◌++◌, length, count_by, append_assoc, append-nil}
+use Rattle.std.proofs.lemmas.List.Sums.{sum_by-append}
+use Rattle.csv.specs.Machine.{next_record, Read}
+use Rattle.csv.specs.Reading.{Reached, default_config, strip_bom}
+use Rattle.csv.specs.declared.parser.State.{State}
+use Rattle.csv.specs.declared.parser.State.TheVariants as st
+use Rattle.alert_book.specs.Judging.{Counted, counted_after, none_counted}
+use Rattle.alert_book.specs.declared.judging.Verdict.{Verdict}
+use Rattle.book_check.specs.CheckSteps.{IsSoFar, IsToldOf, Tells}
+use Rattle.book_check.specs.Lines.{Stand, at_start, line_of, next_stand, one_if, stand_after, stand_at}
+use Rattle.book_check.specs.TableSteps.{IsTable}
+use Rattle.book_check.specs.Told.{AreVerdicts, header_row, is_told, told_of_row, told_of_rows}
+use Rattle.book_check.specs.declared.check.Told.{Told}
+
+pub none_so_far : (text : List ℕ) (told : Told) → IsTable told.table header_row → told.count ≡ 0
+    → IsSoFar text [] (at_start text) none_counted told
+none_so_far text told table count = record {
+  verdicts = [];
+  each = λ more later are. are;
+  counted = sym count;
+  octets = header_row;
+  table = table;
+  written = λ more later. refl;
+}
+
+one_more_counted : (verdicts : List Verdict) (verdict : Verdict) (before after : ℕ)
+    → count_by is_told verdicts ≡ before → after ≡ before + one_if (is_told verdict)
+    → count_by is_told (verdicts ++ verdict ∷ []) ≡ after
+one_more_counted verdicts verdict before after so more =
+    let parts = sum_by-append (λ (v : Verdict). cond (is_told v) 1 0) verdicts (verdict ∷ []) in
+    parts ∙ omega (arith, so, more)
+
+pub one_more : (text : List ℕ) (seen : List (List (List ℕ))) (stand : Stand) (fields : List (List ℕ))
+    (now next : Counted) (told after : Told) (read : Read)
+    → IsSoFar text seen stand now told
+    → Tells now next (line_of text stand.left) fields told after
+    → next_record default_config stand.state [] [] stand.left ≡ Some read
+    → IsSoFar text (seen ++ fields ∷ []) (stand_at read.1 read.2) next after
+one_more text seen stand fields now next told after read so tells is =
+    let row : List ℕ = told_of_row (now.rows + 1) (line_of text stand.left) (counted_after now fields) fields
+    tells.verdict in
+    record {
+      verdicts = so.verdicts ++ tells.verdict ∷ [];
+      each = λ more later are.
+          subst (λ (rs : List (List (List ℕ))). AreVerdicts none_counted rs ((so.verdicts ++ tells.verdict ∷ [])
+          ++ later))
+          (sym (append_assoc seen (fields ∷ []) more))
+          (subst (λ (vs : List Verdict). AreVerdicts none_counted (seen ++ fields ∷ more) vs)
+          (sym (append_assoc so.verdicts (tells.verdict ∷ []) later))
+          (so.each (fields ∷ more) (tells.verdict ∷ later)
+          (tells.is, subst (λ (c : Counted). AreVerdicts c more later) tells.next are)));
+      counted = one_more_counted so.verdicts tells.verdict told.count after.count so.counted tells.counted;
+      octets = so.octets ++ row;
+      table = tells.table so.octets so.table;
+      written = λ more later.
+          append_assoc so.octets row (told_of_rows text (stand_at read.1 read.2) next more later)
+          ∙ ap (λ (c : Counted). so.octets ++ (row ++ told_of_rows text (stand_at read.1 read.2) c more later)) tells.next
+          ∙ ap (λ (s : Stand). so.octets ++ (row ++ told_of_rows text s (counted_after now fields) more later))
+          (sym (ap (stand_after stand) is))
+          ∙ so.written (fields ∷ more) (tells.verdict ∷ later)
+          ∙ ap (λ (rs : List (List (List ℕ))). header_row ++ told_of_rows text (at_start text) none_counted rs
+          (so.verdicts ++ tells.verdict ∷ later)) (sym (append_assoc seen (fields ∷ []) more))
+          ∙ ap (λ (vs : List Verdict). header_row ++ told_of_rows text (at_start text) none_counted
+          ((seen ++ fields ∷ []) ++ more) vs) (sym (append_assoc so.verdicts (tells.verdict ∷ []) later));
+    }
+
+pub all_told : (input : List ℕ) (seen : List (List (List ℕ))) (state : State) (rest : List ℕ) (stand : Stand)
+    (now : Counted) (told : Told)
+    → IsSoFar (strip_bom input) seen stand now told
+    → Reached default_config st.StartRecord (strip_bom input) seen state rest
+    → (next_record default_config state [] [] rest ≡ None) ⊎ (length seen ≡ 4097)
+    → IsToldOf input told
+all_told input seen state rest stand now told so read whole =
+    let text : List ℕ = strip_bom input in
+    let octets : so.octets ≡ header_row ++ told_of_rows text (at_start text) none_counted seen so.verdicts =
+    sym (append-nil so.octets)
+    ∙ so.written [] []
+    ∙ ap (λ (rs : List (List (List ℕ))). header_row ++ told_of_rows text (at_start text) none_counted rs
+    (so.verdicts ++ [])) (append-nil seen)
+    ∙ ap (λ (vs : List Verdict). header_row ++ told_of_rows text (at_start text) none_counted seen vs)
+    (append-nil so.verdicts) in
+    record {
+      verdicts = so.verdicts;
+      are = record {
+        records = seen;
+        state = state;
+        rest = rest;
+        read = read;
+        whole = whole;
+        each = subst (λ (rs : List (List (List ℕ))). AreVerdicts none_counted rs so.verdicts) (append-nil seen)
+            (subst (λ (vs : List Verdict). AreVerdicts none_counted (seen ++ []) vs) (append-nil so.verdicts)
+            (so.each [] [] tt));
+      };
+      counted = so.counted;
+      table = subst (λ (o : List ℕ). IsTable told.table o) octets so.table;
+    }

@@ -1,0 +1,14 @@
+use Rattle.book_check.proofs.BookLaws.{books_are_clean, clean_are_books, faults_have_a_first, first_is_the_books}
+use Rattle.book_check.proofs.laws.check_laws.Goals as goal
+
+pub returns-clause-clean : goal.returns-clause-clean
+returns-clause-clean c = clean_are_books
+
+pub returns-clause-books : goal.returns-clause-books
+returns-clause-books c = books_are_clean c.book_laws.ensures.book_or_fault
+
+pub returns-clause-first : goal.returns-clause-first
+returns-clause-first c = first_is_the_books
+
+pub returns-clause-some : goal.returns-clause-some
+returns-clause-some c = faults_have_a_first

@@ -1,0 +1,47 @@
+-- What the check of a book says of the book. Own.
+use Rattle.std.specs.Prelude.{◌≡◌, ℕ, ◌+◌, List, [], ◌∷◌, Option, Some, None, count_by}
+use Rattle.std.specs.Option.{option_or}
+use Rattle.alert_book.specs.Book.{Contents, fault_at, kind_of, IsBook, IsWrong}
+use Rattle.alert_book.specs.declared.fault.BookFault.{BookFault}
+use Rattle.alert_book.specs.declared.fault.BookFaultKind.TheVariants as kind
+use Rattle.alert_book.specs.declared.judging.Verdict.{Verdict}
+use Rattle.alert_book.specs.declared.judging.Verdict.TheVariants as verdict
+use Rattle.book_check.specs.Checked.{IsChecked, IsClean}
+use Rattle.book_check.specs.Told.{is_told}
+
+-- the first fault of a row's own, where the first of the rows has this number
+abbrev pub first_wrong : (row : ℕ) → List Verdict → Option BookFault
+first_wrong row [] = None
+first_wrong row (verdict.Right ∷ more) = first_wrong (row + 1) more
+first_wrong row (verdict.Wrong found ∷ more) = Some (fault_at row (kind_of found.fault))
+first_wrong row (verdict.Unsendable why ∷ more) = first_wrong (row + 1) more
+
+-- the first of a text
+abbrev pub first_unsendable : (row : ℕ) → List Verdict → Option BookFault
+first_unsendable row [] = None
+first_unsendable row (verdict.Right ∷ more) = first_unsendable (row + 1) more
+first_unsendable row (verdict.Wrong found ∷ more) = first_unsendable (row + 1) more
+first_unsendable row (verdict.Unsendable why ∷ more) = Some (fault_at row (kind.Text why))
+
+-- the fault of a book by its verdicts: faults of rows come before those of texts
+abbrev pub first_fault : List Verdict → Option BookFault
+first_fault verdicts = option_or (first_wrong 1 verdicts) (first_unsendable 1 verdicts)
+
+-- octets in which nothing is found are a book
+abbrev pub CleanAreBooks : Type 0
+CleanAreBooks = (input output : List ℕ) → IsClean input output → (book : Contents) × IsBook input book
+
+-- and in a book nothing is found
+abbrev pub BooksAreClean : Type 0
+BooksAreClean = (input output : List ℕ) (count : ℕ) (book : Contents)
+    → IsBook input book → IsChecked input count output → count ≡ 0
+
+-- where something is found, the fault of the first row that has its own, or else of the first text, is that for which
+-- the octets are no book
+abbrev pub FirstIsTheBooks : Type 0
+FirstIsTheBooks = (input output : List ℕ) (count : ℕ) (checked : IsChecked input count output) (f : BookFault)
+    → first_fault checked.verdicts ≡ Some f → IsWrong input f
+
+abbrev pub FaultsHaveAFirst : Type 0
+FaultsHaveAFirst = (verdicts : List Verdict) → first_fault verdicts ≡ None
+    → count_by is_told verdicts ≡ 0
