@@ -22,8 +22,8 @@ pub enum TextsFault {
     /// The reader failed.
     #[error("read failed")]
     ReadFailed,
-    /// There are more than 16,777,216 octets.
-    #[error("book is too long")]
+    /// There are more than 16,777,216 octets, which is a fault of no one row.
+    #[error("row 0: too many rows")]
     TooLong,
     /// A row is none of a book: the first such row.
     #[error("{0}")]
