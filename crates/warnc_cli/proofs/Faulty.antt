@@ -1,5 +1,6 @@
 -- What `check` writes and refuses, and what its statuses say of the ends.
-use Rattle.std.proofs.Common.{◌≡◌, ◌≢◌, ◌⊎◌, ◌↔◌, ℕ, ◌≤◌, List, Option, None, Some, IfSome, Ok, Err, Result, IsErrOf, IsTrue}
+use Rattle.std.proofs.Common.{◌≡◌, ◌≢◌, ◌⊎◌, ◌↔◌, ℕ, ◌≤◌, List, Option, None, Some, IfSome, Ok, Err, Result, IsErrOf}
+use Rattle.std.proofs.Common.{IsTrue}
 use Rattle.std.proofs.Common.{true, false, ap, arith, inl, inr, refl, rules, subst, sym}
 use Rattle.std.proofs.KnownBytes.{Keeps-refl}
 use Rattle.std.specs.Io.KnownBytes.{Keeps}

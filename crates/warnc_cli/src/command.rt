@@ -502,7 +502,9 @@ fn verify<'a>(alloc: Global) -> Result<Command<'a>, AllocError> {
 /// The command line of `check`.
 fn check<'a>(alloc: Global) -> Command<'a> {
     Command::new(alloc, "check")
-        .about("Reads a book of alerts, as CSV, and writes every row that has a fault,\nits column, and what is wanted there, as CSV")
+        .about(
+            "Reads a book of alerts, as CSV, and writes every row that has a fault,\nits column, and what is wanted there, as CSV",
+        )
         .after_help("Example: warnc check < book.csv")
 }
 
