@@ -295,8 +295,7 @@ clean_are_books input output clean =
     let firsts = none_first clean.verdicts 1 clean.counted in
     let known : Rows = (counted_in none_counted clean.are.records).known in
     let paged : Paged_are known.orders =
-    all_paged none_counted clean.are.records clean.verdicts 1 clean.are.each ([], tt) firsts.0 firsts.1 in
-    (
+    all_paged none_counted clean.are.records clean.verdicts 1 clean.are.each ([], tt) firsts.0 firsts.1 in (
       record { cells = known.cells; orders = known.orders; pages = paged.0 },
       record {
         bounded = clean.bounded;
@@ -314,8 +313,7 @@ first_is_the_books input output count checked f first =
 
     by_wrong : (wrong : Option BookFault) → first_wrong 1 checked.verdicts ≡ wrong → IsWrong input f
     by_wrong None none =
-        let sent : first_unsendable 1 checked.verdicts ≡ Some f = rw none at first in
-        (
+        let sent : first_unsendable 1 checked.verdicts ≡ Some f = rw none at first in (
           checked.bounded,
           inr (record {
             rows = (counted_in none_counted is.records).known;
@@ -324,8 +322,7 @@ first_is_the_books input output count checked f first =
           }),
         )
     by_wrong (Some g) some =
-        let same : Some g ≡ Some f = rw some at first in
-        (
+        let same : Some g ≡ Some f = rw some at first in (
           checked.bounded,
           inl (record {
             records = is.records;

@@ -186,7 +186,14 @@ fn tell(
 {
     let row = judge.rows() + 1;
     let verdict = judge.judge(alloc, fields)?;
-    push_verdict(alloc, &mut told.table, judge, Place { row, line }, fields, verdict)?;
+    push_verdict(
+        alloc,
+        &mut told.table,
+        judge,
+        Place { row, line },
+        fields,
+        verdict,
+    )?;
     told.count += usize::from(is_told(verdict));
     Ok(())
 }
