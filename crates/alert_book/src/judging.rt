@@ -179,9 +179,7 @@ impl Judge {
         ensures { IfOk result (λ found. found ≡ next_found self.now (fields_of fields.now)) }
     {
         match texts_of(fields.clone()?) {
-            Ok(texts) => {
-                found_after_verb(alloc, &self.cells, &self.orders, &self.names, &texts)
-            }
+            Ok(texts) => { found_after_verb(alloc, &self.cells, &self.orders, &self.names, &texts) }
             Err(_) => Ok(Some(Found {
                 column: no_text_column(fields),
                 fault: RowFault::Columns,

@@ -1,10 +1,11 @@
 -- What the verdicts of a book's rows say of the book.
-use Rattle.std.proofs.Common.{◌≡◌, ◌≢◌, ℕ, zero, suc, ◌+◌, ◌<◌, ◌≤◌, ◌⊎◌, ◌∙◌, ap, sym, refl, subst, arith, inl, inr, tt}
+use Rattle.std.proofs.Common.{◌≡◌, ◌≢◌, ℕ, zero, suc, ◌+◌, ◌<◌, ◌≤◌, ◌⊎◌, ◌∙◌, ap, sym, refl, subst, arith, inl, inr}
 use Rattle.std.proofs.Common.{Bool, true, false, cond, Option, Some, None, List, [], ◌∷◌, ◌++◌, length, count_by}
 use Rattle.std.proofs.Common.{append_assoc, append-nil, Result, Ok, Err}
 use Rattle.std.specs.Prelude.{nat_le, nat_lt}
 use Rattle.std.specs.Option.{option_or}
 use Rattle.std.proofs.lemmas.Bool.{cases_Bool, le-leb, leb-true}
+use Rattle.std.proofs.lemmas.List.Sums.{sum_by-append}
 use Rattle.csv.specs.Reading.{AreRecords, default_config, strip_bom}
 use Rattle.csv.specs.Machine.{next_record}
 use Rattle.csv.specs.declared.parser.State.TheVariants as st
@@ -91,7 +92,7 @@ reads before (fields ∷ records) (verdict.Unsendable why ∷ more) are =
 -- rows without a fault of their own are few
 right_few : (before : Counted) (fields : List (List ℕ)) (count : ℕ) (meant : Row) → next_meant before fields ≡ Ok meant
     → ((counted_after before fields).rows ≤ 4096 → (counted_after before fields).rows + count ≤ 4096)
-    → before.rows + (count + 1) ≤ 4096
+    → before.rows + suc count ≤ 4096
 right_few before fields count meant right later =
     let fits : before.rows + 1 ≤ 4096 =
     row_fits (before.rows + 1) before.known.cells before.known.orders fields meant right in
@@ -126,7 +127,7 @@ all_records input verdicts are none = by_end are.whole
         absurd (omega (arith, few none_counted are.records verdicts 1 are.each none (omega arith), long))
 
 -- orders stay, and others come behind them
-Extends : (old new : List Order) → Type 0
+abbrev Extends : (old new : List Order) → Type 0
 Extends old new = (more : List Order) × (new ≡ old ++ more)
 
 one_behind : (old : List Order) (order : Order) → Extends old (old ++ order ∷ [])
@@ -173,7 +174,7 @@ pages_more (o ∷ orders) [] order paged have here = absurd have
 pages_more (o ∷ orders) (p ∷ pages) order paged have here = (have.0, pages_more orders pages order paged have.1 here)
 
 -- some pages are those of these orders
-Paged_are : List Order → Type 0
+abbrev Paged_are : List Order → Type 0
 Paged_are orders = (pages : List (Option Paged)) × HavePages orders pages
 
 right_paged : (before : Counted) (fields : List (List ℕ)) (right : IsRightRow before fields verdict.Right)
@@ -263,8 +264,12 @@ none_first : (verdicts : List Verdict) (row : ℕ) → count_by is_told verdicts
     → (first_wrong row verdicts ≡ None) × (first_unsendable row verdicts ≡ None)
 none_first [] row none = (refl, refl)
 none_first (verdict.Right ∷ more) row none = none_first more (row + 1) none
-none_first (verdict.Wrong found ∷ more) row none = absurd (omega (arith, none))
-none_first (verdict.Unsendable why ∷ more) row none = absurd (omega (arith, none))
+none_first (verdict.Wrong found ∷ more) row none =
+    let one = sum_by-append (λ (v : Verdict). cond (is_told v) 1 0) (verdict.Wrong found ∷ []) more in
+    absurd (omega (arith, none, one))
+none_first (verdict.Unsendable why ∷ more) row none =
+    let one = sum_by-append (λ (v : Verdict). cond (is_told v) 1 0) (verdict.Unsendable why ∷ []) more in
+    absurd (omega (arith, none, one))
 
 either_first : (wrong text : Option BookFault) → option_or wrong text ≡ None → (wrong ≡ None) × (text ≡ None)
 either_first None text none = (refl, none)
@@ -290,8 +295,7 @@ clean_are_books input output clean =
     let firsts = none_first clean.verdicts 1 clean.counted in
     let known : Rows = (counted_in none_counted clean.are.records).known in
     let paged : Paged_are known.orders =
-    all_paged none_counted clean.are.records clean.verdicts 1 clean.are.each ([], tt) firsts.0 firsts.1 in
-    (
+    all_paged none_counted clean.are.records clean.verdicts 1 clean.are.each ([], tt) firsts.0 firsts.1 in (
       record { cells = known.cells; orders = known.orders; pages = paged.0 },
       record {
         bounded = clean.bounded;
@@ -309,8 +313,7 @@ first_is_the_books input output count checked f first =
 
     by_wrong : (wrong : Option BookFault) → first_wrong 1 checked.verdicts ≡ wrong → IsWrong input f
     by_wrong None none =
-        let sent : first_unsendable 1 checked.verdicts ≡ Some f = rw none at first in
-        (
+        let sent : first_unsendable 1 checked.verdicts ≡ Some f = rw none at first in (
           checked.bounded,
           inr (record {
             rows = (counted_in none_counted is.records).known;
@@ -319,8 +322,7 @@ first_is_the_books input output count checked f first =
           }),
         )
     by_wrong (Some g) some =
-        let same : Some g ≡ Some f = rw some at first in
-        (
+        let same : Some g ≡ Some f = rw some at first in (
           checked.bounded,
           inl (record {
             records = is.records;

@@ -1,5 +1,5 @@
 -- How a cursor passes the octets of a text, as `csv` does.
-use Rattle.std.proofs.Common.{◌≡◌, ℕ, suc, ◌+◌, ◌-◌, ◌<◌, ◌≤◌, ◌∙◌, ap, sym, refl, Bool, true, false, cond, Option, Some, None}
+use Rattle.std.proofs.Common.{◌≡◌, ℕ, zero, suc, ◌+◌, ◌-◌, ◌<◌, ◌≤◌, ◌∙◌, ap, sym, refl, Bool, true, false, cond, Option, Some, None}
 use Rattle.std.proofs.Common.{IfSome, List, [], ◌∷◌, ◌++◌, drop, get_or, length, add-one, drop-cons, arith, subst, length-drop}
 use Rattle.std.specs.Prelude.{◌==◌}
 use Rattle.csv.specs.Machine.{fields_after, field_after, is_end, next_record, step, ends_at_end, Read}
@@ -10,7 +10,8 @@ use Rattle.csv.specs.declared.parser.Config.{Config}
 use Rattle.csv.specs.declared.parser.State.{State}
 use Rattle.csv.specs.declared.parser.State.TheVariants as st
 use Rattle.book_check.specs.Lines.{blank_front, is_line_end, line_of, lines_before}
-use Rattle.book_check.specs.LineSteps.{csv_state, is_start}
+use Rattle.book_check.specs.LineSteps.{csv_state, is_start, PassesRecord}
+use Rattle.book_check.specs.declared.lines.Cursor.{Cursor}
 use Rattle.book_check.specs.declared.lines.Within.{Within}
 use Rattle.book_check.specs.declared.lines.Within.TheVariants as within
 
@@ -33,13 +34,11 @@ pub blank_none : (text : List ℕ) (at : ℕ) → at < length text → is_line_e
     → blank_front (drop at text) ≡ 0
 blank_none text at less other = ap blank_front (split_at text at less) ∙ rw other refl
 
-pub drop_end : (text : List ℕ) (at : ℕ) → at ≤ length text → length text ≤ at → drop at text ≡ []
-drop_end [] at few end = drop_none at
-  where
-    drop_none : (n : ℕ) → drop n [] ≡ []
-    drop_none n = search rules
-drop_end (octet ∷ text) zero few end = absurd (omega (arith, end))
-drop_end (octet ∷ text) (suc at) few end = drop_end text at (omega (arith, few)) (omega (arith, end))
+pub drop_end : (text : List ℕ) (at : ℕ) → length text ≤ at → drop at text ≡ []
+drop_end [] zero end = refl
+drop_end [] (suc at) end = refl
+drop_end (octet ∷ text) zero end = absurd (omega (arith, end))
+drop_end (octet ∷ text) (suc at) end = drop_end text at (omega (arith, end))
 
 -- before a record `csv` skips a line end
 pub skips : (w : Within) (octet : ℕ) → is_start w ≡ true → is_line_end octet ≡ true
@@ -93,18 +92,29 @@ ends_last s fields field = by_end (ends_at_end s)
     by_end false = tt
 
 -- the record between two places to which a text was read
+read_is : (read : Read) (fields : List (List ℕ)) (s : State) (y : List ℕ) → fields ≡ read.0 → read.1 ≡ s → read.2 ≡ y
+    → read ≡ (fields, s, y)
+read_is read fields s y a b c =
+    ap (λ (f : List (List ℕ)). (f, read.1, read.2)) (sym a)
+    ∙ ap (λ (t : State). (fields, t, read.2)) b
+    ∙ ap (λ (r : List ℕ). (fields, s, r)) c
+
+one_read : (p q : Read) (o : Option Read) → o ≡ Some p → o ≡ Some q → p ≡ q
+one_read p q o a b = cc
+
 pub reached_last : (s s1 s2 : State) (xs y1 y2 : List ℕ) (seen : List (List (List ℕ))) (fields : List (List ℕ))
     → Reached default_config s xs seen s1 y1 → Reached default_config s xs (seen ++ fields ∷ []) s2 y2
     → next_record default_config s1 [] [] y1 ≡ Some (fields, s2, y2)
 unfolding Reached
 reached_last s s1 s2 xs y1 y2 [] fields before after =
-    let read : Read = after.0 in
-    let is : read ≡ (fields, s2, y2) = cc (after.2, after.3.0, after.3.1) in
-    rw (sym before.0, sym before.1) (after.1 ∙ ap Some is)
+    ap (λ (t : State). next_record default_config t [] [] y1) (sym before.0)
+    ∙ ap (λ (r : List ℕ). next_record default_config s [] [] r) (sym before.1)
+    ∙ after.1
+    ∙ ap Some (read_is after.0 fields s2 y2 after.2 after.3.0 after.3.1)
 reached_last s s1 s2 xs y1 y2 (r ∷ rs) fields before after =
-    let same : before.0 ≡ after.0 = cc (before.1, after.1) in
     reached_last before.0.1 s1 s2 before.0.2 y1 y2 rs fields before.3
-    (subst (λ (p : Read). Reached default_config p.1 p.2 (rs ++ fields ∷ []) s2 y2) (sym same) after.3)
+    (subst (λ (p : Read). Reached default_config p.1 p.2 (rs ++ fields ∷ []) s2 y2)
+    (sym (one_read before.0 after.0 (next_record default_config s [] [] xs) before.1 after.1)) after.3)
 
 -- the line of what is left behind a place
 pub line_here : (text : List ℕ) (at start : ℕ) → at ≤ length text → start ≡ at + blank_front (drop at text)
@@ -113,3 +123,12 @@ line_here text at start few is =
     let left : length (drop at text) ≡ length text - at = length-drop at text in
     let back : length text - length (drop at text) + blank_front (drop at text) ≡ start = omega (arith, left, is, few) in
     ap (λ n. lines_before text n + 1) back
+
+-- the place to which a cursor passes the next record
+pub passed_to : (text : List ℕ) (old new : Cursor) (read : Read) (s : State) (left : List ℕ)
+    → csv_state old.within ≡ s → drop old.at text ≡ left → next_record default_config s [] [] left ≡ Some read
+    → PassesRecord text old new → (csv_state new.within ≡ read.1) × (drop new.at text ≡ read.2)
+passed_to text old new read s left a b is passes =
+    subst (λ (o : Option Read). IfSome o (λ (r : Read). (csv_state new.within ≡ r.1) × (drop new.at text ≡ r.2)))
+    (ap (λ (t : State). next_record default_config t [] [] (drop old.at text)) a
+    ∙ ap (λ (l : List ℕ). next_record default_config s [] [] l) b ∙ is) passes

@@ -1,6 +1,8 @@
 -- What is told of the rows so far, with one more row.
-use Rattle.std.proofs.Common.{◌≡◌, ℕ, ◌+◌, ◌∙◌, ◌⊎◌, ap, sym, refl, subst, arith, cond, Option, Some, None, List, [], ◌∷◌}
+use Rattle.std.proofs.Common.{◌≡◌, ℕ, ◌+◌, ◌<◌, ◌≤◌, ◌∙◌, ◌⊎◌, false, inl, inr, ap, sym, refl, subst, arith, cond, Option, Some, None, List, [], ◌∷◌}
 use Rattle.std.proofs.Common.{◌++◌, length, count_by, append_assoc, append-nil}
+use Rattle.std.specs.Prelude.{nat_le}
+use Rattle.std.proofs.lemmas.Bool.{cases_Bool, leb-true}
 use Rattle.std.proofs.lemmas.List.Sums.{sum_by-append}
 use Rattle.csv.specs.Machine.{next_record, Read}
 use Rattle.csv.specs.Reading.{Reached, default_config, strip_bom}
@@ -8,6 +10,7 @@ use Rattle.csv.specs.declared.parser.State.{State}
 use Rattle.csv.specs.declared.parser.State.TheVariants as st
 use Rattle.alert_book.specs.Judging.{Counted, counted_after, none_counted}
 use Rattle.alert_book.specs.declared.judging.Verdict.{Verdict}
+use Rattle.alert_book.specs.declared.judging.Verdict.TheVariants as verdict
 use Rattle.book_check.specs.CheckSteps.{IsSoFar, IsToldOf, Tells}
 use Rattle.book_check.specs.Lines.{Stand, at_start, line_of, next_stand, one_if, stand_after, stand_at}
 use Rattle.book_check.specs.TableSteps.{IsTable}
@@ -96,3 +99,20 @@ all_told input seen state rest stand now told so read whole =
       counted = so.counted;
       table = subst (λ (o : List ℕ). IsTable told.table o) octets so.table;
     }
+
+-- a row that isn't one too many counts
+pub counted_rows : (before : Counted) (fields : List (List ℕ)) → before.rows < 4096
+    → (counted_after before fields).rows ≡ before.rows + 1
+counted_rows before fields few =
+    let room : nat_le 4096 before.rows ≡ false = elim (cases_Bool (nat_le 4096 before.rows)) [
+      | inl full ↦ absurd (omega (arith, leb-true 4096 before.rows full, few))
+      | inr room ↦ room
+    ] in
+    rw room refl
+
+-- the count of faults is no more than that of rows
+pub count_fits : (verdict : Verdict) (before after rows : ℕ) → after ≡ before + one_if (is_told verdict)
+    → before ≤ rows → after ≤ rows + 1
+count_fits verdict.Right before after rows is fits = omega (arith, is, fits)
+count_fits (verdict.Wrong found) before after rows is fits = omega (arith, is, fits)
+count_fits (verdict.Unsendable why) before after rows is fits = omega (arith, is, fits)

@@ -162,11 +162,11 @@ fn told_of(alloc: Global, octets: &[u8]) -> Result<Told, AllocError>
         let Ok(fields) = record else {
             return Err(AllocError);
         };
-        let is_last = judge.rows() >= MAX_ROWS;
+        let counted = judge.rows();
         let passed = pass_record(text, cursor);
         cursor = passed.cursor;
         tell(alloc, &mut told, &mut judge, passed.line, &fields)?;
-        if is_last {
+        if counted >= MAX_ROWS {
             return Ok(told);
         }
     }
@@ -186,7 +186,14 @@ fn tell(
 {
     let row = judge.rows() + 1;
     let verdict = judge.judge(alloc, fields)?;
-    push_verdict(alloc, &mut told.table, judge, Place { row, line }, fields, verdict)?;
+    push_verdict(
+        alloc,
+        &mut told.table,
+        judge,
+        Place { row, line },
+        fields,
+        verdict,
+    )?;
     told.count += usize::from(is_told(verdict));
     Ok(())
 }
@@ -245,15 +252,12 @@ fn push_fault(
     let mut row_buffer = Buffer::new();
     let mut line_buffer = Buffer::new();
     let mut column_buffer = Buffer::new();
-    let row = row_buffer.format(place.row);
-    let line = line_buffer.format(place.line);
-    let column = column_buffer.format(column);
-    table.push_row(&[
-        row.as_bytes(),
-        line.as_bytes(),
-        column.as_bytes(),
-        name.as_bytes(),
+    table.push_fault(
+        row_buffer.format(place.row),
+        line_buffer.format(place.line),
+        column_buffer.format(column),
+        name,
         &value,
-        says.as_bytes(),
-    ])
+        says,
+    )
 }

@@ -2,7 +2,7 @@
 //!
 //! [`pass_record`] goes over the octets of a record as the crate `csv` does, so that each of its records has its line.
 
-ghost use Rattle.std.specs.Prelude.{◌≡◌, ◌+◌, ◌<◌, ◌≤◌, true, drop, length};
+ghost use Rattle.std.specs.Prelude.{◌≡◌, ◌+◌, ◌<◌, ◌≤◌, false, true, drop, length};
 ghost use Rattle.csv.specs.Machine.{in_field, start_field, start_record, step};
 ghost use Rattle.csv.specs.Reading.{default_config, strip_bom};
 ghost use Rattle.book_check.specs.Lines.{blank_front, ends_line, is_line_end, line_of};
@@ -55,6 +55,7 @@ pub(crate) struct Passed {
 }
 
 /// The octets without a byte order mark.
+#[tactic(auto, unfolding(csv::specs::Reading::strip_bom))]
 pub(crate) fn without_mark(octets: &[u8]) -> &[u8]
     ensures { result.now ≡ strip_bom octets.now }
 {

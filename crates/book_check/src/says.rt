@@ -7,12 +7,8 @@ ghost use Rattle.alert_book.specs.Fields.{column};
 ghost use Rattle.book_check.specs.Words.{columns_words, count_words, is_ucs2, pages_words, says_of_row, says_of_text};
 ghost use Rattle.book_check.specs.Words.{text_of, twice_words, undeclared_words};
 
-use crate::words::{
-    column_of, number_words, too_many_words, unknown_words, verb_name, verb_words,
-};
-use alert_book::{
-    Column, Found, Judge, RowFault, Verb, are_texts, columns_of, octets_at, text_at,
-};
+use crate::words::{column_of, number_words, too_many_words, unknown_words, verb_name, verb_words};
+use alert_book::{Column, Found, Judge, RowFault, Verb, are_texts, columns_of, octets_at, text_at};
 use cbs_page::TextFault;
 use cbsp_wire::Cell;
 use csv::ByteRecord;
@@ -24,11 +20,7 @@ const LANGUAGES: &str =
     "unknown language: de, en, it, fr, es, nl, sv, da, pt, fi, no, el, tr, hu, pl, und, cs, he, ar, ru or is";
 
 /// What is said of a row of a verb that has so many columns.
-fn count_words(
-    alloc: Global,
-    verb: Option<Verb>,
-    columns: usize,
-) -> Result<String, AllocError>
+fn count_words(alloc: Global, verb: Option<Verb>, columns: usize) -> Result<String, AllocError>
     ensures { IfOk result (λ says. string_bytes says ≡ count_words verb columns) }
 {
     let Some(verb) = verb else {

@@ -1,6 +1,6 @@
 //! A table as CSV, in memory.
 
-ghost use Rattle.std.specs.Prelude.{◌≡◌, ℕ, List, [], ◌++◌, map, IfOk, OnOk};
+ghost use Rattle.std.specs.Prelude.{◌≡◌, ℕ, List, [], ◌∷◌, ◌++◌, map, IfOk, OnOk};
 ghost use Rattle.book_check.specs.TableSteps.{IsTable};
 ghost use Rattle.book_check.specs.Told.{csv_row, header_row};
 
@@ -41,6 +41,30 @@ impl Table {
             Ok(()) => Ok(()),
             Err(_) => Err(AllocError),
         }
+    }
+
+    /// Appends the row of a fault.
+    pub(crate) fn push_fault<'a>(
+        &mut self,
+        row: &'a str,
+        line: &'a str,
+        column: &'a str,
+        name: &'a str,
+        value: &'a [u8],
+        says: &'a str,
+    ) -> Result<(), AllocError>
+        ensures { OnOk result ((octets : List ℕ) → IsTable self.old octets →
+            IsTable self.new (octets
+            ++ csv_row (row.now ∷ line.now ∷ column.now ∷ name.now ∷ value.now ∷ says.now ∷ []))) }
+    {
+        self.push_row(&[
+            row.as_bytes(),
+            line.as_bytes(),
+            column.as_bytes(),
+            name.as_bytes(),
+            value,
+            says.as_bytes(),
+        ])
     }
 
     /// The table's octets.

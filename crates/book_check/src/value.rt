@@ -2,6 +2,7 @@
 
 ghost use Rattle.std.specs.Prelude.{◌≡◌, ◌++◌, ◌≤◌, IfOk, OnOk, length};
 ghost use Rattle.std.specs.List.{flat_map};
+ghost use Rattle.std.specs.Str.{is_utf8};
 ghost use Rattle.book_check.specs.Words.{cut_field, cut_length, is_continuation, shown_octet, shown_value};
 
 use std::alloc::{AllocError, Global};
@@ -68,13 +69,23 @@ fn shown_octets(alloc: Global, octets: &[u8]) -> Result<Vec<u8>, AllocError>
     Ok(value)
 }
 
+/// Whether a field is UTF-8.
+fn is_text(field: &[u8]) -> bool
+    ensures { result ≡ is_utf8 field.now }
+{
+    match str::from_utf8(field) {
+        Ok(_) => true,
+        Err(_) => false,
+    }
+}
+
 /// A field as it is shown.
 pub(crate) fn shown_value(alloc: Global, field: &[u8]) -> Result<Vec<u8>, AllocError>
     ensures { IfOk result (λ value. value.items ≡ shown_value field.now) }
 {
     let cut = cut_field(field);
-    match str::from_utf8(field) {
-        Ok(_) => Vec::from_slice(alloc, cut),
-        Err(_) => shown_octets(alloc, cut),
+    if is_text(field) {
+        return Vec::from_slice(alloc, cut);
     }
+    shown_octets(alloc, cut)
 }

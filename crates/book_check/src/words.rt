@@ -17,7 +17,10 @@ pub(crate) fn column_of(verb: Option<Verb>, place: usize) -> Option<Column>
     if place < 2 {
         return None;
     }
-    columns_after(verb).get(place - 2).copied()
+    match columns_after(verb).get(place - 2) {
+        Some(column) => Some(*column),
+        None => None,
+    }
 }
 
 /// The name of a column.

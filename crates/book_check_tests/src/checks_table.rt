@@ -74,19 +74,24 @@ fn tell(told: &mut String, verb: &str, outcome: &Outcome) -> Result<(), Fail> {
             tell_table(told, &outcome.text)
         }
         "line_feeds" => Ok(write!(told, "{fault}, {} left", outcome.left)?),
-        "reads" => Ok(write!(told, "{fault:?}, {}, {}", outcome.unread, outcome.text.len())?),
-        "writes" => Ok(write!(told, "{fault:?}, {}, {}", outcome.unwritten, outcome.text.len())?),
+        "reads" => Ok(write!(
+            told,
+            "{fault:?}, {}, {}",
+            outcome.unread,
+            outcome.text.len()
+        )?),
+        "writes" => Ok(write!(
+            told,
+            "{fault:?}, {}, {}",
+            outcome.unwritten,
+            outcome.text.len()
+        )?),
         _ => Ok(write!(told, "{fault}")?),
     }
 }
 
 /// The octets of the book that a row speaks of, and the ends of its check.
-fn put_octets(
-    octets: &mut Vec<u8>,
-    given: &Given,
-    verb: &str,
-    rest: &str,
-) -> Result<Ends, Fail> {
+fn put_octets(octets: &mut Vec<u8>, given: &Given, verb: &str, rest: &str) -> Result<Ends, Fail> {
     let mut ends = Ends {
         most: given.most,
         reads: None,

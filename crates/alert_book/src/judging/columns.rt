@@ -223,9 +223,9 @@ fn first_found(
     for (index, kind) in columns.iter().enumerate() {
         let place = index + 1;
         let (before, field) = (column(fields, index), column(fields, place));
-        if let Some(fault) =
-            column_fault(alloc, verb, declared, orders, names, *kind, before, field)?
-        {
+        if let Some(fault) = column_fault(
+            alloc, verb, declared, orders, names, *kind, before, field,
+        )? {
             return Ok(Some(Found {
                 column: place + 1,
                 fault,

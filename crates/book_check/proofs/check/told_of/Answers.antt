@@ -1,14 +1,19 @@
-use Rattle.std.proofs.Common.{◌≡◌, ◌≤◌, ◌∙◌, ap, Bor, List, ℕ, Some, inl, inr, refl, subst, sym, arith, [], ◌∷◌, ◌++◌, length}
-use Rattle.std.proofs.Common.{drop}
+use Rattle.std.proofs.Common.{◌≡◌, ◌+◌, ◌<◌, ◌≤◌, ◌∙◌, ap, Bor, List, ℕ, Some, inl, inr, refl, subst, sym, arith, [], ◌∷◌}
+use Rattle.std.proofs.Common.{◌++◌, length, drop, IfSome}
 use Rattle.std.proofs.lemmas.List.{length_push}
+use Rattle.csv.specs.Machine.{next_record, Read}
 use Rattle.csv.specs.Reading.{Reached, default_config, strip_bom}
 use Rattle.csv.specs.Records.{fields_of}
+use Rattle.csv.specs.declared.parser.State.{State}
 use Rattle.csv.specs.declared.parser.State.TheVariants as st
 use Rattle.csv.proofs.ReadFacts.{rows-end, rows-more}
+use Rattle.alert_book.specs.Judging.{none_counted, Counted}
 use Rattle.book_check.specs.CheckSteps.{IsSoFar, Tells}
-use Rattle.book_check.specs.Lines.{line_of, stand_at}
-use Rattle.book_check.proofs.LineLaws.{reached_last}
-use Rattle.book_check.proofs.SoFarLaws.{all_told, none_so_far, one_more}
+use Rattle.book_check.specs.LineSteps.{csv_state, PassesRecord}
+use Rattle.book_check.specs.Lines.{at_start, line_of, stand_at}
+use Rattle.book_check.specs.declared.check.Told.{Told}
+use Rattle.book_check.proofs.LineLaws.{passed_to, reached_last}
+use Rattle.book_check.proofs.SoFarLaws.{all_told, count_fits, counted_rows, none_so_far, one_more}
 use Rattle.book_check.proofs.check.told_of.Goals as goal
 
 pub loop-record-init : goal.loop-record-init
@@ -19,20 +24,111 @@ loop-record-init c =
     let start = c.into_iter-record-iterator.ensures.into_iter_gives ∙ refl in
     let rdr = c.into_byte_records-record-items.ensures.rdr in
     let left = c.into_byte_records-record-items.ensures.left in
+    let text : List ℕ = strip_bom c.args.octets.now in
+    let told : Told = record { table = c.in_ok-new.field-0; count = 0 } in
+    let rows : c.new-judge.result.rows ≡ 0 = ap (λ (j : Counted). j.rows) c.new-judge.ensures in
     rw (start, rdr) record {
-      trim = rw e at fr.trim ∙ c.new-4.ensures.trim;
+      trim = rw e at fr.trim ∙ c.new-2.ensures.trim;
       ready = inr (inr (rw e at fr.has_headers, fr.headers));
       turns = left;
-      config = rw e at fr.config ∙ c.new-4.ensures.config;
-      left = strip_bom c.args.octets.now;
+      config = rw e at fr.config ∙ c.new-2.ensures.config;
+      left = text;
       source = fr.source;
       seen = [];
       reached = (sym fr.state, refl);
-      rows = ?;
-      few = ?;
-      count = ?;
-      before = ?;
-      state_is = ?;
-      left_is = ?;
-      so_far = ?;
+      rows = rows;
+      few = omega (arith, rows);
+      count = omega arith;
+      before = record {
+        on = record { fits = omega arith; ended = refl; few = omega arith };
+        start = refl;
+      };
+      state_is = sym fr.state;
+      left_is = c.without_mark-text.ensures;
+      so_far = subst (λ (s : State). IsSoFar text [] (stand_at s text) c.new-judge.result told) (sym fr.state)
+          (subst (λ (j : Counted). IsSoFar text [] (at_start text) j told) (sym c.new-judge.ensures)
+          (none_so_far text told c.in_ok-new.ensures refl));
     }
+
+pub loop-record-preserved : goal.loop-record-preserved
+loop-record-preserved c =
+    let inv = c.loop-record.invariant in
+    let text : List ℕ = strip_bom c.args.octets.now in
+    let fields : List (List ℕ) = fields_of c.in-Ok.fields in
+    let old = c.loop-record.record-iterator.rdr in
+    let new = c.next.new.self.rdr in
+    let s = rw (c.in-Some.is, c.in-Ok.is) at ((c.next.ensures.steps inv.turns inv.trim).0 inv.ready) in
+    let m = rows-more (λ (s : Bor (List ℕ)). Some s.now) old new fields default_config st.StartRecord text inv.left
+    inv.seen inv.config inv.source inv.reached s.0 in
+    let read = reached_last st.StartRecord old.state new.state text inv.left m.0 inv.seen fields inv.reached m.2 in
+    let few : c.loop-record.judge.rows < 4096 = omega (arith, c.rows-counted.ensures.rows) in
+    let tells = c.in_ok-tell.ensures.told in
+    let counted : c.tell.new.judge.rows ≡ c.loop-record.judge.rows + 1 =
+    ap (λ (j : Counted). j.rows) tells.next ∙ counted_rows c.loop-record.judge fields few in
+    let line : c.pass_record-passed.result.line ≡ line_of text inv.left =
+    c.pass_record-passed.ensures.line
+    ∙ ap (λ (t : List ℕ). line_of t (drop c.loop-record.cursor.at c.without_mark-text.result.now))
+    c.without_mark-text.ensures
+    ∙ ap (line_of text) inv.left_is in
+    let passed = passed_to c.without_mark-text.result.now c.loop-record.cursor c.pass_record-passed.result.cursor
+    (fields, new.state, m.0) old.state inv.left inv.state_is inv.left_is read c.pass_record-passed.ensures.passes in
+    record {
+      trim = s.0.3 ∙ inv.trim;
+      ready = inl s.1;
+      turns = s.2;
+      config = s.0.2 ∙ inv.config;
+      left = m.0;
+      source = m.1;
+      seen = inv.seen ++ fields ∷ [];
+      reached = m.2;
+      rows = counted ∙ ap (λ n. n + 1) inv.rows ∙ sym (length_push inv.seen fields);
+      few = omega (arith, counted, few);
+      count = rw counted (count_fits tells.verdict c.loop-record.told.count c.tell.new.told.count
+          c.loop-record.judge.rows tells.counted inv.count);
+      before = c.pass_record-passed.ensures.before;
+      state_is = passed.0;
+      left_is = passed.1;
+      so_far = one_more text inv.seen (stand_at old.state inv.left) fields c.loop-record.judge c.tell.new.judge
+          c.loop-record.told c.tell.new.told (fields, new.state, m.0) inv.so_far
+          (subst (λ n. Tells c.loop-record.judge c.tell.new.judge n fields c.loop-record.told c.tell.new.told) line
+          tells)
+          read;
+    }
+
+pub returns-then-counted-ge-MAX_ROWS : goal.returns-then-counted-ge-MAX_ROWS
+returns-then-counted-ge-MAX_ROWS c =
+    let inv = c.loop-record.invariant in
+    let text : List ℕ = strip_bom c.args.octets.now in
+    let fields : List (List ℕ) = fields_of c.in-Ok.fields in
+    let old = c.loop-record.record-iterator.rdr in
+    let new = c.next.new.self.rdr in
+    let s = rw (c.in-Some.is, c.in-Ok.is) at ((c.next.ensures.steps inv.turns inv.trim).0 inv.ready) in
+    let m = rows-more (λ (s : Bor (List ℕ)). Some s.now) old new fields default_config st.StartRecord text inv.left
+    inv.seen inv.config inv.source inv.reached s.0 in
+    let read = reached_last st.StartRecord old.state new.state text inv.left m.0 inv.seen fields inv.reached m.2 in
+    let full : 4096 ≤ c.loop-record.judge.rows = omega (arith, c.rows-counted.ensures.rows) in
+    let line : c.pass_record-passed.result.line ≡ line_of text inv.left =
+    c.pass_record-passed.ensures.line
+    ∙ ap (λ (t : List ℕ). line_of t (drop c.loop-record.cursor.at c.without_mark-text.result.now))
+    c.without_mark-text.ensures
+    ∙ ap (line_of text) inv.left_is in
+    let more = one_more text inv.seen (stand_at old.state inv.left) fields c.loop-record.judge c.tell.new.judge
+    c.loop-record.told c.tell.new.told (fields, new.state, m.0) inv.so_far
+    (subst (λ n. Tells c.loop-record.judge c.tell.new.judge n fields c.loop-record.told c.tell.new.told) line
+    c.in_ok-tell.ensures.told)
+    read in
+    let long : length (inv.seen ++ fields ∷ []) ≡ 4097 =
+    omega (arith, length_push inv.seen fields, inv.rows, inv.few, full) in
+    all_told c.args.octets.now (inv.seen ++ fields ∷ []) new.state m.0 (stand_at new.state m.0) c.tell.new.judge
+    c.tell.new.told more m.2 (inr long)
+
+pub returns : goal.returns
+returns c =
+    let inv = c.loop-record.invariant in
+    let text : List ℕ = strip_bom c.args.octets.now in
+    let old = c.loop-record.record-iterator.rdr in
+    let s = rw c.in-None.is at ((c.next.ensures.steps inv.turns inv.trim).0 inv.ready) in
+    all_told c.args.octets.now inv.seen old.state inv.left (stand_at old.state inv.left) c.loop-record.judge
+    c.loop-record.told inv.so_far inv.reached
+    (inl (rows-end (λ (s : Bor (List ℕ)). Some s.now) old c.next.new.self.rdr [] default_config inv.left inv.config
+    inv.source s))

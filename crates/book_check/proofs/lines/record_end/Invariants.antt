@@ -10,7 +10,7 @@ invariant-octets l = record {
   fields : List (List ℕ);
   field : List ℕ;
   same : next_record default_config (csv_state l.cursor.within) fields field (drop l.cursor.at l.text)
-      ≡ next_record default_config (csv_state l.start.within) [] [] (drop l.start.at l.text);
+      ≡ next_record default_config (csv_state l.fn.start.within) [] [] (drop l.fn.start.at l.text);
 }
 
 abbrev pub decreases-octets : goal.decreases-octets
