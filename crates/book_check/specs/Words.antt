@@ -1,5 +1,7 @@
--- The words of what is told of a book's faults: the names of columns, values as they are shown, and what is wanted. Own.
-use Rattle.std.specs.Prelude.{ℕ, zero, suc, ◌+◌, ◌-◌, ◌==◌, ◌&&◌, ◌||◌, not, nat_le, nat_lt, Bool, if◌then◌else◌, Option}
+-- The words of what is told of a book's faults: the names of columns, values as they are shown, and what is wanted.
+-- Own.
+use Rattle.std.specs.Prelude.{ℕ, zero, suc, ◌+◌, ◌-◌, ◌==◌, ◌&&◌, ◌||◌, not, nat_le, nat_lt, Bool, if◌then◌else◌}
+use Rattle.std.specs.Prelude.{Option}
 use Rattle.std.specs.Prelude.{Some, None, List, [], ◌∷◌, ◌++◌, codes, encode_utf8, find, is_some, length, position}
 use Rattle.std.specs.Prelude.{slice_get, take, unwrap_or}
 use Rattle.std.specs.Fmt.{decimal}
