@@ -8,6 +8,7 @@ Usage: edits_table.py            prints the document
 import os
 import re
 import sys
+import textwrap
 
 from more_edits import TOP, function_at, read_edit
 
@@ -72,10 +73,9 @@ Each edit turns the meaning of one function, and the prover has to refuse the cr
 `must-fail/`; `more-edits.sh` tries those of `more-edits/`. `tools/edits_table.py` writes this page, and with `--all`
 a list of all edits by crate and function.
 
-These wrong bodies were named before a line was written. Each is refused by the prover, or a test sees it.
+Each of these wrong bodies is refused by the prover, as the edits beside it (`CRATE/NAME`) show, or the tests beside it
+see it. A body that
 
-| A body that | Edits of it | Tests that see it |
-|---|---|---|
 """
 
 
@@ -98,14 +98,14 @@ def tests():
 
 
 def wrong_bodies():
-    """Yields a row for each body that warnc must not have; stops if it names an edit or a test that isn't there."""
+    """Yields lines for each body that warnc must not have; stops if it names an edit or a test that isn't there."""
     there = tests()
     for body, edits, seen in WRONG:
         lost = [it for it in edits.split() if not path_of(it)] + [it for it in seen.split() if it not in there]
         if lost or not edits + seen:
             sys.exit(f"tools/edits_table.py: '{body}': nothing is named {', '.join(lost)}")
-        cells = (", ".join(f"`{it}`" for it in names.split()) or "-" for names in (edits, seen))
-        yield f"| {body} | {' | '.join(cells)} |"
+        named = ", ".join(f"`{it}`" for it in [*edits.split(), *seen.split()])
+        yield from textwrap.wrap(f"- {body}: {named}", 120, subsequent_indent="  ", break_on_hyphens=False)
 
 
 def place_of(crate, path):

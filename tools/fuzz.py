@@ -71,7 +71,7 @@ import gsm
 TOP = os.path.dirname(os.path.dirname(os.path.realpath(__file__)))
 PROGRAM = os.path.join(TOP, "crates", "warnc", "out", "warnc")
 SEEDS = os.path.join(TOP, "tools", "fuzz")
-COMMANDS = ("page", "read", "compile", "live", "report", "chart", "verify", "pcap", "tape")
+COMMANDS = ("check", "texts", "page", "read", "compile", "live", "report", "chart", "verify", "pcap", "tape")
 OF_BOOKS = ("compile", "live", "report", "chart")
 # an option without which clap refuses a command
 NEEDED = {"page": "--lang", "tape": "--cell", "verify": "--slots", **dict.fromkeys(OF_BOOKS, "--slots")}
@@ -112,11 +112,14 @@ TAPE_FAULT = "tape is short|tape is long"
 FAULTS = {"page": TEXT_FAULT + "|text is not UTF-8|text is too long", "read": TAPE_FAULT, "pcap": TAPE_FAULT,
           "tape": "not a capture file|unknown link type"
                   r"|packet [1-9]\d*: (?:capture is short|block differs|steps back)",
-          "verify": rf"{ROW_FAULT}|{TAPE_FAULT}|differences: [1-9]\d*", **dict.fromkeys(OF_BOOKS, ROW_FAULT)}
+          "verify": rf"{ROW_FAULT}|{TAPE_FAULT}|differences: [1-9]\d*", **dict.fromkeys(OF_BOOKS, ROW_FAULT),
+          "check": r"row 0: too many rows|faults: [1-9]\d*", "texts": ROW_FAULT}
 DIFFERENCE = re.compile(
     rb"\d+,\d+,(?:,,,(?:no tape|other slots|second tape|unknown cell)"
     rb"|\d+,[0-9a-f]{4},\d+,(?:page (?:[1-9]|1[0-5]) reads otherwise"
     rb"|before its start|after its stop|after its last broadcast|broadcast \d+ not whole|not ordered))")
+CHECK_NAMES = ["row", "line", "column", "field", "value", "says"]
+TEXTS_NAMES = ["row", "name", "lang", "coding", "characters", "pages", "room", "first_ucs2", "place"]
 REPORT_ROW = re.compile(rb"\d+,\d+,\d+,[0-9a-f]{4},\d+,\d+,\d+,(?:yes|no|refused [0-9a-f]{2})")
 
 
@@ -386,6 +389,23 @@ def is_table(out):
         len(row) == 5 and re.fullmatch(r"\d+,\d+,\d+,[0-9a-f]{4}", ",".join(row[:4])) for row in rows[1:])
 
 
+def faults_in(out):
+    """Returns how many rows with a fault an output of `check` tells, or None if it is none."""
+    rows = table_in(out)
+    numbers = [row[0] for row in rows[1:]]
+    is_right = rows[:1] == [CHECK_NAMES] and out.endswith(b"\n") and all(
+        len(row) == 6 and row[5] and re.fullmatch(r"[1-9]\d*,[1-9]\d*,[1-9]\d*", ",".join(row[:3])) for row in rows[1:])
+    return len(numbers) if is_right and numbers == sorted(set(numbers), key=int) else None
+
+
+def is_of_texts(run, out):
+    """Whether an output is that of `texts`: a row for each text, with the column of the cut if it is asked for."""
+    rows = table_in(out)
+    names = TEXTS_NAMES if run.number("--pages", None) is None else [*TEXTS_NAMES, "fits"]
+    return rows[:1] == [names] and out.endswith(b"\n") and all(
+        len(row) == len(names) and row[0].isdigit() and row[3] in ("GSM 7-bit", "UCS-2") for row in rows[1:])
+
+
 class Page(html.parser.HTMLParser):
     """A page in HTML, as far as it is well-formed: its open elements,
     and whether one was closed that isn't the last."""
@@ -446,6 +466,7 @@ def is_output(run, out):
         return bool(out)
     forms = {"page": lambda: is_shown(run, out), "read": lambda: is_table(out), "report": lambda: is_report(out),
              "chart": lambda: is_chart(out), "verify": lambda: differences_in(out) == 0,
+             "check": lambda: faults_in(out) == 0, "texts": lambda: is_of_texts(run, out),
              "pcap": lambda: is_capture(out),
              "tape": lambda: is_tapes(run, out) or len(out) == gsm.size_of_tape(run.number("--slots", 0))}
     return forms.get(run.command(), lambda: is_tapes(run, out))()
@@ -484,6 +505,11 @@ def output_fault(run, ran):
         is_seen = run.faults == "pipe" and run.writer == "pipe"
         right = count and (not is_seen or ran.err == b"warnc: differences: %d\n" % count)
         return None if right else "the rows of differences have another form or number"
+    if ran.status == 1 and run.command() == "check" and ran.out:
+        count = faults_in(ran.out) if run.writer == "pipe" else 1
+        is_seen = run.faults == "pipe" and run.writer == "pipe"
+        right = count and (not is_seen or ran.err == b"warnc: faults: %d\n" % count)
+        return None if right else "the rows of faults have another form or number"
     if (ran.status in (1, 2, 4) or run.reader in ("folder", "shut")) and ran.out:
         return "there is an output with status {0}"
     return None
@@ -707,6 +733,7 @@ CHECKS = {it.__name__.removeprefix("check_"): it for it in (
 # how often each check is made of an input
 SHARES = {
     "book": {"workers": 4, "sessions": 5, "tapes": 4, "verify": 4, "tight": 4, "devices": 2, "pieces": 1, "twice": 2},
+    "rows": {"twice": 4, "tight": 3, "devices": 1, "pieces": 2},
     "tape": {"twice": 4, "captures": 4, "tight": 2, "devices": 1, "pieces": 2},
     "capture": {"twice": 3, "tight": 2, "devices": 1, "pieces": 1},
     "text": {"round": 5, "tight": 2, "devices": 1, "pieces": 1},
@@ -1163,13 +1190,15 @@ def good_options(chance, command, data):
         return page_options(chance)
     if command == "tape":
         return capture_options(chance)
+    if command in COMMANDS_OF["rows"]:
+        return {"--pages": str(chance.randint(1, 15))} if command == "texts" and chance.random() < 0.5 else {}
     return tape_options(chance, command) if command in ("read", "pcap") else book_options(chance, command, data)
 
 
 def spoilt_words(chance, command, options):
     """Returns words that clap refuses."""
     limits = {"--id": 65536, "--scope": 4, "--code": 1024, "--update": 16, "--slots": 65536, "--workers": 65,
-              "--sessions": 65, "--channel": 53, "--cell": "1-65536", "--from": "1.2.3.256"}
+              "--sessions": 65, "--channel": 53, "--pages": 16, "--cell": "1-65536", "--from": "1.2.3.256"}
     kind = chance.randrange(6)
     numbers = [name for name in options if name in limits]
     if kind == 0 and numbers:
@@ -1215,6 +1244,8 @@ def read_seeds():
             found[kind].append(bytes.fromhex(octets.decode()) if name.endswith(".hex") else octets)
     chance = random.Random(0)
     tapes = (capture_reference.random_tape(chance, 7) for _ in range(4))
+    # books again, for the commands that run none
+    found["rows"] = found["book"]
     found["capture"] = [capture_reference.random_file(chance, it) for it in tapes]
     return found
 
@@ -1224,8 +1255,9 @@ SIZES = {"workers": (2, 3, 4, 4, 64), "sessions": (2, 2, 3, 64), "pieces": (1, 2
          "devices": (1, 7, 8, 9, 92, 100, 192, 4096, 8192, 20_000), "verify": (1, 2, 4), "captures": (51, 52)}
 # kibioctets over the floor
 SPARES = (0, 1, 4, 16, 64, 256, 1024, 4096, 16384, 98304)
-COMMANDS_OF = {"book": (*OF_BOOKS, "verify"), "tape": ("read", "pcap"), "text": ("page",), "capture": ("tape",)}
-MAKERS = {"book": some_book, "tape": some_tapes, "text": some_text, "capture": some_capture}
+COMMANDS_OF = {"book": (*OF_BOOKS, "verify"), "rows": ("check", "texts"), "tape": ("read", "pcap"), "text": ("page",),
+               "capture": ("tape",)}
+MAKERS = {"book": some_book, "rows": some_book, "tape": some_tapes, "text": some_text, "capture": some_capture}
 
 
 def case_of(chance, number, kind, data):
@@ -1248,9 +1280,9 @@ def make_case(seed, number, seeds):
         return case_of(chance, number, *plain_ones[number])
     if chance.random() < 0.03:
         return words_case(chance, number)
-    kind = chance.choices(("book", "tape", "text", "capture"), (6, 2, 2, 1))[0]
+    kind = chance.choices(("book", "rows", "tape", "text", "capture"), (6, 2, 2, 2, 1))[0]
     data = MAKERS[kind](chance, seeds[kind])
-    if chance.random() < (0.12 if kind == "book" else 0.25):
+    if chance.random() < (0.12 if kind in ("book", "rows") else 0.25):
         data = change_octets(chance, data, seeds[kind])
     return case_of(chance, number, kind, data)
 

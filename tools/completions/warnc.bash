@@ -12,7 +12,7 @@ _warnc() {
     # after an option without a value comes another option
     case $before in --network | --used) before= ;; esac
     if [ "$COMP_CWORD" -eq 1 ]; then
-        words="compile report chart read verify texts page live pcap tape groups help -h --help -V --version"
+        words="check texts compile report chart read verify page live pcap tape groups help -h --help -V --version"
     else
         case $before in
         --pages) words="1 2 3 4 5 6 7 8 9 10 11 12 13 14 15" ;;
@@ -30,18 +30,19 @@ _warnc() {
             ;;
         *)
             case ${COMP_WORDS[1]} in
+            check) words="-h --help" ;;
+            texts) words="--pages -h --help" ;;
             compile) words="--slots --group --network --workers -h --help" ;;
             report) words="--slots --group --network --workers -h --help" ;;
             chart) words="--slots --group --network --cell --workers -h --help" ;;
             read) words="-h --help" ;;
             verify) words="--book --slots --group --workers -h --help" ;;
-            texts) words="--pages -h --help" ;;
             page) words="--lang --id --scope --code --update -h --help" ;;
             live) words="--slots --group --network --sessions --workers -h --help" ;;
             pcap) words="--used --channel -h --help" ;;
             tape) words="--cell --slots --from -h --help" ;;
             groups) words="-h --help" ;;
-            help) words="compile report chart read verify texts page live pcap tape groups" ;;
+            help) words="check texts compile report chart read verify page live pcap tape groups" ;;
             esac
             ;;
         esac

@@ -5,12 +5,13 @@ complete -c warnc -f
 complete -c warnc -s h -l help -d 'Print what is taken'
 complete -c warnc -n __fish_use_subcommand -s V -l version -d 'Print the version and the toolchain'
 
+complete -c warnc -n __fish_use_subcommand -a check -d 'Reads a book of alerts, as CSV, and writes every row that has a fault, its column, and what is wanted there, as CSV'
+complete -c warnc -n __fish_use_subcommand -a texts -d 'Reads a book of alerts, as CSV, and writes what each text of it costs: its coding, its pages, and what forces UCS-2, as CSV'
 complete -c warnc -n __fish_use_subcommand -a compile -d 'Reads a book of alerts, as CSV, and writes the tapes of its cells'
 complete -c warnc -n __fish_use_subcommand -a report -d 'Reads a book of alerts, as CSV, and writes what became of each order in each cell, as CSV'
 complete -c warnc -n __fish_use_subcommand -a chart -d 'Reads a book of alerts, as CSV, and writes what became of them in each cell as a page to look at'
 complete -c warnc -n __fish_use_subcommand -a read -d 'Reads tapes of blocks and writes a table of what a handset shows of them, as CSV'
 complete -c warnc -n __fish_use_subcommand -a verify -d 'Reads tapes, also of another sender\'s, and writes what they have otherwise than a book of alerts asks, as CSV'
-complete -c warnc -n __fish_use_subcommand -a texts -d 'Reads a book of alerts, as CSV, and writes what each text of it costs: its coding, its pages, and what forces UCS-2, as CSV'
 complete -c warnc -n __fish_use_subcommand -a page -d 'Reads a text and writes the blocks of its pages, then what a handset shows of them'
 complete -c warnc -n __fish_use_subcommand -a live -d 'Does what compile does, with the book\'s alerts shared by sessions that order side by side'
 complete -c warnc -n __fish_use_subcommand -a pcap -d 'Reads tapes of blocks and writes them as a capture file, a GSMTAP packet for each block'
@@ -18,6 +19,8 @@ complete -c warnc -n __fish_use_subcommand -a tape -d 'Reads a capture file of G
 complete -c warnc -n __fish_use_subcommand -a groups -d 'Reads a network book, and writes how many groups of 64 cells it has'
 complete -c warnc -n __fish_use_subcommand -a help -d 'Prints what a command takes'
 
+complete -c warnc -n '__fish_seen_subcommand_from texts' -x -l pages -d 'Writes, too, to how many characters each text is cut so that it takes so many pages at most, 1 to 15' \
+    -a '1 2 3 4 5 6 7 8 9 10 11 12 13 14 15'
 complete -c warnc -n '__fish_seen_subcommand_from compile' -x -l slots -d 'How many slots each cell\'s run has, 1 to 65535, each 1.883 s'
 complete -c warnc -n '__fish_seen_subcommand_from compile' -x -l group -d 'Takes the book for a network book, and of it the group of this number, from 0'
 complete -c warnc -n '__fish_seen_subcommand_from compile' -l network -d 'Takes the book for a network book, and writes what --group writes of each of its groups, in order'
@@ -35,8 +38,6 @@ complete -c warnc -n '__fish_seen_subcommand_from verify' -r -F -l book -d 'The 
 complete -c warnc -n '__fish_seen_subcommand_from verify' -x -l slots -d 'How many slots each cell\'s run has, 1 to 65535, each 1.883 s'
 complete -c warnc -n '__fish_seen_subcommand_from verify' -x -l group -d 'Takes the book for a network book, and of it the group of this number, from 0'
 complete -c warnc -n '__fish_seen_subcommand_from verify' -x -l workers -d 'How many workers play cells and make tapes, or run groups, side by side, 1 to 64'
-complete -c warnc -n '__fish_seen_subcommand_from texts' -x -l pages -d 'Writes, too, to how many characters each text is cut so that it takes so many pages at most, 1 to 15' \
-    -a '1 2 3 4 5 6 7 8 9 10 11 12 13 14 15'
 complete -c warnc -n '__fish_seen_subcommand_from page' -x -l lang -d 'The text\'s language' \
     -a 'de en it fr es nl sv da pt fi no el tr hu pl und cs he ar ru is'
 complete -c warnc -n '__fish_seen_subcommand_from page' -x -l id -d 'The message identifier, 0 to 65535'
@@ -54,4 +55,4 @@ complete -c warnc -n '__fish_seen_subcommand_from pcap' -x -l channel -d 'The CB
 complete -c warnc -n '__fish_seen_subcommand_from tape' -x -l cell -d 'The cell that the tape names, as 1-2'
 complete -c warnc -n '__fish_seen_subcommand_from tape' -x -l slots -d 'How many slots the tape has, 1 to 65535, each 1.883 s'
 complete -c warnc -n '__fish_seen_subcommand_from tape' -x -l from -d 'Takes the packets from this IPv4 address alone, as 127.0.0.1; all if it isn\'t given'
-complete -c warnc -n '__fish_seen_subcommand_from help' -a 'compile report chart read verify texts page live pcap tape groups'
+complete -c warnc -n '__fish_seen_subcommand_from help' -a 'check texts compile report chart read verify page live pcap tape groups'

@@ -35,9 +35,13 @@ pub record HasTaken (text : List ℕ) (front : Front) : Type 0 where
   pub ucs2 : HasFilled text front.ucs2
   pub in_ucs2 : front.ucs2.alphabet ≡ alphabet.Ucs2
 
+-- the most codes that a page holds, in any alphabet
+abbrev pub most_codes : ℕ
+most_codes = capacity alphabet.Gsm
+
 -- pages have no more codes than they hold, and no page is begun without a character, but the first
 abbrev pub IsWithin : (characters : ℕ) → Pages → Type 0
-IsWithin characters p = (p.count ≤ characters + 1) × (p.used ≤ 93)
+IsWithin characters p = (p.count ≤ characters + 1) × (p.used ≤ most_codes)
 
 abbrev pub AreFew : (characters : ℕ) → Front → Type 0
 AreFew characters front = IsWithin characters front.gsm × IsWithin characters front.ucs2

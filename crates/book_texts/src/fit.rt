@@ -3,7 +3,7 @@
 ghost use Rattle.std.specs.Prelude.{◌≡◌, ◌<◌, ◌≤◌, ◌+◌, ◌↔◌, ℕ, List, [], ◌∷◌, ◌++◌, true};
 ghost use Rattle.std.specs.Str.{chars};
 ghost use Rattle.book_texts.specs.Fit.{is_gap, FitsIn, IsCut};
-ghost use Rattle.book_texts.specs.FitSteps.{best_with, length_of_best, AreFew, HasFilled, HasTaken};
+ghost use Rattle.book_texts.specs.FitSteps.{best_with, length_of_best, most_codes, AreFew, HasFilled, HasTaken};
 
 use cbs_page::Alphabet;
 use gsm_alphabet::encode_char;
@@ -48,7 +48,7 @@ impl Pages {
         ensures filled { HasFilled [] result }
         ensures same { result.alphabet ≡ alphabet }
         ensures few { result.count ≡ 1 }
-        ensures within { result.used ≤ 93 }
+        ensures within { result.used ≤ most_codes }
     {
         Pages {
             alphabet,
@@ -60,11 +60,11 @@ impl Pages {
     /// The pages with one character more.
     fn with(self, character: char) -> Pages
         requires few { self.count < 18446744073709551615 }
-        requires within { self.used ≤ 93 }
+        requires within { self.used ≤ most_codes }
         ensures filled { (front : List ℕ) → HasFilled front self → HasFilled (front ++ character ∷ []) result }
         ensures same { result.alphabet ≡ self.alphabet }
         ensures few { result.count ≤ self.count + 1 }
-        ensures within { result.used ≤ 93 }
+        ensures within { result.used ≤ most_codes }
     {
         let cost = self.alphabet.cost(character);
         if self.used + cost <= self.alphabet.capacity() {

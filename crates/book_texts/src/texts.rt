@@ -4,7 +4,7 @@ ghost use Rattle.std.specs.Prelude.{◌≡◌, ◌⊎◌, ◌≤◌, ◌+◌, �
 ghost use Rattle.device_ends.specs.Moves.{ConsumesSome};
 ghost use Rattle.device_ends.specs.Source.{reader_of};
 ghost use Rattle.device_ends.specs.Stream.{FaultOfInput, IsStreamBetween, OutputOfInput};
-ghost use Rattle.alert_book.specs.Book.{refused, IsRowFault};
+ghost use Rattle.alert_book.specs.Book.{max_book, refused, IsRowFault};
 ghost use Rattle.book_texts.specs.TextsOutput.{header_line, AreLinesOf, IsTextsFault, IsTextsOutput, IsTextsWriteFault};
 ghost use Rattle.alert_book.specs.declared.fault.BookFault.{BookFault};
 ghost use Rattle.book_texts.specs.declared.texts.TextsFault.TheVariants as faults;
@@ -22,8 +22,8 @@ pub enum TextsFault {
     /// The reader failed.
     #[error("read failed")]
     ReadFailed,
-    /// There are more than 16,777,216 octets.
-    #[error("book is too long")]
+    /// There are more than 16,777,216 octets, which is a fault of no one row.
+    #[error("row 0: too many rows")]
     TooLong,
     /// A row is none of a book: the first such row.
     #[error("{0}")]
@@ -82,7 +82,7 @@ pub fn texts_stream<R: Read, W: Write>(
 
 /// The table of a book's octets.
 fn texts_output(alloc: Global, input: &[u8], pages: Option<u16>) -> Result<Vec<u8>, TextsFault>
-    requires { length input.now ≤ 16777216 }
+    requires { length input.now ≤ max_book }
     ensures ok { IfOk result (λ output. IsTextsOutput pages input.now output.items) }
     ensures err { IfErr result (λ fault. (fault ≡ faults.Refused)
         ⊎ ((f : BookFault) × (fault ≡ faults.Row f) × IsRowFault input.now f)) }

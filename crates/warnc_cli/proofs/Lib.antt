@@ -1,6 +1,7 @@
 pub mod WordLaws
 pub mod SomeTape
 pub mod NoRows
+pub mod Faulty
 pub mod NoRun
 pub mod Statuses
 pub mod NotVerified

@@ -1,14 +1,14 @@
 -- What is said of a task of one input is so of any task, whatever book there is beside it.
-use Rattle.std.proofs.Common.{◌≡◌, ◌≢◌, ◌⊎◌, ℕ, List, Option, IfSome, None, false, true, inl, inr, refl, rules}
+use Rattle.std.proofs.Common.{◌≡◌, ◌≢◌, ◌⊎◌, ℕ, List, Option, IfSome, None, arith, false, true, inl, inr, refl, rules}
 use Rattle.std.specs.Io.KnownBytes.{Keeps}
 use Rattle.device_ends.specs.Moves.{WritesOutput}
-use Rattle.device_ends.specs.Sink.{sink_failed}
-use Rattle.device_ends.specs.Source.{source_failed}
+use Rattle.device_ends.specs.Sink.{sink_failed, writer_of}
+use Rattle.device_ends.specs.Source.{reader_of, source_failed}
 use Rattle.device_ends.specs.declared.reading.Source.{Source}
 use Rattle.device_ends.specs.declared.writing.Sink.{Sink}
 use Rattle.warnc_cli.specs.Run.{AnyHasFailed, OneHasFailed}
 use Rattle.warnc_cli.specs.RunSteps.{HasRun, IsDoneBy, IsOfOneInput, IsRefusedBy, IsRunBetween, WroteFrontBy}
-use Rattle.warnc_cli.specs.RunSteps.{WroteSomeBy}
+use Rattle.warnc_cli.specs.RunSteps.{WroteFaultsBy, WroteSomeBy}
 use Rattle.warnc_cli.specs.Tasks.{Means, Refuses, RefusesOne, WritesAll, WritesDifferences, WritesFirstGroups}
 use Rattle.warnc_cli.specs.declared.command.Task.{Task}
 use Rattle.warnc_cli.specs.declared.command.Task.TheVariants as task
@@ -22,6 +22,7 @@ writes task.Read book input old new one wrote = wrote
 writes (task.Pcap settings) book input old new one wrote = wrote
 writes (task.Tape wanted) book input old new one wrote = wrote
 writes task.Groups book input old new one wrote = wrote
+writes task.Check book input old new one wrote = wrote
 writes (task.Texts pages) book input old new one wrote = wrote
 writes (task.Make run made) book input old new one wrote = wrote
 
@@ -34,6 +35,7 @@ refuses task.Read book input one refused = refused
 refuses (task.Pcap settings) book input one refused = refused
 refuses (task.Tape wanted) book input one refused = refused
 refuses task.Groups book input one refused = refused
+refuses task.Check book input one refused = refused
 refuses (task.Texts pages) book input one refused = refused
 refuses (task.Make run made) book input one refused = refused
 
@@ -46,6 +48,7 @@ groups task.Read book input old new wrote = wrote
 groups (task.Pcap settings) book input old new wrote = wrote
 groups (task.Tape wanted) book input old new wrote = wrote
 groups task.Groups book input old new wrote = wrote
+groups task.Check book input old new wrote = wrote
 groups (task.Texts pages) book input old new wrote = wrote
 groups (task.Make run made) book input old new wrote = wrote
 
@@ -89,6 +92,55 @@ of_one t status book_left left held book first last old new one done wrote refus
   no_book = λ none. refl;
 }
   where
+    by_end : source_failed book ≡ false → sink_failed old ≡ false → AnyHasFailed book last new → status ≡ 3
+    by_end sound sink (inl failed) = absurd (search (rules, sound, failed))
+    by_end sound sink (inr failed) = ends.failed sink failed
+
+-- and all of `check`, which writes with status 1
+pub of_check : {B R W : Type 0} (status : ℕ) (book_left : B → Option (List ℕ)) (left : R → Option (List ℕ))
+    (held : W → Option (List ℕ)) (book : Source B) (first last : Source R) (old new : Sink W)
+    → IsDoneBy task.Check status left held first old new
+    → WroteSomeBy task.Check status held old new
+    → IsRefusedBy task.Check status left first
+    → WroteFaultsBy status left held first old new
+    → IsRunBetween task.Check status held last old new
+    → HasRun task.Check status book_left left held book book first last old new
+of_check status book_left left held book first last old new done wrote refused told ends = record {
+  statuses = ends.statuses;
+  understood = ends.understood;
+  done = done;
+  wrote = wrote;
+  refused = refused;
+  nothing_written = ends.nothing_written;
+  untouched = ends.untouched;
+  of_refused = λ is. faults (told (inl is));
+  of_memory = λ is. nothing is (told (inr is));
+  device = λ is. inr (ends.device is);
+  failed = λ sound input sink failed. by_end sound sink failed;
+  no_book = λ none. refl;
+}
+  where
+    faults : Keeps (held (writer_of old)) (held (writer_of new))
+        ⊎ ((status ≡ 1) × WritesDifferences task.Check None (left (reader_of first)) (held (writer_of old))
+        (held (writer_of new)))
+        → Keeps (held (writer_of old)) (held (writer_of new))
+        ⊎ (WritesDifferences task.Check (book_left (reader_of book)) (left (reader_of first)) (held (writer_of old))
+        (held (writer_of new))
+        ⊎ WritesFirstGroups task.Check (book_left (reader_of book)) (left (reader_of first)) (held (writer_of old))
+        (held (writer_of new)))
+    faults (inl kept) = inl kept
+    faults (inr written) = inr (inl written.1)
+
+    nothing : status ≡ 4
+        → Keeps (held (writer_of old)) (held (writer_of new))
+        ⊎ ((status ≡ 1) × WritesDifferences task.Check None (left (reader_of first)) (held (writer_of old))
+        (held (writer_of new)))
+        → Keeps (held (writer_of old)) (held (writer_of new))
+        ⊎ WritesFirstGroups task.Check (book_left (reader_of book)) (left (reader_of first)) (held (writer_of old))
+        (held (writer_of new))
+    nothing is (inl kept) = inl kept
+    nothing is (inr written) = absurd (omega (arith, is, written.0))
+
     by_end : source_failed book ≡ false → sink_failed old ≡ false → AnyHasFailed book last new → status ≡ 3
     by_end sound sink (inl failed) = absurd (search (rules, sound, failed))
     by_end sound sink (inr failed) = ends.failed sink failed

@@ -23,6 +23,7 @@ of_one_input words task.Read asked other = tt
 of_one_input words (task.Pcap settings) asked other = tt
 of_one_input words (task.Tape wanted) asked other = tt
 of_one_input words task.Groups asked other = tt
+of_one_input words task.Check asked other = tt
 of_one_input words (task.Texts pages) asked other = tt
 of_one_input words (task.Make run made) asked other = tt
 
@@ -36,7 +37,10 @@ may_write words (task.Make run made) status asked (inr (inr early)) =
 may_write words (task.Verify from slots file workers) status asked (inl done) = inl done
 may_write words (task.Verify from slots file workers) status asked (inr (inl device)) = inr (inl device)
 may_write words (task.Verify from slots file workers) status asked (inr (inr differ)) =
-    inr (inr (inl (differ, asked.command)))
+    inr (inr (inl (differ, inl asked.command)))
+may_write words task.Check status asked (inl done) = inl done
+may_write words task.Check status asked (inr (inl device)) = inr (inl device)
+may_write words task.Check status asked (inr (inr faults)) = inr (inr (inl (faults, inr asked)))
 may_write words (task.Page language id serial) status asked (inl done) = inl done
 may_write words (task.Page language id serial) status asked (inr device) = inr (inl device)
 may_write words task.Read status asked (inl done) = inl done
@@ -85,4 +89,5 @@ writes_some words task.Read asked compile live report = tt
 writes_some words (task.Pcap settings) asked compile live report = tt
 writes_some words (task.Tape wanted) asked compile live report = tt
 writes_some words task.Groups asked compile live report = tt
+writes_some words task.Check asked compile live report = tt
 writes_some words (task.Texts pages) asked compile live report = tt

@@ -61,6 +61,10 @@ pub record AsksForPage (words : List (List ℕ)) (language : List ℕ) (id seria
 abbrev pub AsksForRead : (words : List (List ℕ)) → Type 0
 AsksForRead words = slice_get words 1 ≡ Some (codes "read")
 
+-- the words ask for `check`
+abbrev pub AsksForCheck : (words : List (List ℕ)) → Type 0
+AsksForCheck words = slice_get words 1 ≡ Some (codes "check")
+
 -- the words give the number of pages for which texts are cut, or none
 abbrev pub GivesPages : (words : List (List ℕ)) → Option ℕ → Type 0
 GivesPages words None = is_given words (codes "--pages") ≡ false

@@ -53,18 +53,19 @@ pub record RefusesInput (words : List (List ℕ)) (book input : Option (List ℕ
 
 -- What may be written with a status.
 
--- something may be written with 0 and 3, with 1 by `verify`, and with 1 and 4 of a network, some groups of which were
--- written before one ended early
+-- something may be written with 0 and 3, with 1 by `verify` and `check`, and with 1 and 4 of a network, some groups of
+-- which were written before one ended early
 abbrev pub MayWrite : (words : List (List ℕ)) → (status : ℕ) → Type 0
 MayWrite words status = (status ≡ 0) ⊎ ((status ≡ 3)
-    ⊎ (((status ≡ 1) × (slice_get words 1 ≡ Some (codes "verify")))
+    ⊎ (((status ≡ 1) × ((slice_get words 1 ≡ Some (codes "verify")) ⊎ (slice_get words 1 ≡ Some (codes "check"))))
     ⊎ (((status ≡ 1) ⊎ (status ≡ 4)) × (is_given words (codes "--network") ≡ true))))
 
 -- the words ask for a run of all groups of a network, and what was written is the parts of some first groups
 abbrev pub WroteFirstGroups : (words : List (List ℕ)) (book input old new : Option (List ℕ)) → Type 0
 WroteFirstGroups words = WroteAs WritesFirstGroups words
 
--- what was written with status 1: nothing, or the differences of `verify`, or the first groups of a network
+-- what was written with status 1: nothing, or the differences of `verify` or the faults of `check`, or the first groups
+-- of a network
 abbrev pub WroteOfRefused : (words : List (List ℕ)) (book input old new : Option (List ℕ)) → Type 0
 WroteOfRefused words book input old new =
     Keeps old new ⊎ (WroteAs WritesDifferences words book input old new ⊎ WroteFirstGroups words book input old new)

@@ -20,6 +20,7 @@ abbrev pub MayHaveWritten : Task → (status : ℕ) → Type 0
 MayHaveWritten (task.Make run made) status =
     (status ≡ 0) ⊎ ((status ≡ 3) ⊎ (((status ≡ 1) ⊎ (status ≡ 4)) × (run.books ≡ books.EachGroup)))
 MayHaveWritten (task.Verify from slots file workers) status = (status ≡ 0) ⊎ ((status ≡ 3) ⊎ (status ≡ 1))
+MayHaveWritten task.Check status = (status ≡ 0) ⊎ ((status ≡ 3) ⊎ (status ≡ 1))
 MayHaveWritten other status = (status ≡ 0) ⊎ (status ≡ 3)
 
 -- a task reads no book beside its input
@@ -46,6 +47,13 @@ abbrev pub WroteFrontBy : {R W : Type 0} → Task → (status : ℕ) (left : R �
     (held : W → Option (List ℕ)) → (first : Source R) → (old new : Sink W) → Type 0
 WroteFrontBy task status left held first old new = (status ≡ 1) ⊎ (status ≡ 4) → Writes held Keeps old new
     ⊎ WritesFirstGroups task None (left (reader_of first)) (held (writer_of old)) (held (writer_of new))
+
+-- what statuses 1 and 4 say of what `check` wrote: nothing, or with 1 the faults
+abbrev pub WroteFaultsBy : {R W : Type 0} → (status : ℕ) (left : R → Option (List ℕ))
+    (held : W → Option (List ℕ)) → (first : Source R) → (old new : Sink W) → Type 0
+WroteFaultsBy status left held first old new = (status ≡ 1) ⊎ (status ≡ 4) → Writes held Keeps old new
+    ⊎ ((status ≡ 1) × WritesDifferences task.Check None (left (reader_of first)) (held (writer_of old))
+    (held (writer_of new)))
 
 -- what the status of a task of one input says of both ends
 pub record IsRunBetween {R W : Type 0} (task : Task) (status : ℕ) (held : W → Option (List ℕ)) (last : Source R)

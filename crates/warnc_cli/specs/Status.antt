@@ -3,6 +3,8 @@ use Rattle.std.specs.Prelude.{ℕ, ◌==◌, if◌then◌else◌}
 use Rattle.alert_book.specs.declared.fault.BookFault.{BookFault}
 use Rattle.alert_book.specs.declared.fault.BookFaultKind.{BookFaultKind}
 use Rattle.alert_book.specs.declared.fault.BookFaultKind.TheVariants as kinds
+use Rattle.book_check.specs.declared.fault.CheckFault.{CheckFault}
+use Rattle.book_check.specs.declared.fault.CheckFault.TheVariants as check
 use Rattle.book_texts.specs.declared.texts.TextsFault.{TextsFault}
 use Rattle.book_texts.specs.declared.texts.TextsFault.TheVariants as texts
 use Rattle.cbs_page.specs.declared.paging.TextFault.TheVariants as text
@@ -69,6 +71,14 @@ status_of_tape_fault tape.TooLong = 1
 status_of_tape_fault (tape.Air why) = 1
 status_of_tape_fault tape.Refused = 4
 status_of_tape_fault tape.WriteFailed = 3
+
+-- that of `check`, 1 if there are faults
+abbrev pub status_of_check_fault : CheckFault → ℕ
+status_of_check_fault (check.Faults count) = 1
+status_of_check_fault check.TooLong = 1
+status_of_check_fault check.ReadFailed = 3
+status_of_check_fault check.Refused = 4
+status_of_check_fault check.WriteFailed = 3
 
 abbrev pub status_of_texts_fault : TextsFault → ℕ
 status_of_texts_fault texts.ReadFailed = 3

@@ -8,6 +8,7 @@ use Rattle.alert_book.specs.declared.network.Origin.TheVariants as origin
 use Rattle.alert_book.specs.Book.{Contents, IsRowFault, IsWrong, max_book}
 use Rattle.alert_book.specs.Network.{HasGroups, IsGroupBook, IsWrongNetwork, max_network}
 use Rattle.alert_book.specs.Origin.{IsBookFrom}
+use Rattle.book_check.specs.Checked.{HasFaults, IsClean}
 use Rattle.book_texts.specs.TextsOutput.{IsTextsOutput}
 use Rattle.device_ends.specs.Moves.{WritesOutput}
 use Rattle.gsmtap.specs.Capture.{IsCapture}
@@ -29,7 +30,7 @@ use Rattle.warnc_run.specs.Groups.{IsGroupCount}
 use Rattle.warnc_run.specs.Network.{AreFirstParts}
 use Rattle.warnc_verify.specs.Verified.{Differs, HasDifferences, HasRun, IsVerified}
 use Rattle.warnc_cli.specs.CommandLine.{AsksForGroups, AsksForPage, AsksForPcap, AsksForRead, AsksForRun, AsksForTape}
-use Rattle.warnc_cli.specs.CommandLine.{AsksForTexts, AsksForVerify}
+use Rattle.warnc_cli.specs.CommandLine.{AsksForCheck, AsksForTexts, AsksForVerify}
 use Rattle.warnc_cli.specs.Status.{status_of_book_fault, status_of_page_fault}
 use Rattle.warnc_cli.specs.declared.command.Task.{Task}
 use Rattle.warnc_cli.specs.declared.command.Task.TheVariants as task
@@ -41,6 +42,7 @@ IsTaskOf words task.Read = AsksForRead words
 IsTaskOf words (task.Pcap settings) = AsksForPcap words settings
 IsTaskOf words (task.Tape wanted) = AsksForTape words wanted
 IsTaskOf words task.Groups = AsksForGroups words
+IsTaskOf words task.Check = AsksForCheck words
 IsTaskOf words (task.Texts pages) = AsksForTexts words pages
 IsTaskOf words (task.Make run made) = AsksForRun words run made
 IsTaskOf words (task.Verify from slots file workers) = AsksForVerify words from slots file.now workers.number
@@ -54,6 +56,7 @@ Means task.Read = IsReadOutput
 Means (task.Pcap settings) = IsCapture settings
 Means (task.Tape wanted) = IsTapeOfCapture wanted
 Means task.Groups = IsGroupCount
+Means task.Check = IsClean
 Means (task.Texts pages) = IsTextsOutput pages
 Means (task.Make run made) = IsMadeBy run made
 Means (task.Verify from slots file workers) = λ input output. ⊥
@@ -108,6 +111,10 @@ abbrev pub IsNoBook : (input : List ℕ) → Type 0
 IsNoBook input = (max_book < length input)
     ⊎ ((f : BookFault) × IsWrong input f × (status_of_book_fault f ≡ 1))
 
+-- the input is refused: it has more octets than a book may have, or a row with a fault
+abbrev pub IsNotClean : (input : List ℕ) → Type 0
+IsNotClean input = (max_book < length input) ⊎ ((count : ℕ) × (output : List ℕ) × HasFaults count input output)
+
 -- the input is refused: it has more octets than a book may have, or a row that is none of a book
 abbrev pub IsNoRows : (input : List ℕ) → Type 0
 IsNoRows input = (max_book < length input) ⊎ ((f : BookFault) × IsRowFault input f)
@@ -152,6 +159,7 @@ RefusesOne task.Read = IsNoTapes
 RefusesOne (task.Pcap settings) = IsNoTapes
 RefusesOne (task.Tape wanted) = IsNoAir wanted
 RefusesOne task.Groups = IsNoNetwork 0
+RefusesOne task.Check = IsNotClean
 RefusesOne (task.Texts pages) = IsNoRows
 RefusesOne (task.Make run made) = IsNoRunOf run.books run.slots run.sessions.number
 RefusesOne (task.Verify from slots file workers) = λ input. ⊥
@@ -170,8 +178,10 @@ WritesFirstGroups (task.Make run made) book input old new =
     (count : ℕ) × WritesOutput (AreFirstParts made run.slots run.sessions.number count) input old new
 WritesFirstGroups other book input old new = ⊥
 
--- the table of the differences was written, of which there is one at least
+-- the table of the differences was written, of which there is one at least, or that of the rows with a fault
 abbrev pub WritesDifferences : Task → (book input old new : Option (List ℕ)) → Type 0
 WritesDifferences (task.Verify from slots file workers) book input old new =
     WritesOutputOfBoth (HasDifferences from slots) book input old new
+WritesDifferences task.Check book input old new =
+    (count : ℕ) × WritesOutput (HasFaults count) input old new
 WritesDifferences other book input old new = ⊥

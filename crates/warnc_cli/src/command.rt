@@ -18,7 +18,7 @@ use std::convert::AsStr;
 use warnc_run::{Books, Product, Run, Sessions, Workers};
 
 /// The version of the program, and on a line of its own what `rt version` says of the toolchain that proved it.
-const VERSION: &str = "1.1.0\nrattle-kit-13f logic dac8208d650f15bf";
+const VERSION: &str = "1.2.0\nrattle-kit-13f logic dac8208d650f15bf";
 
 /// What the words ask for.
 #[derive(Clone, Copy, Debug, PartialEq, Eq)]
@@ -40,6 +40,8 @@ pub enum Task<'a> {
     Tape(Wanted),
     /// `groups`.
     Groups,
+    /// `check`.
+    Check,
     /// `texts`.
     Texts {
         /// For how many pages each text is cut.
@@ -98,6 +100,7 @@ fn task_in<'a, S: AsStr>(words: &'a [S]) -> Option<Task<'a>>
             from: from_in(words)?,
         })),
         "groups" => Some(Task::Groups),
+        "check" => Some(Task::Check),
         "texts" => Some(Task::Texts {
             pages: pages_in(words)?,
         }),
@@ -424,12 +427,13 @@ fn warnc<'a>(alloc: Global) -> Result<Command<'a>, AllocError> {
         .version(VERSION)
         .subcommand_required(true)
         .arg_required_else_help(true)
+        .subcommand(check(alloc))?
+        .subcommand(texts(alloc)?)?
         .subcommand(compile(alloc)?)?
         .subcommand(report(alloc)?)?
         .subcommand(chart(alloc)?)?
         .subcommand(read(alloc))?
         .subcommand(verify(alloc)?)?
-        .subcommand(texts(alloc)?)?
         .subcommand(page(alloc)?)?
         .subcommand(live(alloc)?)?
         .subcommand(pcap(alloc)?)?
@@ -493,6 +497,15 @@ fn verify<'a>(alloc: Global) -> Result<Command<'a>, AllocError> {
         .arg(slots(alloc))?
         .arg(group(alloc))?
         .arg(workers(alloc))
+}
+
+/// The command line of `check`.
+fn check<'a>(alloc: Global) -> Command<'a> {
+    Command::new(alloc, "check")
+        .about(
+            "Reads a book of alerts, as CSV, and writes every row that has a fault,\nits column, and what is wanted there, as CSV",
+        )
+        .after_help("Example: warnc check < book.csv")
 }
 
 /// The command line of `texts`.

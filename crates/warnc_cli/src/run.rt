@@ -8,7 +8,7 @@ ghost use Rattle.device_ends.specs.Stream.{Writes};
 ghost use Rattle.warnc_cli.specs.Run.{AnyHasFailed, ByInputs, MayWrite, RefusesInput, WritesSome};
 ghost use Rattle.warnc_cli.specs.Run.{WritesSomeUnlessTapes, WroteOfRefused, WroteWhatIsAsked, WroteWithoutMemory};
 ghost use Rattle.warnc_cli.specs.RunSteps.{HasRun, IsDoneBy, IsRefusedBy, IsRunBetween, IsStatusOfSink};
-ghost use Rattle.warnc_cli.specs.RunSteps.{IsVerifyRunBetween, WroteFrontBy, WroteSomeBy};
+ghost use Rattle.warnc_cli.specs.RunSteps.{IsVerifyRunBetween, WroteFaultsBy, WroteFrontBy, WroteSomeBy};
 ghost use Rattle.warnc_cli.specs.Tasks.{IsNotVerified, WritesOutputOfBoth};
 ghost use Rattle.warnc_verify.specs.Verified.{HasDifferences, IsVerified};
 
@@ -16,6 +16,7 @@ use crate::command::{Task, asks_for_text, task_of};
 use crate::status::{DEVICE, DONE, MEMORY, REFUSED_INPUT, USAGE, failed, failed_with_book};
 use crate::unreadable::Unreadable;
 use alert_book::Origin;
+use book_check::check_stream;
 use book_texts::texts_stream;
 use cbs_page::Serial;
 use clap::Error;
@@ -76,7 +77,8 @@ pub fn run_with_book<
 }
 
 /// The same, between the ends. With status 0 what the words ask for is written, with 2 and 4 nothing is, and with 1 the
-/// differences, if the words ask for `verify` and there are some, and else nothing. That is one octet at least, but for
+/// differences, if the words ask for `verify` and there are some, or the faults, if they ask for `check`, and else
+/// nothing. That is one octet at least, but for
 /// `compile` and `live`, since a book without cells has no tapes, and for the report of a group. Of a network whose run
 /// ends early the first groups are written with 1 and with 4.
 pub fn run_between<
@@ -152,6 +154,7 @@ fn run_task<T: AllocGlobal + Threads + Wait + Sync, B: Read, R: Read, W: Write, 
         Task::Pcap(settings) => run_pcap(alloc, settings, source, sink, faults),
         Task::Tape(wanted) => run_tape(alloc, wanted, source, sink, faults),
         Task::Groups => run_groups(rt, source, sink, faults),
+        Task::Check => run_check(alloc, source, sink, faults),
         Task::Texts { pages } => run_texts(alloc, pages, source, sink, faults),
         Task::Make { run, made } => run_books(rt, run, made, source, sink, faults),
         Task::Verify {
@@ -260,6 +263,25 @@ fn run_groups<T: AllocGlobal + Threads + Sync, R: Read, W: Write, F: Write>(
     ensures ends { IsRunBetween Task.Groups result W.contents source.new sink.old sink.new }
 {
     match groups_stream(rt, source, sink) {
+        Ok(()) => DONE,
+        Err(fault) => failed(&fault, faults),
+    }
+}
+
+/// Runs `check`, and returns the status.
+fn run_check<R: Read, W: Write, F: Write>(
+    alloc: Global,
+    source: &mut Source<R>,
+    sink: &mut Sink<W>,
+    faults: &mut F,
+) -> u8
+    ensures done { IsDoneBy Task.Check result R.remaining W.contents source.old sink.old sink.new }
+    ensures wrote { WroteSomeBy Task.Check result W.contents sink.old sink.new }
+    ensures refused { IsRefusedBy Task.Check result R.remaining source.old }
+    ensures told { WroteFaultsBy result R.remaining W.contents source.old sink.old sink.new }
+    ensures ends { IsRunBetween Task.Check result W.contents source.new sink.old sink.new }
+{
+    match check_stream(alloc, source, sink) {
         Ok(()) => DONE,
         Err(fault) => failed(&fault, faults),
     }

@@ -1,12 +1,14 @@
 //! The statuses of a run, and which fault ends one with which status.
 
 ghost use Rattle.std.specs.Prelude.{◌≡◌, ℕ};
-ghost use Rattle.warnc_cli.specs.Status.{status_of_book_fault, status_of_page_fault, status_of_pcap_fault};
+ghost use Rattle.warnc_cli.specs.Status.{status_of_book_fault, status_of_check_fault, status_of_page_fault};
+ghost use Rattle.warnc_cli.specs.Status.{status_of_pcap_fault};
 ghost use Rattle.warnc_cli.specs.Status.{status_of_product_fault, status_of_read_fault, status_of_run_fault};
 ghost use Rattle.warnc_cli.specs.Status.{status_of_tape_fault, status_of_tapes_fault, status_of_texts_fault};
 ghost use Rattle.warnc_cli.specs.Status.{status_of_verify_fault};
 
 use alert_book::{BookFault, BookFaultKind};
+use book_check::CheckFault;
 use book_texts::TextsFault;
 use cbs_page::TextFault;
 use handset::TapeFault;
@@ -24,7 +26,7 @@ use warnc_verify::VerifyFault;
 /// All was done, or help was written.
 pub const DONE: u8 = 0;
 
-/// The input is refused, or has a difference.
+/// The input is refused, or has a difference or a fault.
 pub const REFUSED_INPUT: u8 = 1;
 
 /// The words are no command line.
@@ -120,6 +122,18 @@ impl Fault for TapeCommandFault {
             TapeCommandFault::TooLong | TapeCommandFault::Air(_) => REFUSED_INPUT,
             TapeCommandFault::ReadFailed | TapeCommandFault::WriteFailed => DEVICE,
             TapeCommandFault::Refused => MEMORY,
+        }
+    }
+}
+
+impl Fault for CheckFault {
+    ghost status_of = { status_of_check_fault };
+
+    fn status(&self) -> u8 {
+        match *self {
+            CheckFault::Faults(_) | CheckFault::TooLong => REFUSED_INPUT,
+            CheckFault::ReadFailed | CheckFault::WriteFailed => DEVICE,
+            CheckFault::Refused => MEMORY,
         }
     }
 }

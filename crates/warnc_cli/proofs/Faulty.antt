@@ -1,0 +1,151 @@
+-- What `check` writes and refuses, and what its statuses say of the ends.
+use Rattle.std.proofs.Common.{◌≡◌, ◌≢◌, ◌⊎◌, ◌↔◌, ℕ, ◌≤◌, List, Option, None, Some, IfSome, Ok, Err, Result, IsErrOf}
+use Rattle.std.proofs.Common.{IsTrue}
+use Rattle.std.proofs.Common.{true, false, ap, arith, inl, inr, refl, rules, subst, sym}
+use Rattle.std.proofs.KnownBytes.{Keeps-refl}
+use Rattle.std.specs.Io.KnownBytes.{Keeps}
+use Rattle.device_ends.specs.Moves.{WritesOutput}
+use Rattle.device_ends.specs.Sink.{sink_failed, writer_of}
+use Rattle.device_ends.specs.Source.{source_failed}
+use Rattle.device_ends.specs.Stream.{Writes}
+use Rattle.device_ends.specs.declared.reading.Source.{Source}
+use Rattle.device_ends.specs.declared.writing.Sink.{Sink}
+use Rattle.book_check.specs.Checked.{HasFaults, HasTold, HasWritten, IsCheckFault}
+use Rattle.book_check.specs.declared.fault.CheckFault.{CheckFault}
+use Rattle.book_check.specs.declared.fault.CheckFault.TheVariants as fault
+use Rattle.warnc_cli.specs.Run.{OneHasFailed}
+use Rattle.warnc_cli.specs.RunSteps.{IsRunBetween}
+use Rattle.warnc_cli.specs.Status.{status_of_check_fault}
+use Rattle.warnc_cli.specs.Tasks.{IsNotClean}
+use Rattle.warnc_cli.specs.declared.command.Task.TheVariants as task
+
+-- a fault of `check` with status 1 says that the input isn't clean
+pub refused_check : (left old new : Option (List ℕ)) (why : CheckFault) → IsCheckFault left old new why
+    → status_of_check_fault why ≡ 1
+    → IfSome left IsNotClean
+refused_check None old new why told is = tt
+refused_check (Some input) old new (fault.Faults count) told is =
+    inr (count, told.of_input.0, told.of_input.1)
+refused_check (Some input) old new fault.TooLong told is = inl told
+refused_check (Some input) old new fault.ReadFailed told is = absurd (omega (arith, is))
+refused_check (Some input) old new fault.Refused told is = absurd (omega (arith, is))
+refused_check (Some input) old new fault.WriteFailed told is = absurd (omega (arith, is))
+
+-- with status 1 the faults were written, or nothing was, as with 4
+pub kept_or_told : (Kept : Type 0) (left old new : Option (List ℕ)) (why : CheckFault) → IsCheckFault left old new why
+    → ((HasWritten why → ⊥) → Kept)
+    → (status_of_check_fault why ≡ 1) ⊎ (status_of_check_fault why ≡ 4)
+    → Kept ⊎ ((status_of_check_fault why ≡ 1) × ((count : ℕ) × WritesOutput (HasFaults count) left old new))
+kept_or_told Kept left old new (fault.Faults count) told kept is = inr (refl, (count, told))
+kept_or_told Kept left old new fault.TooLong told kept is = inl (kept (λ w. w))
+kept_or_told Kept left old new fault.ReadFailed told kept (inl is) = absurd (omega (arith, is))
+kept_or_told Kept left old new fault.ReadFailed told kept (inr is) = absurd (omega (arith, is))
+kept_or_told Kept left old new fault.Refused told kept is = inl (kept (λ w. w))
+kept_or_told Kept left old new fault.WriteFailed told kept (inl is) = absurd (omega (arith, is))
+kept_or_told Kept left old new fault.WriteFailed told kept (inr is) = absurd (omega (arith, is))
+
+-- what the engine says of the ends with a fault
+pub record AreCheckEnds {R W : Type 0} (why : CheckFault) (last : Source R) (old new : Sink W) : Type 0 where
+  pub read_failed : IsErrOf {T = Unit {0}} (Err why) fault.ReadFailed ↔ IsTrue (source_failed last)
+  pub write_failed : IsErrOf {T = Unit {0}} (Err why) fault.WriteFailed → sink_failed new ≡ true
+  pub told : HasTold why → sink_failed new ≡ false
+  pub untouched : (HasWritten why → ⊥) → new ≡ old
+
+-- the status that a result's fault has
+abbrev status_in : Result (Unit {0}) CheckFault → ℕ
+status_in (Ok done) = 0
+status_in (Err why) = status_of_check_fault why
+
+-- a fault of another status than 3 leaves the source sound
+source_sound : {R W : Type 0} (why : CheckFault) (last : Source R) (old new : Sink W) → AreCheckEnds why last old new
+    → status_of_check_fault why ≢ 3
+    → source_failed last ≡ true
+    → ⊥
+source_sound why last old new ends other failed = other (ap status_in (ends.read_failed.1 failed))
+
+-- nothing was written
+quiet : {R W : Type 0} (why : CheckFault) (held : W → Option (List ℕ)) (last : Source R) (old new : Sink W)
+    → AreCheckEnds why last old new
+    → (status_of_check_fault why ≡ 1) ⊎ (status_of_check_fault why ≡ 4)
+    → (HasWritten why → ⊥)
+    → IsRunBetween task.Check (status_of_check_fault why) held last old new
+quiet {W = W} why held last old new ends one_or_four unwritten =
+    let same : new ≡ old = ends.untouched unwritten in
+    record {
+      statuses = bound one_or_four;
+      understood = two one_or_four;
+      nothing_written = λ _. subst (λ (s : Sink W). Keeps (held (writer_of old)) (held (writer_of s))) (sym same)
+          (Keeps-refl _);
+      untouched = λ _. same;
+      device = λ is. absurd (three one_or_four is);
+      failed = λ sink failed. absurd (neither same sink failed);
+    }
+  where
+    bound : (status_of_check_fault why ≡ 1) ⊎ (status_of_check_fault why ≡ 4) → status_of_check_fault why ≤ 4
+    bound (inl is) = omega (arith, is)
+    bound (inr is) = omega (arith, is)
+
+    two : (status_of_check_fault why ≡ 1) ⊎ (status_of_check_fault why ≡ 4) → status_of_check_fault why ≢ 2
+    two (inl is) so = omega (arith, is, so)
+    two (inr is) so = omega (arith, is, so)
+
+    three : (status_of_check_fault why ≡ 1) ⊎ (status_of_check_fault why ≡ 4) → status_of_check_fault why ≢ 3
+    three (inl is) so = omega (arith, is, so)
+    three (inr is) so = omega (arith, is, so)
+
+    neither : new ≡ old → sink_failed old ≡ false → OneHasFailed last new → ⊥
+    neither same sink (inl failed) = source_sound why last old new ends (three one_or_four) failed
+    neither same sink (inr failed) =
+        let now : sink_failed old ≡ true = subst (λ (s : Sink W). sink_failed s ≡ true) same failed in
+        search (rules, now, sink)
+
+-- an end failed
+failing : {R W : Type 0} (held : W → Option (List ℕ)) (last : Source R) (old new : Sink W) → OneHasFailed last new
+    → IsRunBetween task.Check 3 held last old new
+failing held last old new failed = record {
+  statuses = omega arith;
+  understood = λ two. omega (arith, two);
+  nothing_written = λ no. absurd (no (inr (inl refl)));
+  untouched = λ no. absurd (no (inr (inl refl)));
+  device = λ _. failed;
+  failed = λ _ _. refl;
+}
+
+-- the faults were written
+written : {R W : Type 0} (count : ℕ) (held : W → Option (List ℕ)) (last : Source R) (old new : Sink W)
+    → AreCheckEnds (fault.Faults count) last old new
+    → IsRunBetween task.Check 1 held last old new
+written count held last old new ends = record {
+  statuses = omega arith;
+  understood = λ two. omega (arith, two);
+  nothing_written = λ no. absurd (no (inr (inr refl)));
+  untouched = λ no. absurd (no (inr (inr refl)));
+  device = λ three. absurd (omega (arith, three));
+  failed = λ _ failed. absurd (neither failed);
+}
+  where
+    neither : OneHasFailed last new → ⊥
+    neither (inl failed) =
+        source_sound (fault.Faults count) last old new ends (λ three. omega (arith, three)) failed
+    neither (inr failed) =
+        let sound = ends.told tt in
+        search (rules, failed, sound)
+
+-- what the engine says of the ends with a fault is what the fault's status says of them
+told : {R W : Type 0} (why : CheckFault) (held : W → Option (List ℕ)) (last : Source R) (old new : Sink W)
+    → AreCheckEnds why last old new
+    → IsRunBetween task.Check (status_of_check_fault why) held last old new
+told (fault.Faults count) held last old new ends = written count held last old new ends
+told fault.TooLong held last old new ends = quiet fault.TooLong held last old new ends (inl refl) (λ w. w)
+told fault.ReadFailed held last old new ends = failing held last old new (inl (ends.read_failed.0 refl))
+told fault.Refused held last old new ends = quiet fault.Refused held last old new ends (inr refl) (λ w. w)
+told fault.WriteFailed held last old new ends = failing held last old new (inr (ends.write_failed refl))
+
+-- the same of a status that is the fault's
+pub check_between : {R W : Type 0} (why : CheckFault) (status : ℕ) (held : W → Option (List ℕ)) (last : Source R)
+    (old new : Sink W)
+    → status ≡ status_of_check_fault why
+    → AreCheckEnds why last old new
+    → IsRunBetween task.Check status held last old new
+check_between why status held last old new same ends =
+    subst (λ (s : ℕ). IsRunBetween task.Check s held last old new) (sym same) (told why held last old new ends)

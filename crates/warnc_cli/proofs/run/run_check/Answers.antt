@@ -1,0 +1,20 @@
+use Rattle.std.proofs.Common.{◌≡◌, ◌⊎◌, ◌∙◌, ℕ, inl, inr, subst, sym}
+use Rattle.std.proofs.KnownBytes.{Keeps-refl}
+use Rattle.std.specs.Io.KnownBytes.{Keeps}
+use Rattle.device_ends.specs.Sink.{writer_of}
+use Rattle.warnc_cli.specs.Status.{status_of_check_fault}
+use Rattle.warnc_cli.proofs.Faulty.{check_between, kept_or_told, refused_check}
+use Rattle.warnc_cli.proofs.run.run_check.Goals as goal
+
+pub returns-in-Err-clause-refused : goal.returns-in-Err-clause-refused
+returns-in-Err-clause-refused g c =
+    λ is. refused_check _ _ _ c.in-Err.fault c.in-Err.ensures.err (sym c.failed.ensures ∙ is)
+
+pub returns-in-Err-clause-ends : goal.returns-in-Err-clause-ends
+returns-in-Err-clause-ends g c =
+    check_between c.in-Err.fault c.failed.result g.W.Write.contents _ _ _ c.failed.ensures (record {
+      read_failed = c.in-Err.ensures.read_failed;
+      write_failed = c.in-Err.ensures.write_failed;
+      told = c.in-Err.ensures.faults_written;
+      untouched = c.in-Err.ensures.nothing_written;
+    })
