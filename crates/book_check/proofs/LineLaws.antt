@@ -69,7 +69,7 @@ pub goes_on : (s : State) (fields : List (List ℕ)) (field : List ℕ) (octet :
     → is_end (step default_config s octet).1 ≡ false
     → next_record default_config (step default_config s octet).0
     (fields_after (step default_config s octet).1 fields field)
-        (field_after (step default_config s octet).1 octet field)
+    (field_after (step default_config s octet).1 octet field)
     rest
     ≡ next_record default_config s fields field (octet ∷ rest)
 unfolding next_record
@@ -125,7 +125,7 @@ pub line_here : (text : List ℕ) (at start : ℕ) → at ≤ length text → st
 line_here text at start few is =
     let left : length (drop at text) ≡ length text - at = length-drop at text in
     let back : length text - length (drop at text) + blank_front (drop at text) ≡ start = omega (arith, left, is, few)
-        in
+    in
     ap (λ n. lines_before text n + 1) back
 
 -- the place to which a cursor passes the next record

@@ -61,7 +61,7 @@ one_more text seen stand fields now next told after read so tells is =
       written = λ more later.
           append_assoc so.octets row (told_of_rows text (stand_at read.1 read.2) next more later)
           ∙ ap (λ (c : Counted). so.octets ++ (row ++ told_of_rows text (stand_at read.1 read.2) c more later))
-              tells.next
+          tells.next
           ∙ ap (λ (s : Stand). so.octets ++ (row ++ told_of_rows text s (counted_after now fields) more later))
           (sym (ap (stand_after stand) is))
           ∙ so.written (fields ∷ more) (tells.verdict ∷ later)

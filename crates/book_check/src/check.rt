@@ -68,9 +68,9 @@ struct Place {
 ///
 /// # Errors
 ///
-/// [`CheckFault::Faults`] if there is one row or more: all of them are written then, as is the row of the columns' names
-/// alone if there is none. With any other fault nothing is written, but after [`CheckFault::WriteFailed`] a front of
-/// the table may be out.
+/// [`CheckFault::Faults`] if there is one row or more: all of them are written then, as is the row of the columns'
+/// names alone if there is none. With any other fault nothing is written, but after [`CheckFault::WriteFailed`] a front
+/// of the table may be out.
 pub fn check_stream<R: Read, W: Write>(
     alloc: Global,
     source: &mut Source<R>,
