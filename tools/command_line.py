@@ -8,7 +8,7 @@ Usage: command_line.py              says which texts are stale, and fails if one
 
 The source is crates/warnc_cli/src/command.rt. The completions are written whole. Of the man page, docs/warnc.1, the
 commands are put in the program's order and their options are written; what stands between the heading of a command and
-its options stays, and a new command gets the line of its --help there. Of docs/usage.md the table of commands is
+its options stays, and a new command gets the line of its --help there. Of docs/usage.md the list of commands is
 written.
 """
 import os
@@ -196,7 +196,7 @@ def man_page(commands):
     return front + man_commands(commands, commands_of_page + rest) + rest
 
 
-# --- The table of usage.md ---
+# --- The list of usage.md ---
 
 
 def in_words(option, others):
@@ -220,12 +220,15 @@ def words_of(command):
 
 
 def usage(commands):
-    page = read("docs/usage.md")
-    rows = ["| Command | What it does |", "|---|---|"]
+    """Returns usage.md with its list of commands, which is the first list there."""
+    lines = []
     for it in commands:
-        words = words_of(it).replace("|", "\\|")
-        rows.append(f"| `{words}` | {it.text} |")
-    return re.sub(r"^\| Command \|.*?\n\n", lambda _: "\n".join(rows) + "\n\n", page, count=1, flags=re.M | re.S)
+        # the words of a command aren't broken
+        words, blank = words_of(it), "\N{NO-BREAK SPACE}"
+        line = f"- `{words.replace(' ', blank)}`: {uncapped(it.text)}"
+        lines += [part.replace(blank, " ") for part in textwrap.wrap(line, WIDTH, subsequent_indent="  ")]
+    made = "\n".join(lines) + "\n\n"
+    return re.sub(r"^- `.*?\n\n", lambda _: made, read("docs/usage.md"), count=1, flags=re.M | re.S)
 
 
 # --- Completions ---

@@ -70,8 +70,7 @@ WRONG = (
 HEAD = """# Wrong bodies that are refused
 
 Each edit turns the meaning of one function, and the prover has to refuse the crate with it. The gate tries those of
-`must-fail/`; `more-edits.sh` tries those of `more-edits/`. `tools/edits_table.py` writes this page, and with `--all`
-a list of all edits by crate and function.
+`must-fail/`; `more-edits.sh` tries those of `more-edits/`. `tools/edits_table.py` writes this page.
 
 Each of these wrong bodies is refused by the prover, as the edits beside it (`CRATE/NAME`) show, or the tests beside it
 see it. A body that
