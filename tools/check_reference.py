@@ -163,7 +163,7 @@ class Judge:
         if len(pieces) > 15:
             at = next((at for at, it in enumerate(text) if it not in gsm.CODES), 0)
             why = "" if is_gsm else f": UCS-2 because of {text[at]} at {at}"
-            raise Fault(len(fields), f"15 pages are the most{why}")
+            raise Fault(len(fields), f"{len(pieces)} pages, 15 is the most{why}")
 
     def judge(self, row, fields):
         """Returns the fault of a row, or None, and has the row count."""
