@@ -1,10 +1,10 @@
 #!/usr/bin/env python3
 """Judges books with faults as docs/formats.md says: a second program against which `warnc check` is compared.
 
-Usage: check_reference.py PROGRAM [RUNS]    random books, spoilt in most runs: fields and octets changed, columns dropped
-                                            and added, rows doubled and swapped, line ends and quotes put in; the
-                                            tables, lines and statuses of both programs have to be the same. PROGRAM is
-                                            a built `warnc`
+Usage: check_reference.py PROGRAM [RUNS]    random books, spoilt in most runs: fields and octets changed, columns
+                                            dropped and added, rows doubled and swapped, line ends and quotes put in;
+                                            the tables, lines and statuses of both programs have to be the same.
+                                            PROGRAM is a built `warnc`
        check_reference.py --table < BOOK    prints the table of a book
 """
 import random
@@ -163,7 +163,7 @@ class Judge:
         if len(pieces) > 15:
             at = next((at for at, it in enumerate(text) if it not in gsm.CODES), 0)
             why = "" if is_gsm else f": UCS-2 because of {text[at]} at {at}"
-            raise Fault(len(fields), f"15 pages are the most{why}")
+            raise Fault(len(fields), f"{len(pieces)} pages, 15 is the most{why}")
 
     def judge(self, row, fields):
         """Returns the fault of a row, or None, and has the row count."""
@@ -231,8 +231,8 @@ def check(book):
 TEXTS = ["One", "Вода", "{fire} at 3€", "Zażółć", "a" * 93, "", "a\tb", "go\nnow", "go, now", 'say "go"', "\U0001F525",
          "x" * 1396, "ó" * 616, "a" * 700 + "ó"]
 FIELDS = [b"", b"*", b"x", b"0", b"65536", b"70000", b"00001", b"-1", b"1-1", b"1-1 1-1", b"1-1  1-2", b"9-9", b"1-",
-          b"a", b"a ", b"b", b"en", b"EN", b"cell", b"write", b"update", b"stop", b"Write", b"cell;1;1", b"cell\t1", b"\xff",
-          b"caf\xe9", b"\x80" * 90, "ü".encode() * 90, b"x" * 90, b'"', b"\r\n", b"\r", b"1,2", b"# no",
+          b"a", b"a ", b"b", b"en", b"EN", b"cell", b"write", b"update", b"stop", b"Write", b"cell;1;1", b"cell\t1",
+          b"\xff", b"caf\xe9", b"\x80" * 90, "ü".encode() * 90, b"x" * 90, b'"', b"\r\n", b"\r", b"1,2", b"# no",
           b"\xef\xbb\xbf"]
 
 

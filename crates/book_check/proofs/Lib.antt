@@ -1,3 +1,5 @@
 pub mod LineLaws
 pub mod SoFarLaws
 pub mod BookLaws
+pub mod PageCounts
+pub mod OneCheck

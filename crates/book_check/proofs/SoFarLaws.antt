@@ -75,9 +75,10 @@ pub all_told : (input : List ℕ) (seen : List (List (List ℕ))) (state : State
     (now : Counted) (told : Told)
     → IsSoFar (strip_bom input) seen stand now told
     → Reached default_config st.StartRecord (strip_bom input) seen state rest
+    → length seen ≤ 4097
     → (next_record default_config state [] [] rest ≡ None) ⊎ (length seen ≡ 4097)
     → IsToldOf input told
-all_told input seen state rest stand now told so read whole =
+all_told input seen state rest stand now told so read few whole =
     let text : List ℕ = strip_bom input in
     let octets : so.octets ≡ header_row ++ told_of_rows text (at_start text) none_counted seen so.verdicts =
     sym (append-nil so.octets)
@@ -93,6 +94,7 @@ all_told input seen state rest stand now told so read whole =
         state = state;
         rest = rest;
         read = read;
+        few = few;
         whole = whole;
         each = subst (λ (rs : List (List (List ℕ))). AreVerdicts none_counted rs so.verdicts) (append-nil seen)
             (subst (λ (vs : List Verdict). AreVerdicts none_counted (seen ++ []) vs) (append-nil so.verdicts)

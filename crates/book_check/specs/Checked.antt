@@ -20,6 +20,7 @@ pub record AreVerdictsOf (input : List ℕ) (verdicts : List Verdict) : Type 0 w
   pub state : State
   pub rest : List ℕ
   pub read : Reached default_config st.StartRecord (strip_bom input) records state rest
+  pub few : length records ≤ max_rows + 1
   pub whole : (next_record default_config state [] [] rest ≡ None) ⊎ (length records ≡ max_rows + 1)
   pub each : AreVerdicts none_counted records verdicts
 

@@ -1,6 +1,7 @@
 -- What the check of a book says of the book. Own.
-use Rattle.std.specs.Prelude.{◌≡◌, ℕ, ◌+◌, List, [], ◌∷◌, Option, Some, None, count_by}
+use Rattle.std.specs.Prelude.{◌≡◌, ℕ, ◌+◌, List, [], ◌∷◌, Option, Some, None, count_by, length}
 use Rattle.std.specs.Option.{option_or}
+use Rattle.cbs_page.specs.Text.{IsPagingOf}
 use Rattle.alert_book.specs.Book.{Contents, fault_at, kind_of, IsBook, IsWrong}
 use Rattle.alert_book.specs.declared.fault.BookFault.{BookFault}
 use Rattle.alert_book.specs.declared.fault.BookFaultKind.TheVariants as kind
@@ -8,6 +9,7 @@ use Rattle.alert_book.specs.declared.judging.Verdict.{Verdict}
 use Rattle.alert_book.specs.declared.judging.Verdict.TheVariants as verdict
 use Rattle.book_check.specs.Checked.{IsChecked, IsClean}
 use Rattle.book_check.specs.Told.{is_told}
+use Rattle.book_check.specs.Words.{pages_needed}
 
 -- the first fault of a row's own, where the first of the rows has this number
 abbrev pub first_wrong : (row : ℕ) → List Verdict → Option BookFault
@@ -45,3 +47,13 @@ FirstIsTheBooks = (input output : List ℕ) (count : ℕ) (checked : IsChecked i
 abbrev pub FaultsHaveAFirst : Type 0
 FaultsHaveAFirst = (verdicts : List Verdict) → first_fault verdicts ≡ None
     → count_by is_told verdicts ≡ 0
+
+-- octets are checked in one way: as many faults, and one table
+abbrev pub ChecksAreOne : Type 0
+ChecksAreOne = (input output another : List ℕ) (count other : ℕ)
+    → IsChecked input count output → IsChecked input other another → (count ≡ other) × (output ≡ another)
+
+-- so many pages as are told of a text are the pieces into which it is cut
+abbrev pub PagesAreCounted : Type 0
+PagesAreCounted = (text : List ℕ) (pieces : List (List ℕ)) → IsPagingOf text pieces
+    → length pieces ≡ pages_needed text

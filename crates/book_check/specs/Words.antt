@@ -2,13 +2,15 @@
 -- Own.
 use Rattle.std.specs.Prelude.{ℕ, zero, suc, ◌+◌, ◌-◌, ◌==◌, ◌&&◌, ◌||◌, not, nat_le, nat_lt, Bool, if◌then◌else◌}
 use Rattle.std.specs.Prelude.{Option}
-use Rattle.std.specs.Prelude.{Some, None, List, [], ◌∷◌, ◌++◌, codes, encode_utf8, find, is_some, length, position}
+use Rattle.std.specs.Prelude.{Some, None, List, [], ◌∷◌, ◌++◌, codes, encode_utf8, length}
 use Rattle.std.specs.Prelude.{slice_get, take, unwrap_or}
 use Rattle.std.specs.Fmt.{decimal}
 use Rattle.std.specs.List.{flat_map, list_any}
 use Rattle.std.specs.Str.{bytes_eq, chars, is_utf8}
 use Rattle.hex.specs.Hex.{encode_lower}
-use Rattle.gsm_alphabet.specs.Alphabet.{code_of}
+use Rattle.book_texts.specs.Cost.{first_forcing, place_of_forcing}
+use Rattle.cbs_page.specs.Text.{alphabet_for, capacity, cost_of}
+use Rattle.cbs_page.specs.declared.coding.Alphabet.{Alphabet}
 use Rattle.cbs_page.specs.declared.paging.TextFault.{TextFault}
 use Rattle.cbs_page.specs.declared.paging.TextFault.TheVariants as text
 use Rattle.cbsp_wire.specs.declared.message.Cell.{Cell}
@@ -177,20 +179,30 @@ says_of_row row after fields verb place fault.TooManyUpdates = codes "an alert h
 says_of_row row after fields verb place fault.TooManyRows = too_many_words row
 says_of_row row after fields verb place fault.Refused = []
 
--- a character that the GSM 7-bit alphabet doesn't have
-abbrev pub is_ucs2 : ℕ → Bool
-is_ucs2 character = not (is_some (code_of character))
+-- how many pages a text takes, from a page on that has this many codes: a page has as many characters as go into it
+abbrev pub pages_from : Alphabet → (used : ℕ) → List ℕ → ℕ
+pages_from alphabet used [] = 1
+pages_from alphabet used (character ∷ text) =
+    if nat_le (used + cost_of alphabet character) (capacity alphabet)
+    then pages_from alphabet (used + cost_of alphabet character) text
+    else 1 + pages_from alphabet (cost_of alphabet character) text
 
--- of a text that has too many pages, and why it is UCS-2: its first such character, and the place of that, counted
+abbrev pub pages_needed : List ℕ → ℕ
+pages_needed [] = 0
+pages_needed (character ∷ text) = pages_from (alphabet_for (character ∷ text)) 0 (character ∷ text)
+
+-- of a text that takes so many pages, and why it is UCS-2: its first such character, and the place of that, counted
 -- from 0
-abbrev pub pages_words_by : Option ℕ → Option ℕ → List ℕ
-pages_words_by None place = codes "15 pages are the most"
-pages_words_by (Some character) None = codes "15 pages are the most"
-pages_words_by (Some character) (Some place) =
-    codes "15 pages are the most: UCS-2 because of " ++ (encode_utf8 character ++ (codes " at " ++ decimal place))
+abbrev pub pages_words_by : (pages : ℕ) → (character place : Option ℕ) → List ℕ
+pages_words_by pages None place = decimal pages ++ codes " pages, 15 is the most"
+pages_words_by pages (Some character) None = decimal pages ++ codes " pages, 15 is the most"
+pages_words_by pages (Some character) (Some place) =
+    decimal pages ++ (codes " pages, 15 is the most: UCS-2 because of " ++ (encode_utf8 character ++ (codes " at "
+    ++ decimal place)))
 
 abbrev pub pages_words : List ℕ → List ℕ
-pages_words field = pages_words_by (find is_ucs2 (chars field)) (position is_ucs2 (chars field))
+pages_words field =
+    pages_words_by (pages_needed (chars field)) (first_forcing (chars field)) (place_of_forcing (chars field))
 
 -- what is said of a text's fault
 abbrev pub says_of_text : List ℕ → TextFault → List ℕ

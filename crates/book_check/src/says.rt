@@ -1,18 +1,19 @@
 //! What is said of a fault: what is wanted in its place.
 
-ghost use Rattle.std.specs.Prelude.{◌≡◌, IfOk, find, position, string_bytes};
+ghost use Rattle.std.specs.Prelude.{◌≡◌, IfOk, string_bytes};
 ghost use Rattle.std.specs.Str.{chars};
 ghost use Rattle.csv.specs.Records.{fields_of};
 ghost use Rattle.alert_book.specs.Fields.{column};
-ghost use Rattle.book_check.specs.Words.{columns_words, count_words, is_ucs2, pages_words, says_of_row, says_of_text};
+ghost use Rattle.book_check.specs.Words.{columns_words, count_words, pages_needed, pages_words, says_of_row};
+ghost use Rattle.book_check.specs.Words.{says_of_text};
 ghost use Rattle.book_check.specs.Words.{text_of, twice_words, undeclared_words};
 
 use crate::words::{column_of, number_words, too_many_words, unknown_words, verb_name, verb_words};
 use alert_book::{Column, Found, Judge, RowFault, Verb, are_texts, columns_of, octets_at, text_at};
+use book_texts::{cost_of_text, first_forcing, place_of_forcing};
 use cbs_page::TextFault;
 use cbsp_wire::Cell;
 use csv::ByteRecord;
-use gsm_alphabet::encode_char;
 use std::alloc::{AllocError, Global};
 
 /// All languages.
@@ -109,36 +110,25 @@ pub(crate) fn says_of_row(
     }
 }
 
-/// Whether the GSM 7-bit alphabet doesn't have a character.
-fn is_ucs2(character: char) -> bool
-    ensures { result ≡ is_ucs2 character }
+/// How many pages a text takes.
+fn pages_needed(text: &str) -> usize
+    ensures { result ≡ pages_needed (chars text.now) }
 {
-    encode_char(character).is_none()
-}
-
-/// The place of the first character of a text that is UCS-2, counted from 0.
-fn ucs2_place(text: &str) -> Option<usize>
-    ensures { result ≡ position is_ucs2 (chars text.now) }
-{
-    text.chars().position(is_ucs2)
-}
-
-/// That character.
-fn ucs2_character(text: &str) -> Option<char>
-    ensures { result ≡ find is_ucs2 (chars text.now) }
-{
-    text.chars().find(|character| is_ucs2(*character))
+    cost_of_text(text).pages
 }
 
 /// What is said of a text that has too many pages.
 fn pages_words(alloc: Global, text: &str) -> Result<String, AllocError>
     ensures { IfOk result (λ says. string_bytes says ≡ pages_words text.now) }
 {
-    match (ucs2_character(text), ucs2_place(text)) {
+    let pages = pages_needed(text);
+    match (first_forcing(text), place_of_forcing(text)) {
         (Some(character), Some(place)) => {
-            format!(in alloc; "15 pages are the most: UCS-2 because of {character} at {place}")
+            format!(in alloc;
+                "{pages} pages, 15 is the most: UCS-2 because of {character} at {place}"
+            )
         }
-        _ => String::from_str(alloc, "15 pages are the most"),
+        _ => format!(in alloc; "{pages} pages, 15 is the most"),
     }
 }
 

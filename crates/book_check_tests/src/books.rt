@@ -179,13 +179,13 @@ check sell|%FF|sell| -> Faults(2) 4096,4096,1,VERB,sell,\"cell, write, update or
 before cell,1,1|write,0,a,4370,0,1,en,2,2,0,*,
 times 1395 a
 check | -> clean
-check a| -> Faults(1) 2,2,12,TEXT,aaaaaaaaaaaaaaaaaaaaaaaaaaaaaaaaaaaaaaaaaaaaaaaaaaaaaaaaaaaaaaaaaaaaaaaaaaaaaaaa,1\
-    5 pages are the most
+check a| -> Faults(1) 2,2,12,TEXT,aaaaaaaaaaaaaaaaaaaaaaaaaaaaaaaaaaaaaaaaaaaaaaaaaaaaaaaaaaaaaaaaaaaaaaaaaaaaaaaa,\"16 \
+    pages, 15 is the most\"
 before cell,1,1|write,0,a,4370,0,1,en,2,2,0,*,abó
 times 612 a
 check | -> clean
-check a| -> Faults(1) 2,2,12,TEXT,abóaaaaaaaaaaaaaaaaaaaaaaaaaaaaaaaaaaaaaaaaaaaaaaaaaaaaaaaaaaaaaaaaaaaaaaaaaaaaa,1\
-    5 pages are the most: UCS-2 because of ó at 2
+check a| -> Faults(1) 2,2,12,TEXT,abóaaaaaaaaaaaaaaaaaaaaaaaaaaaaaaaaaaaaaaaaaaaaaaaaaaaaaaaaaaaaaaaaaaaaaaaaaaaaa,\"16 \
+    pages, 15 is the most: UCS-2 because of ó at 2\"
 
 # Of a long value its first 80 characters are shown, whole ones.
 before

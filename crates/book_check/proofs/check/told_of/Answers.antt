@@ -121,7 +121,7 @@ returns-then-counted-ge-MAX_ROWS c =
     let long : length (inv.seen ++ fields ∷ []) ≡ 4097 =
     omega (arith, length_push inv.seen fields, inv.rows, inv.few, full) in
     all_told c.args.octets.now (inv.seen ++ fields ∷ []) new.state m.0 (stand_at new.state m.0) c.tell.new.judge
-    c.tell.new.told more m.2 (inr long)
+    c.tell.new.told more m.2 (omega (arith, long)) (inr long)
 
 pub returns : goal.returns
 returns c =
@@ -130,6 +130,6 @@ returns c =
     let old = c.loop-record.record-iterator.rdr in
     let s = rw c.in-None.is at ((c.next.ensures.steps inv.turns inv.trim).0 inv.ready) in
     all_told c.args.octets.now inv.seen old.state inv.left (stand_at old.state inv.left) c.loop-record.judge
-    c.loop-record.told inv.so_far inv.reached
+    c.loop-record.told inv.so_far inv.reached (omega (arith, inv.rows, inv.few))
     (inl (rows-end (λ (s : Bor (List ℕ)). Some s.now) old c.next.new.self.rdr [] default_config inv.left inv.config
     inv.source s))

@@ -1,4 +1,6 @@
 use Rattle.book_check.proofs.BookLaws.{books_are_clean, clean_are_books, faults_have_a_first, first_is_the_books}
+use Rattle.book_check.proofs.OneCheck.{checks_are_one}
+use Rattle.book_check.proofs.PageCounts.{pages_counted}
 use Rattle.book_check.proofs.laws.check_laws.Goals as goal
 
 pub returns-clause-clean : goal.returns-clause-clean
@@ -12,3 +14,9 @@ returns-clause-first c = first_is_the_books
 
 pub returns-clause-some : goal.returns-clause-some
 returns-clause-some c = faults_have_a_first
+
+pub returns-clause-one : goal.returns-clause-one
+returns-clause-one c = checks_are_one
+
+pub returns-clause-pages : goal.returns-clause-pages
+returns-clause-pages c = pages_counted
