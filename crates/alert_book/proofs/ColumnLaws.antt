@@ -16,6 +16,7 @@ drop_suc [] place less = absurd (omega (arith, less))
 drop_suc (f ∷ fs) zero less = refl
 drop_suc (f ∷ fs) (suc place) less = drop_suc fs place (omega (arith, less))
 
+-- the columns from a place on are that one and those after it
 pub column_drop : (fields : List (List ℕ)) (place : ℕ) → place < length fields
     → drop place fields ≡ column fields place ∷ drop (place + 1) fields
 column_drop fields place less = rw add-one (drop_suc fields place less)
@@ -28,6 +29,7 @@ is_text field text is = by_test (is_utf8 field) is
     by_test true is = refl
     by_test false is = absurd cc
 
+-- a field of which no text is made isn't UTF-8
 pub is_no_text : (field : List ℕ) → None ≡ text_or_none field → is_utf8 field ≡ false
 is_no_text field is = by_test (is_utf8 field) is
   where
@@ -40,14 +42,17 @@ pub no_text_more : (fields : List (List ℕ)) (place : ℕ) → place < length f
     → no_text_from (place + 1) (drop place fields) ≡ no_text_from (place + 1 + 1) (drop (place + 1) fields)
 no_text_more fields place less text = ap (no_text_from (place + 1)) (column_drop fields place less) ∙ rw text refl
 
+-- the first field that isn't UTF-8 is the one at hand
 pub no_text_here : (fields : List (List ℕ)) (place : ℕ) → place < length fields → is_utf8 (column fields place) ≡ false
     → no_text_from (place + 1) (drop place fields) ≡ place + 1
 no_text_here fields place less other = ap (no_text_from (place + 1)) (column_drop fields place less) ∙ rw other refl
 
+-- if a field is UTF-8, all from it on are exactly if those after it are
 pub texts_more : (fields : List (List ℕ)) (place : ℕ) → place < length fields → is_utf8 (column fields place) ≡ true
     → list_all is_utf8 (drop place fields) ≡ list_all is_utf8 (drop (place + 1) fields)
 texts_more fields place less text = ap (list_all is_utf8) (column_drop fields place less) ∙ rw text refl
 
+-- if a field isn't UTF-8, not all from it on are
 pub texts_here : (fields : List (List ℕ)) (place : ℕ) → place < length fields → is_utf8 (column fields place) ≡ false
     → list_all is_utf8 (drop place fields) ≡ false
 texts_here fields place less other = ap (list_all is_utf8) (column_drop fields place less) ∙ rw other refl

@@ -138,6 +138,7 @@ by_rows : (full : Bool) (found : Option Found) (meant : Result Row RowFault) →
 by_rows true found meant is = refl
 by_rows false found meant is = is
 
+-- what is found in a row is the fault that it has
 pub found_is_fault : FoundIsFault
 found_is_fault row declared orders fields =
     by_rows (nat_lt max_rows row) _ _ (by_texts (are_texts fields) (no_text_column fields) _ _

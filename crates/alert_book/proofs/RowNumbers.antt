@@ -69,6 +69,7 @@ has_row row declared orders fields =
     unless row (nat_lt max_rows row) fault.TooManyRows _ (unless row (not (are_texts fields)) fault.Columns _
     (after_verb (verb_of (column fields 0)) row declared orders fields))
 
+-- an order has the number of its row
 pub order_has_row : (row : ℕ) (declared : List Cell) (orders : List Order) (fields : List (List ℕ)) (order : Order)
     → row_of row declared orders fields ≡ Ok (rows.Give order) → order.row ≡ row
 order_has_row row declared orders fields order is = rw is at (has_row row declared orders fields)

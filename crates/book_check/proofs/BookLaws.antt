@@ -74,6 +74,7 @@ right_reads before fields records more meant right later =
     ∙ subst (λ (c : Counted). rows_read_by row_of (c.rows + 1) c.known records
     ≡ read_as (first_wrong (c.rows + 1) more) (counted_in (counted_after before fields) records).known) next later
 
+-- rows are read as their verdicts say: up to the first that is wrong
 pub reads : (before : Counted) (records : List (List (List ℕ))) (verdicts : List Verdict)
     → AreVerdicts before records verdicts → Reads before records verdicts
 reads before [] [] are = refl
@@ -275,6 +276,7 @@ either_first : (wrong text : Option BookFault) → option_or wrong text ≡ None
 either_first None text none = (refl, none)
 either_first (Some f) text none = absurd cc
 
+-- if no fault is the first, none is told
 pub faults_have_a_first : FaultsHaveAFirst
 faults_have_a_first verdicts none =
     let both = either_first (first_wrong 1 verdicts) (first_unsendable 1 verdicts) none in
@@ -290,6 +292,7 @@ meant_of input verdicts are none = record {
       ∙ ap (λ (o : Option BookFault). read_as o (counted_in none_counted are.records).known) none;
 }
 
+-- a book of which nothing is told is an alert book
 pub clean_are_books : CleanAreBooks
 clean_are_books input output clean =
     let firsts = none_first clean.verdicts 1 clean.counted in
@@ -304,6 +307,7 @@ clean_are_books input output clean =
       },
     )
 
+-- the first fault that is told is the one for which the octets are no alert book
 pub first_is_the_books : FirstIsTheBooks
 first_is_the_books input output count checked f first =
     by_wrong (first_wrong 1 checked.verdicts) refl
@@ -334,6 +338,7 @@ first_is_the_books input output count checked f first =
           }),
         )
 
+-- nothing is told of an alert book
 pub books_are_clean : BooksAreRight → BooksAreClean
 books_are_clean right input output count book is checked =
     by_first (first_fault checked.verdicts) refl

@@ -36,6 +36,7 @@ pub blank_none : (text : List ℕ) (at : ℕ) → at < length text → is_line_e
     → blank_front (drop at text) ≡ 0
 blank_none text at less other = ap blank_front (split_at text at less) ∙ rw other refl
 
+-- nothing is left past the end
 pub drop_end : (text : List ℕ) (at : ℕ) → length text ≤ at → drop at text ≡ []
 drop_end [] zero end = refl
 drop_end [] (suc at) end = refl
@@ -105,6 +106,7 @@ read_is read fields s y a b c =
 one_read : (p q : Read) (o : Option Read) → o ≡ Some p → o ≡ Some q → p ≡ q
 one_read p q o a b = cc
 
+-- of two places between which one record lies, the second is where reading it from the first ends
 pub reached_last : (s s1 s2 : State) (xs y1 y2 : List ℕ) (seen : List (List (List ℕ))) (fields : List (List ℕ))
     → Reached default_config s xs seen s1 y1 → Reached default_config s xs (seen ++ fields ∷ []) s2 y2
     → next_record default_config s1 [] [] y1 ≡ Some (fields, s2, y2)

@@ -19,6 +19,7 @@ count_is alphabet used (c ∷ text) =
     (count_from (codes_of alphabet) (capacity alphabet) (used + cost_of alphabet c) text) (1 + n))
     (count_is alphabet (cost_of alphabet c) text)
 
+-- a text's pages are as many as are counted
 pub pages_counted : PagesAreCounted
 pages_counted [] pieces paging =
     ap length (pieces_of_nothing (cost_of (alphabet_for [])) (capacity (alphabet_for [])) pieces paging)

@@ -18,6 +18,7 @@ use Rattle.book_check.specs.TableSteps.{IsTable}
 use Rattle.book_check.specs.Told.{AreVerdicts, header_row, is_told, told_of_row, told_of_rows}
 use Rattle.book_check.specs.declared.check.Told.{Told}
 
+-- before the first record the table has the names of its columns alone
 pub none_so_far : (text : List ℕ) (told : Told) → IsTable told.table header_row → told.count ≡ 0
     → IsSoFar text [] (at_start text) none_counted told
 none_so_far text told table count = record {
@@ -36,6 +37,7 @@ one_more_counted verdicts verdict before after so more =
     let parts = sum_by-append (λ (v : Verdict). cond (is_told v) 1 0) verdicts (verdict ∷ []) in
     parts ∙ omega (arith, so, more)
 
+-- with one more record that is judged, the table is that of one record more
 pub one_more : (text : List ℕ) (seen : List (List (List ℕ))) (stand : Stand) (fields : List (List ℕ))
     (now next : Counted) (told after : Told) (read : Read)
     → IsSoFar text seen stand now told
@@ -71,6 +73,7 @@ one_more text seen stand fields now next told after read so tells is =
           ((seen ++ fields ∷ []) ++ more) vs) (sym (append_assoc so.verdicts (tells.verdict ∷ []) later));
     }
 
+-- where no record is left, or 4,097 were judged, the table is that of the book
 pub all_told : (input : List ℕ) (seen : List (List (List ℕ))) (state : State) (rest : List ℕ) (stand : Stand)
     (now : Counted) (told : Told)
     → IsSoFar (strip_bom input) seen stand now told
