@@ -1,5 +1,5 @@
 #!/bin/sh
-# Installs the program of dist/ with its man page and its completions for bash, zsh and fish, or removes them again.
+# Installs the program of dist/ with its man pages and its completions for bash, zsh and fish, or removes them again.
 #
 # Usage: ./install.sh [--prefix DIR] [--uninstall]
 #
@@ -37,6 +37,7 @@ list() {
     cat << 'END'
 755 dist/warnc-x86_64-linux bin/warnc
 644 docs/warnc.1 share/man/man1/warnc.1
+644 docs/warnc-book.5 share/man/man5/warnc-book.5
 644 tools/completions/warnc.bash share/bash-completion/completions/warnc
 644 tools/completions/_warnc share/zsh/site-functions/_warnc
 644 tools/completions/warnc.fish share/fish/vendor_completions.d/warnc.fish

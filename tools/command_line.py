@@ -18,6 +18,8 @@ import sys
 import textwrap
 from dataclasses import dataclass, field
 
+import release
+
 TOP = os.path.dirname(os.path.dirname(os.path.realpath(__file__)))
 SOURCE = "crates/warnc_cli/src/command.rt"
 STRING = r'"((?:[^"\\]|\\.)*)"'
@@ -191,7 +193,7 @@ def man_commands(commands, page):
 
 
 def man_page(commands):
-    page = read("docs/warnc.1")
+    page = re.sub(r'"warnc [0-9.]+"', f'"warnc {release.version_of(TOP)[0].split()[-1]}"', read("docs/warnc.1"))
     front, commands_of_page, rest = re.fullmatch(r"(.*?)(^\.SS .*?)(^\.SH BOOKS.*)", page, re.M | re.S).groups()
     return front + man_commands(commands, commands_of_page + rest) + rest
 

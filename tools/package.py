@@ -69,10 +69,12 @@ def debian_files():
     """Returns what the Debian package has: path to mode and octets."""
     docs = "usr/share/doc/warnc"
     files = {"usr/bin/warnc": (0o755, release.read(release.RELEASED))}
-    files["usr/share/man/man1/warnc.1.gz"] = (0o644, gzip.compress(read("docs/warnc.1"), 9, mtime=0))
+    for name in ("warnc.1", "warnc-book.5"):
+        pressed = gzip.compress(read(f"docs/{name}"), 9, mtime=0)
+        files[f"usr/share/man/man{name[-1]}/{name}.gz"] = (0o644, pressed)
     files.update({place: (0o644, read(it)) for it, place in COMPLETIONS.items()})
     files.update({f"{docs}/{it}": (0o644, read(it)) for it in DOCUMENTS if it != "LICENSE"})
-    pages = [it for it in listed("docs") if not it.endswith(".1")]
+    pages = [it for it in listed("docs") if not it.endswith((".1", ".5"))]
     files.update({f"{docs}/{it.removeprefix('docs/')}": (0o644, read(it)) for it in pages})
     files.update({f"{docs}/{it}": (0o644, read(it)) for it in listed("examples")})
     files[f"{docs}/copyright"] = (0o644, read("LICENSE"))
