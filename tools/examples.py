@@ -1,13 +1,14 @@
 #!/usr/bin/env python3
-"""Runs each command that README, two pages of docs/ and the man page print, and compares what it writes with what they
-print after it.
+"""Runs each command that README, three pages of docs/ and the man page print, and compares what it writes with what
+they print after it.
 
 Usage: examples.py [PROGRAM]      PROGRAM is the warnc that is run; that of ./warnc, if it isn't given
 
 In the texts a command stands behind `$ `, indented, and goes on in the next lines as long as the shell takes it for
-unfinished. The commands of a text run one after the other in a folder of its own, which has ./warnc, cluster/ and
-examples/, so that what one writes the next can read; those of the man page, which is read elsewhere, find the examples
-beside them. A command that needs what isn't installed, or what such a command would have written, is skipped, aloud.
+unfinished. The commands of a text run one after the other in a folder of its own, which has ./warnc, cap/, cluster/
+and examples/, so that what one writes the next can read; those of the man page, which is read elsewhere, find the
+examples beside them. A command that needs what isn't installed, or what such a command would have written, is skipped,
+aloud.
 """
 import os
 import re
@@ -17,7 +18,7 @@ import sys
 import tempfile
 
 TOP = os.path.dirname(os.path.dirname(os.path.realpath(__file__)))
-TEXTS = ("README.md", "docs/planning.md", "docs/usage.md", "docs/warnc.1")
+TEXTS = ("README.md", "docs/planning.md", "docs/usage.md", "docs/cap.md", "docs/warnc.1")
 # what not every machine has, and commands that run it
 NEEDS = {"tshark": "tshark", "xxd": "xxd", "cluster/parallel.sh": "parallel"}
 SECONDS = 100
@@ -68,7 +69,7 @@ def lacking(command):
 
 def room_for(folder, program):
     """Puts into a folder what the commands name, and returns the environment that they run in."""
-    for name in ("cluster", "examples"):
+    for name in ("cap", "cluster", "examples"):
         os.symlink(os.path.join(TOP, name), os.path.join(folder, name))
     os.makedirs(os.path.join(folder, ".bin"))
     for path in ("warnc", ".bin/warnc"):

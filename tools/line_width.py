@@ -16,7 +16,7 @@ import textwrap
 WIDTH = 120
 TEXTS = ("README.md", "docs/*.md", "crates/*/README.md", "crates/*/src/**/*.rt", "crates/*/specs/**/*.antt",
          "crates/*/proofs/**/*.antt")
-SCRIPTS = ("warnc", "test", "*.sh", "tools/*.py", "bench/*.py", "cluster/*.sh")
+SCRIPTS = ("warnc", "test", "*.sh", "tools/*.py", "bench/*.py", "cluster/*.sh", "cap/warnc-cap", "cap/**/*.py")
 
 
 def is_exempt(path, line):

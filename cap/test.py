@@ -1,0 +1,255 @@
+#!/usr/bin/env python3
+"""Tries warnc-cap: on samples of the standard and others, on the cases of cases.txt, and on messages that are spoilt.
+
+Usage: test.py PROGRAM [RUNS]    PROGRAM is a built `warnc`; so many messages are spoilt, 2,000 if it isn't given
+       test.py --help            prints this
+
+A folder of samples/ has messages, cells, a policy and the words of the call, and what was worked out by hand: the book,
+the status, and the files and elements that are told. cases.txt says how its cases are written.
+"""
+import os
+import random
+import re
+import shlex
+import subprocess
+import sys
+import tempfile
+import time
+from concurrent.futures import ThreadPoolExecutor
+from datetime import datetime, timedelta, timezone
+
+sys.dont_write_bytecode = True
+HERE = os.path.dirname(os.path.realpath(__file__))
+sys.path.insert(0, HERE)
+from warnc_cap import message  # noqa: E402
+
+COMMAND = os.path.join(HERE, "warnc-cap")
+START = datetime(2026, 3, 1, tzinfo=timezone.utc)
+# no call takes longer, in seconds
+MOST_SECONDS = 20
+
+
+def ran(program, words, folder):
+    """Returns the status of a call, the book, and the lines that are told."""
+    done = subprocess.run([sys.executable, "-B", COMMAND, "--warnc", program, *words], cwd=folder, capture_output=True,
+                          timeout=MOST_SECONDS, check=False)
+    return done.returncode, done.stdout.decode(), done.stderr.decode().splitlines()
+
+
+def untold(wanted, lines):
+    """Returns what is wanted and isn't told, and what is told and isn't wanted."""
+    left, lacking = list(lines), []
+    for it in wanted:
+        found = next((line for line in left if line.removeprefix("note: ").startswith(f"{it}: ")), None)
+        if found is None:
+            lacking.append(f"not told: {it}")
+        else:
+            left.remove(found)
+    return lacking + [f"told: {it}" for it in left]
+
+
+def judge(name, found, status, book, told):
+    """Whether a call does what is wanted; prints how it doesn't."""
+    wrong = untold(told, found[2])
+    wrong += [] if found[0] == status else [f"status {found[0]}, not {status}"]
+    wrong += [] if found[1] == book else [f"the book is\n{found[1]}and not\n{book}"]
+    print("".join(f"cap/test.py: {name}: {it}\n" for it in wrong), end="")
+    return not wrong
+
+
+def read(*path):
+    with open(os.path.join(*path), encoding="utf-8", newline="") as it:
+        return it.read()
+
+
+def sample(program, folder):
+    words = ["--cells", "cells.csv", *shlex.split(read(folder, "options")), "cap"]
+    return judge(os.path.basename(folder), ran(program, words, folder), int(read(folder, "status")),
+                 read(folder, "expected.csv"), read(folder, "told").splitlines())
+
+
+# --- The cases of cases.txt ---
+
+
+def at(seconds):
+    return (START + timedelta(seconds=float(seconds))).isoformat()
+
+
+def element(name, value):
+    return f"<{name}>{value}</{name}>"
+
+
+def pair(name, key, value):
+    return element(name, element("valueName", key) + element("value", value))
+
+
+def info_of(words):
+    """Returns an info of the words of a line."""
+    given = {"threat": "Extreme,Immediate,Observed", "event": "Flood"}
+    codes, areas = "", ""
+    for it in words:
+        key, _, value = it.partition("=")
+        if key in ("polygon", "circle"):
+            areas += element("area", element("areaDesc", "area") + element(key, value) + codes)
+            codes = ""
+        elif len(key) == 1:
+            codes += pair("geocode", key, value)
+        else:
+            given[key] = value
+    if codes:
+        areas += element("area", element("areaDesc", "area") + codes)
+    severity, urgency, certainty = given["threat"].split(",")
+    parts = [element("language", given["lang"])] if "lang" in given else []
+    parts += [element("event", given["event"]), element("urgency", urgency), element("severity", severity),
+              element("certainty", certainty)]
+    parts += [pair("eventCode", "SAME", given["same"])] if "same" in given else []
+    parts += [element(it, at(given[it])) for it in ("effective", "expires") if it in given]
+    parts += [element(it, given[it]) for it in ("headline", "description", "instruction") if it in given]
+    return element("info", "".join(parts) + areas)
+
+
+def message_of(line):
+    """Returns the name and the text of the message of a line."""
+    head, *infos = [shlex.split(it) for it in line.split(" | ")]
+    kind, name, sent, *more = head
+    given = dict(it.split("=", 1) for it in more)
+    names = [it for it in given.get("of", "").split(",") if it]
+    references = " ".join(f"w@x.example,{it},{START.isoformat()}" for it in names)
+    parts = [element("identifier", given.get("id", name)), element("sender", "w@x.example"), element("sent", at(sent)),
+             element("status", given.get("status", "Actual")), element("msgType", kind.capitalize()),
+             element("scope", given.get("scope", "Public"))]
+    parts += [element("references", references)] if references else []
+    text = f'<alert xmlns="{message.NAMESPACE}">{"".join(parts)}{"".join(map(info_of, infos))}</alert>'
+    return f"{name}.xml", text.replace("\\n", "\n")
+
+
+def repeated(line):
+    """Returns a line in which {a*3} is aaa."""
+    return re.sub(r"\{(.+?)\*(\d+)\}", lambda it: it[1] * int(it[2]), line)
+
+
+def cases():
+    """Yields the name and the lines of each case."""
+    for it in re.split(r"^case ", read(HERE, "cases.txt"), flags=re.M)[1:]:
+        name, *lines = [line for line in it.splitlines() if line and not line.startswith("#")]
+        yield name, lines
+
+
+def put(folder, name, text):
+    with open(os.path.join(folder, name), "w", encoding="utf-8", newline="") as it:
+        it.write(text)
+
+
+def case(program, name, lines):
+    """Whether a case comes out as it is written."""
+    words, status, told, book = [], 0, [], []
+    with tempfile.TemporaryDirectory() as folder:
+        os.mkdir(os.path.join(folder, "cap"))
+        for line in map(repeated, lines):
+            key, _, rest = line.partition(" ")
+            if key in ("cells", "policy"):
+                put(folder, f"{key}.csv", "".join(f"{it}\n" for it in rest.split()))
+                words += ["--policy", "policy.csv"] if key == "policy" else []
+            elif key == "words":
+                words += shlex.split(rest)
+            elif key == "status":
+                status = int(rest)
+            elif key == "told":
+                told.append(rest)
+            elif key == "row":
+                book.append(rest.replace("\\n", "\n") + "\n")
+            elif key == "octets":
+                file, _, text = rest.partition(" ")
+                put(os.path.join(folder, "cap"), file, text)
+            elif key == "copy":
+                file, _, other = rest.partition(" ")
+                put(os.path.join(folder, "cap"), file, read(folder, "cap", other))
+            else:
+                put(os.path.join(folder, "cap"), *message_of(line))
+        cells = [f"cell,{','.join(it.split(',')[:2])}\n" for it in read(folder, "cells.csv").splitlines()[1:]]
+        slots = [] if "--slots" in words else ["--slots", "4096"]
+        found = ran(program, ["--cells", "cells.csv", "--start", START.isoformat(), *slots, *words, "cap"], folder)
+    return judge(name, found, status, "".join(cells + book), told)
+
+
+# --- Spoilt messages ---
+
+HOSTILE = (
+    b"", b"<", b"<alert/>", b"\xff\xfe<\x00a\x00/\x00>\x00", b"<?xml version='1.0' encoding='utf-16'?><a/>",
+    b"<?xml version='1.0' encoding='klingon'?><a/>", b"<!DOCTYPE a [<!ENTITY b 'c'>]><a>&b;</a>",
+    b"<!DOCTYPE a SYSTEM 'file:///etc/passwd'><a/>", b"<a>" * 100_000, b"x" * 5_000_000,
+)
+ODD = ("", "1e400", "\u0661\u0662", "-", "0001-01-01T00:00:00+14:00", "9999-12-31T23:59:59-14:00", "90.1,0", "nan,inf",
+       "&amp;", "a b", ",", "1,1 1,1 1,1", "0,0 " * 5000, "word " * 20_000, "\u202e", "2026-02-30T00:00:00Z", "\ud7ff")
+
+
+def spoilt(rng, texts):
+    """Returns a message in which something is another."""
+    text = rng.choice(texts)
+    for _ in range(rng.choice((1, 1, 2, 5))):
+        parts = re.findall(r"<[^>]*>|[^<]+", text)
+        where = rng.randrange(len(parts))
+        way = rng.randrange(5)
+        if way == 0:
+            parts[where] = rng.choice(ODD)
+        elif way == 1:
+            del parts[where]
+        elif way == 2:
+            parts.insert(where, parts[where])
+        elif way == 3:
+            other = rng.randrange(len(parts))
+            parts[where], parts[other] = parts[other], parts[where]
+        else:
+            parts[where] = parts[where].replace(rng.choice(parts[where] or "x"), chr(rng.randrange(32, 700)))
+        text = "".join(parts)
+    return text.encode("utf-8", "replace")
+
+
+def reads(octets):
+    """Whether a message is read or refused in time, and by nothing else."""
+    began = time.monotonic()
+    try:
+        message.message_of("x.xml", octets)
+    except message.Wrong:
+        pass
+    return time.monotonic() - began < MOST_SECONDS
+
+
+def spoilt_runs(program, runs):
+    """Whether spoilt messages are read or refused: all alone, and in calls of a hundred."""
+    texts = [message_of(line)[1] for _, lines in cases() for line in lines if line.startswith(("alert", "update"))]
+    rng, made = random.Random(1), list(HOSTILE)
+    made += [spoilt(rng, texts) for _ in range(runs)]
+    good = all(map(reads, made))
+    with tempfile.TemporaryDirectory() as folder:
+        put(folder, "cells.csv", "lac,ci,lat,lon,radius,Z\n1,1,0.5,0.5,,a\n1,2,,,,b\n")
+        words = ["--cells", "cells.csv", "--start", START.isoformat(), "--slots", "256"]
+        for begin in range(0, len(made), 100):
+            names = [f"{it}.xml" for it in range(begin, min(begin + 100, len(made)))]
+            for it in names:
+                with open(os.path.join(folder, it), "wb") as file:
+                    file.write(made[int(it[:-4])])
+            status, _, lines = ran(program, words + names, folder)
+            if status not in (0, 1) or any("Traceback" in it for it in lines):
+                print(f"cap/test.py: spoilt messages {begin} ..: status {status}", *lines[-5:], sep="\n")
+                good = False
+    return good
+
+
+def main(words):
+    if words in ([], ["-h"], ["--help"]) or len(words) > 2 or len(words) == 2 and not words[1].isdigit():
+        print(__doc__)
+        return 0 if words in (["-h"], ["--help"]) else 2
+    program, runs = os.path.abspath(words[0]), int(words[1]) if len(words) == 2 else 2000
+    folders = sorted(os.path.join(HERE, "samples", it) for it in os.listdir(os.path.join(HERE, "samples")))
+    with ThreadPoolExecutor(len(os.sched_getaffinity(0))) as pool:
+        jobs = [pool.submit(sample, program, it) for it in folders]
+        jobs += [pool.submit(case, program, name, lines) for name, lines in cases()]
+        jobs.append(pool.submit(spoilt_runs, program, runs))
+        failed = sum(not it.result() for it in jobs)
+    print(f"cap/test.py: {len(jobs) - 1} cases and {runs} spoilt messages, {failed} failed")
+    return 1 if failed else 0
+
+
+if __name__ == "__main__":
+    sys.exit(main(sys.argv[1:]))

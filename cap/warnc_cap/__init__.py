@@ -1,0 +1,1 @@
+"""Messages of the Common Alerting Protocol to books of alerts."""
