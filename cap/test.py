@@ -1,5 +1,6 @@
 #!/usr/bin/env python3
-"""Tries warnc-cap: on samples of the standard and others, on the cases of cases.txt, and on messages that are spoilt.
+"""Tries warnc-cap: on samples of the standard and others, on the cases of cases.txt, on random days that days.py judges,
+and on messages that are spoilt.
 
 Usage: test.py PROGRAM [RUNS]    PROGRAM is a built `warnc`; so many messages are spoilt, 2,000 if it isn't given
        test.py --help            prints this
@@ -21,12 +22,14 @@ from datetime import datetime, timedelta, timezone
 sys.dont_write_bytecode = True
 HERE = os.path.dirname(os.path.realpath(__file__))
 sys.path.insert(0, HERE)
+import days  # noqa: E402
 from warnc_cap import message  # noqa: E402
 
 COMMAND = os.path.join(HERE, "warnc-cap")
 START = datetime(2026, 3, 1, tzinfo=timezone.utc)
 # no call takes longer, in seconds
 MOST_SECONDS = 20
+DAYS = 500
 
 
 def ran(program, words, folder):
@@ -245,9 +248,10 @@ def main(words):
     with ThreadPoolExecutor(len(os.sched_getaffinity(0))) as pool:
         jobs = [pool.submit(sample, program, it) for it in folders]
         jobs += [pool.submit(case, program, name, lines) for name, lines in cases()]
+        jobs.append(pool.submit(lambda: not any([days.differs(it) for it in range(DAYS)])))
         jobs.append(pool.submit(spoilt_runs, program, runs))
         failed = sum(not it.result() for it in jobs)
-    print(f"cap/test.py: {len(jobs) - 1} cases and {runs} spoilt messages, {failed} failed")
+    print(f"cap/test.py: {len(jobs) - 2} cases, {DAYS} random days and {runs} spoilt messages, {failed} failed")
     return 1 if failed else 0
 
 
