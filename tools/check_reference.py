@@ -1,10 +1,10 @@
 #!/usr/bin/env python3
 """Judges books with faults as docs/formats.md says: a second program against which `warnc check` is compared.
 
-Usage: check_reference.py PROGRAM [RUNS]    random books, spoilt in most runs: fields changed, columns dropped and added,
-                                            octets changed, rows doubled and swapped, line ends and quotes put in; the
-                                            tables, lines and statuses of both programs have to be the same. PROGRAM is
-                                            a built `warnc`
+Usage: check_reference.py PROGRAM [RUNS]    random books, spoilt in most runs: fields changed, columns dropped and
+                                            added, octets changed, rows doubled and dropped, line ends and quotes put
+                                            in; the tables, lines and statuses of both programs have to be the same.
+                                            PROGRAM is a built `warnc`
        check_reference.py --table < BOOK    prints the table of a book
 """
 import random
@@ -230,9 +230,10 @@ def check(book):
 
 TEXTS = ["One", "Вода", "{fire} at 3€", "Zażółć", "a" * 93, "", "a\tb", "go\nnow", "go, now", 'say "go"', "\U0001F525",
          "x" * 1396, "ó" * 616, "a" * 700 + "ó"]
-FIELDS = [b"", b"*", b"x", b"0", b"65536", b"70000", b"00001", b"-1", b"1-1", b"1-1 1-1", b"1-1  1-2", b"9-9", b"1-", b"a",
-          b"a ", b"b", b"en", b"EN", b"cell", b"write", b"update", b"stop", b"Write", b"cell;1;1", b"cell\t1", b"\xff",
-          b"caf\xe9", b"\x80" * 90, "ü".encode() * 90, b"x" * 90, b'"', b"\r\n", b"\r", b"1,2", b"# no", b"\xef\xbb\xbf"]
+FIELDS = [b"", b"*", b"x", b"0", b"65536", b"70000", b"00001", b"-1", b"1-1", b"1-1 1-1", b"1-1  1-2", b"9-9", b"1-",
+          b"a", b"a ", b"b", b"en", b"EN", b"cell", b"write", b"update", b"stop", b"Write", b"cell;1;1", b"cell\t1",
+          b"\xff", b"caf\xe9", b"\x80" * 90, "ü".encode() * 90, b"x" * 90, b'"', b"\r\n", b"\r", b"1,2", b"# no",
+          b"\xef\xbb\xbf"]
 
 
 def random_rows(rng):
@@ -321,8 +322,9 @@ def compare(program, runs):
         if (found.returncode, found.stdout, found.stderr) != (bool(line), table, line):
             with open("differing.csv", "wb") as file:
                 file.write(book)
-            sys.exit(f"run {run}: the book in differing.csv: {found.returncode} {found.stderr.decode()}\n"
-                     f"{found.stdout.decode(errors='replace')}and not {line.decode()}\n{table.decode(errors='replace')}")
+            got, wanted = found.stdout.decode(errors="replace"), table.decode(errors="replace")
+            sys.exit(f"run {run}: the book in differing.csv: {found.returncode} {found.stderr.decode()}\n{got}"
+                     f"and not {line.decode()}\n{wanted}")
         faulty += bool(count)
     print(f"{runs} books, {faulty} of them with faults: the same tables")
 

@@ -19,7 +19,8 @@ use Rattle.alert_book.specs.Cells.{cell_with, cells_of_field, is_among}
 use Rattle.alert_book.specs.Fields.{alert_at, alert_with, are_texts, column, if_right, known_name, new_name, number}
 use Rattle.alert_book.specs.Fields.{sending_by, sending_with}
 use Rattle.alert_book.specs.Judging.{ci_fault, found_after_verb, found_at, found_in, found_of_verb, found_or, is_full}
-use Rattle.alert_book.specs.Judging.{no_text_column, counted_after, counted_with, known_after_row, name_written, next_meant}
+use Rattle.alert_book.specs.Judging.{no_text_column, counted_after, counted_with, known_after_row, name_written}
+use Rattle.alert_book.specs.Judging.{next_meant}
 use Rattle.alert_book.specs.Judging.{with_name, Counted, FoundIsFault}
 use Rattle.alert_book.specs.Row.{cell_row, columns_of, is_update_of, is_write, max_cells, max_rows, max_updates}
 use Rattle.alert_book.specs.Row.{new_cell, order_with, row_after_verb, row_of, row_of_verb_by, stop_row, update_row}
@@ -162,7 +163,8 @@ some_found (Some other) (Err kind) it same is =
 -- what counts after a row that is wrong
 pub wrong_counts : (before : Counted) (fields : List (List ℕ)) → before.rows < 4096
     → IsErr (next_meant before fields)
-    → counted_with (before.rows + 1) (with_name (before.rows + 1) before.known (name_written before.known.orders fields))
+    → counted_with (before.rows + 1) (with_name (before.rows + 1) before.known
+    (name_written before.known.orders fields))
     ≡ counted_after before fields
 wrong_counts before fields few wrong =
     let room : nat_le 4096 before.rows ≡ false = elim (cases_Bool (nat_le 4096 before.rows)) [

@@ -191,7 +191,8 @@ impl Judge {
     fn count_wrong(&mut self, alloc: Global, fields: &ByteRecord) -> Result<(), AllocError>
         requires { self.old.rows < 4096 }
         ensures counted { OnOk result (self.new ≡ counted_with (self.old.rows + 1)
-            (with_name (self.old.rows + 1) self.old.known (name_written self.old.known.orders (fields_of fields.now)))) }
+            (with_name (self.old.rows + 1) self.old.known
+            (name_written self.old.known.orders (fields_of fields.now)))) }
         ensures refused { OnErr result (self.new ≡ self.old) }
     {
         match name_written(&self.orders, &self.names, fields) {

@@ -1,6 +1,8 @@
 -- How a cursor passes the octets of a text, as `csv` does.
-use Rattle.std.proofs.Common.{◌≡◌, ℕ, zero, suc, ◌+◌, ◌-◌, ◌<◌, ◌≤◌, ◌∙◌, ap, sym, refl, Bool, true, false, cond, Option, Some, None}
-use Rattle.std.proofs.Common.{IfSome, List, [], ◌∷◌, ◌++◌, drop, get_or, length, add-one, drop-cons, arith, subst, length-drop}
+use Rattle.std.proofs.Common.{◌≡◌, ℕ, zero, suc, ◌+◌, ◌-◌, ◌<◌, ◌≤◌, ◌∙◌, ap, sym, refl, Bool, true, false, cond}
+use Rattle.std.proofs.Common.{Option, Some, None}
+use Rattle.std.proofs.Common.{IfSome, List, [], ◌∷◌, ◌++◌, drop, get_or, length, add-one, drop-cons, arith, subst}
+use Rattle.std.proofs.Common.{length-drop}
 use Rattle.std.specs.Prelude.{◌==◌}
 use Rattle.csv.specs.Machine.{fields_after, field_after, is_end, next_record, step, ends_at_end, Read}
 use Rattle.csv.specs.Reading.{Reached, default_config}
@@ -66,7 +68,8 @@ same_record w octet rest start blank = rw (skips w octet start blank) refl
 pub goes_on : (s : State) (fields : List (List ℕ)) (field : List ℕ) (octet : ℕ) (rest : List ℕ)
     → is_end (step default_config s octet).1 ≡ false
     → next_record default_config (step default_config s octet).0
-    (fields_after (step default_config s octet).1 fields field) (field_after (step default_config s octet).1 octet field)
+    (fields_after (step default_config s octet).1 fields field)
+    (field_after (step default_config s octet).1 octet field)
     rest
     ≡ next_record default_config s fields field (octet ∷ rest)
 unfolding next_record
@@ -121,7 +124,8 @@ pub line_here : (text : List ℕ) (at start : ℕ) → at ≤ length text → st
     → line_of text (drop at text) ≡ lines_before text start + 1
 line_here text at start few is =
     let left : length (drop at text) ≡ length text - at = length-drop at text in
-    let back : length text - length (drop at text) + blank_front (drop at text) ≡ start = omega (arith, left, is, few) in
+    let back : length text - length (drop at text) + blank_front (drop at text) ≡ start = omega (arith, left, is, few)
+    in
     ap (λ n. lines_before text n + 1) back
 
 -- the place to which a cursor passes the next record

@@ -1,5 +1,6 @@
 -- Octets are checked in one way.
-use Rattle.std.proofs.Common.{◌≡◌, ◌≢◌, ◌∙◌, ◌⊎◌, ℕ, ◌+◌, ◌≤◌, ap, sym, refl, subst, arith, inl, inr, Option, Some, None}
+use Rattle.std.proofs.Common.{◌≡◌, ◌≢◌, ◌∙◌, ◌⊎◌, ℕ, ◌+◌, ◌≤◌, ap, sym, refl, subst, arith, inl, inr, Option, Some}
+use Rattle.std.proofs.Common.{None}
 use Rattle.std.proofs.Common.{List, [], ◌∷◌, ◌++◌, append-nil, count_by, length, length-append, Ok, Err, Result}
 use Rattle.std.specs.Str.{chars}
 use Rattle.csv.specs.Machine.{next_record}

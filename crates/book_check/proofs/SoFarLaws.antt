@@ -1,5 +1,6 @@
 -- What is told of the rows so far, with one more row.
-use Rattle.std.proofs.Common.{◌≡◌, ℕ, ◌+◌, ◌<◌, ◌≤◌, ◌∙◌, ◌⊎◌, false, inl, inr, ap, sym, refl, subst, arith, cond, Option, Some, None, List, [], ◌∷◌}
+use Rattle.std.proofs.Common.{◌≡◌, ℕ, ◌+◌, ◌<◌, ◌≤◌, ◌∙◌, ◌⊎◌, false, inl, inr, ap, sym, refl, subst, arith, cond}
+use Rattle.std.proofs.Common.{Option, Some, None, List, [], ◌∷◌}
 use Rattle.std.proofs.Common.{◌++◌, length, count_by, append_assoc, append-nil}
 use Rattle.std.specs.Prelude.{nat_le}
 use Rattle.std.proofs.lemmas.Bool.{cases_Bool, leb-true}
@@ -59,7 +60,8 @@ one_more text seen stand fields now next told after read so tells is =
       table = tells.table so.octets so.table;
       written = λ more later.
           append_assoc so.octets row (told_of_rows text (stand_at read.1 read.2) next more later)
-          ∙ ap (λ (c : Counted). so.octets ++ (row ++ told_of_rows text (stand_at read.1 read.2) c more later)) tells.next
+          ∙ ap (λ (c : Counted). so.octets ++ (row ++ told_of_rows text (stand_at read.1 read.2) c more later))
+          tells.next
           ∙ ap (λ (s : Stand). so.octets ++ (row ++ told_of_rows text s (counted_after now fields) more later))
           (sym (ap (stand_after stand) is))
           ∙ so.written (fields ∷ more) (tells.verdict ∷ later)

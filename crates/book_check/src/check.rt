@@ -68,9 +68,9 @@ struct Place {
 ///
 /// # Errors
 ///
-/// [`CheckFault::Faults`] if there is one row or more: all of them are written then, as is the row of the columns' names
-/// alone if there is none. With any other fault nothing is written, but after [`CheckFault::WriteFailed`] a front of
-/// the table may be out.
+/// [`CheckFault::Faults`] if there is one row or more: all of them are written then, as is the row of the columns'
+/// names alone if there is none. With any other fault nothing is written, but after [`CheckFault::WriteFailed`] a front
+/// of the table may be out.
 pub fn check_stream<R: Read, W: Write>(
     alloc: Global,
     source: &mut Source<R>,
@@ -83,6 +83,8 @@ pub fn check_stream<R: Read, W: Write>(
 
     // The book was read to its end, and no more than one octet past the bound.
     ensures whole { OnOk result (IsAtEnd (R.remaining (reader_of source.new))) }
+    ensures whole_with_faults { IfErr result (λ fault.
+        HasTold fault → IsAtEnd (R.remaining (reader_of source.new))) }
     ensures reads { ConsumesSome (R.remaining (reader_of source.old)) (R.remaining (reader_of source.new))
         (MAX_INPUT + 1) }
 

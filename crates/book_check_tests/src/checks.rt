@@ -6,8 +6,8 @@ use device_ends::{Sink, Source};
 use std::alloc::{AllocError, Global};
 use std::test::Fail;
 
-/// What the ends of a check are: how many octets a read gives and a write takes at most, one at least, and after how many
-/// calls each fails, if it does.
+/// What the ends of a check are: how many octets a read gives and a write takes at most, one at least, and after how
+/// many calls each fails, if it does.
 #[derive(Clone, Copy)]
 pub struct Ends {
     /// How many octets a call moves at most.

@@ -1,4 +1,5 @@
-use Rattle.std.proofs.Common.{◌≡◌, ◌+◌, ◌<◌, ◌≤◌, ◌∙◌, ap, Bor, List, ℕ, Some, inl, inr, refl, subst, sym, arith, [], ◌∷◌}
+use Rattle.std.proofs.Common.{◌≡◌, ◌+◌, ◌<◌, ◌≤◌, ◌∙◌, ap, Bor, List, ℕ, Some, inl, inr, refl, subst, sym, arith, []}
+use Rattle.std.proofs.Common.{◌∷◌}
 use Rattle.std.proofs.Common.{◌++◌, length, drop, IfSome}
 use Rattle.std.proofs.lemmas.List.{length_push}
 use Rattle.csv.specs.Machine.{next_record, Read}
