@@ -1,6 +1,6 @@
 #!/usr/bin/env python3
-"""Tries warnc-cap: on samples of the standard and others, on the cases of cases.txt, on random days that days.py judges,
-and on messages that are spoilt.
+"""Tries warnc-cap: on samples of the standard and others, on the cases of cases.txt, on random days that days.py
+judges, and on messages that are spoilt.
 
 Usage: test.py PROGRAM [RUNS]    PROGRAM is a built `warnc`; so many messages are spoilt, 2,000 if it isn't given
        test.py --help            prints this

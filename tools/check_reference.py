@@ -1,9 +1,9 @@
 #!/usr/bin/env python3
 """Judges books with faults as docs/formats.md says: a second program against which `warnc check` is compared.
 
-Usage: check_reference.py PROGRAM [RUNS]    random books, spoilt in most runs: fields and octets changed, columns
-                                            dropped and added, rows doubled and swapped, line ends and quotes put in;
-                                            the tables, lines and statuses of both programs have to be the same.
+Usage: check_reference.py PROGRAM [RUNS]    random books, spoilt in most runs: fields changed, columns dropped and
+                                            added, octets changed, rows doubled and dropped, line ends and quotes put
+                                            in; the tables, lines and statuses of both programs have to be the same.
                                             PROGRAM is a built `warnc`
        check_reference.py --table < BOOK    prints the table of a book
 """
@@ -322,9 +322,9 @@ def compare(program, runs):
         if (found.returncode, found.stdout, found.stderr) != (bool(line), table, line):
             with open("differing.csv", "wb") as file:
                 file.write(book)
-            sys.exit(f"run {run}: the book in differing.csv: {found.returncode} {found.stderr.decode()}\n"
-                     f"{found.stdout.decode(errors='replace')}and not {line.decode()}\n"
-                     f"{table.decode(errors='replace')}")
+            got, wanted = found.stdout.decode(errors="replace"), table.decode(errors="replace")
+            sys.exit(f"run {run}: the book in differing.csv: {found.returncode} {found.stderr.decode()}\n{got}"
+                     f"and not {line.decode()}\n{wanted}")
         faulty += bool(count)
     print(f"{runs} books, {faulty} of them with faults: the same tables")
 

@@ -24,7 +24,7 @@ pub record AreVerdictsOf (input : List ℕ) (verdicts : List Verdict) : Type 0 w
   pub whole : (next_record default_config state [] [] rest ≡ None) ⊎ (length records ≡ max_rows + 1)
   pub each : AreVerdicts none_counted records verdicts
 
--- the octets of a book were checked: so many rows have a fault, and this is the table of what is told of them
+-- the octets of a book were checked: this many rows have a fault, and this is the table of what is told of them
 pub record IsChecked (input : List ℕ) (count : ℕ) (output : List ℕ) : Type 0 where
   pub bounded : length input ≤ max_book
   pub verdicts : List Verdict
@@ -37,7 +37,7 @@ pub record IsChecked (input : List ℕ) (count : ℕ) (output : List ℕ) : Type
 abbrev pub IsClean : (input output : List ℕ) → Type 0
 IsClean input output = IsChecked input 0 output
 
--- so many have one
+-- this many have one, and one at least
 abbrev pub HasFaults : (count : ℕ) → (input output : List ℕ) → Type 0
 HasFaults count input output = IsChecked input count output × (0 < count)
 

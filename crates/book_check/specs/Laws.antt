@@ -48,12 +48,12 @@ abbrev pub FaultsHaveAFirst : Type 0
 FaultsHaveAFirst = (verdicts : List Verdict) → first_fault verdicts ≡ None
     → count_by is_told verdicts ≡ 0
 
--- octets are checked in one way: as many faults, and one table
+-- the check of octets is one: the number of faults, and the table
 abbrev pub ChecksAreOne : Type 0
 ChecksAreOne = (input output another : List ℕ) (count other : ℕ)
     → IsChecked input count output → IsChecked input other another → (count ≡ other) × (output ≡ another)
 
--- so many pages as are told of a text are the pieces into which it is cut
+-- the number of pages that is told of a text is that of the pieces into which it is cut
 abbrev pub PagesAreCounted : Type 0
 PagesAreCounted = (text : List ℕ) (pieces : List (List ℕ)) → IsPagingOf text pieces
     → length pieces ≡ pages_needed text

@@ -60,7 +60,7 @@ field_name verb place = if place == 1 then codes "VERB" else name_or_none (colum
 abbrev pub is_continuation : ℕ → Bool
 is_continuation octet = nat_le 128 octet && nat_lt octet 192
 
--- how many octets as many characters have as this, or all where there are fewer
+-- how many octets this number of characters has, or all of them where there are fewer characters
 abbrev pub cut_length : (characters : ℕ) → List ℕ → ℕ
 cut_length characters [] = 0
 cut_length zero (octet ∷ octets) = if is_continuation octet then cut_length 0 octets + 1 else 0
@@ -106,7 +106,7 @@ number_words (Some columns.Text) = []
 abbrev pub is_separator : ℕ → Bool
 is_separator octet = (octet == 59) || (octet == 9)
 
--- no verb, where the row has as many columns
+-- no verb, in a row with this number of columns
 abbrev pub verb_words : (columns : ℕ) → (word : List ℕ) → List ℕ
 verb_words columns word =
     if (columns == 1) && list_any is_separator word then codes "columns are separated by commas"
@@ -191,8 +191,8 @@ abbrev pub pages_needed : List ℕ → ℕ
 pages_needed [] = 0
 pages_needed (character ∷ text) = pages_from (alphabet_for (character ∷ text)) 0 (character ∷ text)
 
--- of a text that takes so many pages, and why it is UCS-2: its first such character, and the place of that, counted
--- from 0
+-- of a text by its number of pages, and why it is UCS-2: its first such character, and the place of that character,
+-- counted from 0
 abbrev pub pages_words_by : (pages : ℕ) → (character place : Option ℕ) → List ℕ
 pages_words_by pages None place = decimal pages ++ codes " pages, 15 is the most"
 pages_words_by pages (Some character) None = decimal pages ++ codes " pages, 15 is the most"

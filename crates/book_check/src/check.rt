@@ -83,6 +83,8 @@ pub fn check_stream<R: Read, W: Write>(
 
     // The book was read to its end, and no more than one octet past the bound.
     ensures whole { OnOk result (IsAtEnd (R.remaining (reader_of source.new))) }
+    ensures whole_with_faults { IfErr result (λ fault.
+        HasTold fault → IsAtEnd (R.remaining (reader_of source.new))) }
     ensures reads { ConsumesSome (R.remaining (reader_of source.old)) (R.remaining (reader_of source.new))
         (MAX_INPUT + 1) }
 

@@ -5,7 +5,7 @@ use thiserror::Error;
 /// Why a book isn't clean, or why nobody knows.
 #[derive(Clone, Copy, Debug, PartialEq, Eq, Error)]
 pub enum CheckFault {
-    /// So many rows have a fault. What is told of them was written.
+    /// This many rows have a fault. What is told of them was written.
     #[error("faults: {0}")]
     Faults(usize),
     /// The book has more than 16,777,216 octets, which is a fault of no one row.

@@ -20,7 +20,7 @@ use std::alloc::{AllocError, Global};
 const LANGUAGES: &str =
     "unknown language: de, en, it, fr, es, nl, sv, da, pt, fi, no, el, tr, hu, pl, und, cs, he, ar, ru or is";
 
-/// What is said of a row of a verb that has so many columns.
+/// What is said of a row of a verb, by the number of its columns.
 fn count_words(alloc: Global, verb: Option<Verb>, columns: usize) -> Result<String, AllocError>
     ensures { IfOk result (λ says. string_bytes says ≡ count_words verb columns) }
 {
@@ -31,7 +31,7 @@ fn count_words(alloc: Global, verb: Option<Verb>, columns: usize) -> Result<Stri
     format!(in alloc; "{columns} columns, {name} has {wanted}")
 }
 
-/// What is said of a row whose columns aren't UTF-8, or aren't so many.
+/// What is said of a row whose columns aren't UTF-8, or whose number of columns is wrong.
 fn columns_words(
     alloc: Global,
     verb: Option<Verb>,

@@ -70,8 +70,8 @@ check write,0,a,4371,0,2,en,2,2,0,*,Two| -> Faults(1) 3,3,3,NAME,a,row 2 has thi
 check write,0,,4371,0,2,en,2,2,0,*,Two| -> Faults(1) 3,3,3,NAME,,a name
 
 # Languages and texts.
-check write,0,b,4371,0,2,pol,2,2,0,*,Two| -> Faults(1) 3,3,7,LANG,pol,\"unknown language: de, en, it, fr, es, nl, \
-    sv, da, pt, fi, no, el, tr, hu, pl, und, cs, he, ar, ru or is\"
+check write,0,b,4371,0,2,pol,2,2,0,*,Two| -> Faults(1) 3,3,7,LANG,pol,\"unknown language: de, en, it, fr, es, nl, sv, \
+    da, pt, fi, no, el, tr, hu, pl, und, cs, he, ar, ru or is\"
 check update,0,a,PL,2,2,0,*,| -> Faults(1) 3,3,4,LANG,PL,\"unknown language: de, en, it, fr, es, nl, sv, da, pt, fi, \
     no, el, tr, hu, pl, und, cs, he, ar, ru or is\"
 check write,0,b,4371,0,2,en,2,2,0,*,| -> Faults(1) 3,3,12,TEXT,,a text
@@ -95,10 +95,10 @@ check \"go|now\",1| -> Faults(1) 1,1,1,VERB,\"go|now\",\"cell, write, update or 
 const LINES: &str = "
 check cell,1,1|cell,x,1| -> Faults(1) 2,2,2,LAC,x,a number from 0 to 65535
 check |||cell,1,1||cell,x,1| -> Faults(1) 2,6,2,LAC,x,a number from 0 to 65535
-check cell,1,1%0D%0Acell,x,1%0D%0Acell,y,1 -> Faults(2) 2,2,2,LAC,x,a number from 0 to 65535|3,3,2,LAC,y,a number \
-    from 0 to 65535
-check cell,1,1%0Dcell,x,1%0Dcell,y,1%0D -> Faults(2) 2,2,2,LAC,x,a number from 0 to 65535|3,3,2,LAC,y,a number from \
-    0 to 65535
+check cell,1,1%0D%0Acell,x,1%0D%0Acell,y,1 -> Faults(2) 2,2,2,LAC,x,a number from 0 to 65535|\
+    3,3,2,LAC,y,a number from 0 to 65535
+check cell,1,1%0Dcell,x,1%0Dcell,y,1%0D -> Faults(2) 2,2,2,LAC,x,a number from 0 to 65535|\
+    3,3,2,LAC,y,a number from 0 to 65535
 check cell,1,1%0D%0A%0D%0A%0D%0Acell,x,1| -> Faults(1) 2,4,2,LAC,x,a number from 0 to 65535
 check cell,1,1%0D%0D|cell,x,1| -> Faults(1) 2,3,2,LAC,x,a number from 0 to 65535
 check cell,1,1|write,0,a,4370,0,1,en,2,2,0,*,\"One|two%0D%0Athree%0Dfour\"|cell,x,1| -> Faults(2) \
@@ -117,20 +117,20 @@ before cell,1,1|
 check write,x,b,1,0,1,en,2,2,0,*,Two|stop,0,b,*| -> Faults(1) 2,2,2,AT,x,a number from 0 to 65535
 check write,0,b|stop,0,b,*| -> Faults(1) 2,2,1,VERB,write,\"3 columns, write has 12\"
 check write,0,b,%FF|stop,0,b,*| -> Faults(1) 2,2,4,ID,\\xff,not UTF-8: save as CSV UTF-8
-check write,x,b,1,0,1,en,2,2,0,*,Two|write,0,b,1,0,1,en,2,2,0,*,Two| -> Faults(2) 2,2,2,AT,x,a number from 0 to \
-    65535|3,3,3,NAME,b,row 2 has this name
+check write,x,b,1,0,1,en,2,2,0,*,Two|write,0,b,1,0,1,en,2,2,0,*,Two| -> Faults(2) 2,2,2,AT,x,a number from 0 to 65535|\
+    3,3,3,NAME,b,row 2 has this name
 
 # It doesn't where the name isn't one that the row may write: none, one that isn't UTF-8; nor has a row of no verb.
-check write,x,,1,0,1,en,2,2,0,*,Two|stop,0,,*| -> Faults(2) 2,2,2,AT,x,a number from 0 to 65535|3,3,3,NAME,,no \
-    earlier row writes this name
-check write,0,%FF,1,0,1,en,2,2,0,*,Two|stop,0,b,*| -> Faults(2) 2,2,3,NAME,\\xff,not UTF-8: save as CSV \
-    UTF-8|3,3,3,NAME,b,no earlier row writes this name
+check write,x,,1,0,1,en,2,2,0,*,Two|stop,0,,*| -> Faults(2) 2,2,2,AT,x,a number from 0 to 65535|\
+    3,3,3,NAME,,no earlier row writes this name
+check write,0,%FF,1,0,1,en,2,2,0,*,Two|stop,0,b,*| -> Faults(2) 2,2,3,NAME,\\xff,not UTF-8: save as CSV UTF-8|\
+    3,3,3,NAME,b,no earlier row writes this name
 check Write,0,b,1,0,1,en,2,2,0,*,Two|stop,0,b,*| -> Faults(2) 2,2,1,VERB,Write,\"cell, write, update or \
     stop\"|3,3,3,NAME,b,no earlier row writes this name
 
 # A cell counts if its row is right, and an update if its row is right, whatever its text.
-check cell,1,2x|write,0,b,1,0,1,en,2,2,0,1-2,Two| -> Faults(2) 2,2,3,CI,2x,a number from 0 to \
-    65535|3,3,11,CELLS,1-2,no earlier row declares this cell: 1-2
+check cell,1,2x|write,0,b,1,0,1,en,2,2,0,1-2,Two| -> Faults(2) 2,2,3,CI,2x,a number from 0 to 65535|\
+    3,3,11,CELLS,1-2,no earlier row declares this cell: 1-2
 check write,0,b,1,0,1,xx,2,2,0,*,Two|update,0,b,en,2,2,0,*,| -> Faults(2) 2,2,7,LANG,xx,\"unknown language: de, en, \
     it, fr, es, nl, sv, da, pt, fi, no, el, tr, hu, pl, und, cs, he, ar, ru or is\"|3,3,9,TEXT,,a text
 
@@ -149,8 +149,8 @@ times 1 update,0,a,xx,2,2,0,*,Two|
 times 1 update,0,a,en,9,2,0,*,Two|
 check stop,0,a,*| -> Faults(2) 17,17,4,LANG,xx,\"unknown language: de, en, it, fr, es, nl, sv, da, pt, fi, no, el, \
     tr, hu, pl, und, cs, he, ar, ru or is\"|18,18,5,CATEGORY,9,\"0 (high), 1 (background) or 2 (normal)\"
-check update,0,a,en,2,2,0,*,Two| -> Faults(3) 17,17,4,LANG,xx,\"unknown language: de, en, it, fr, es, nl, sv, da, \
-    pt, fi, no, el, tr, hu, pl, und, cs, he, ar, ru or is\"|18,18,5,CATEGORY,9,\"0 (high), 1 (background) or 2 \
+check update,0,a,en,2,2,0,*,Two| -> Faults(3) 17,17,4,LANG,xx,\"unknown language: de, en, it, fr, es, nl, sv, da, pt, \
+    fi, no, el, tr, hu, pl, und, cs, he, ar, ru or is\"|18,18,5,CATEGORY,9,\"0 (high), 1 (background) or 2 \
     (normal)\"|19,19,3,NAME,a,an alert has 15 updates at most
 
 # A book declares 64 cells at most.
@@ -162,8 +162,8 @@ before cell,1,0|cell,1,1|cell,1,2|cell,1,3|cell,1,4|cell,1,5|cell,1,6|cell,1,7|c
     cell,1,51|cell,1,52|cell,1,53|cell,1,54|cell,1,55|cell,1,56|cell,1,57|cell,1,58|cell,1,59|cell,1,60|\
     cell,1,61|cell,1,62|cell,1,63|
 check  -> clean
-check cell,2,1|cell,3,x| -> Faults(2) 65,65,1,VERB,cell,a book has 64 cells at most|66,66,1,VERB,cell,a book has 64 \
-    cells at most
+check cell,2,1|cell,3,x| -> Faults(2) 65,65,1,VERB,cell,a book has 64 cells at most|\
+    66,66,1,VERB,cell,a book has 64 cells at most
 
 # A book has 4,096 rows at most. Of the rows after them one is told.
 times 1 write,0,a,4370,0,1,en,2,2,0,*,One|
@@ -172,32 +172,32 @@ check  -> clean
 check stop,1,a,*| -> clean
 check sell| -> Faults(1) 4096,4096,1,VERB,sell,\"cell, write, update or stop\"
 check stop,1,a,*|stop,1,a,*| -> Faults(1) 4097,4097,1,VERB,stop,a book has 4096 rows at most
-check sell|%FF|sell| -> Faults(2) 4096,4096,1,VERB,sell,\"cell, write, update or stop\"|4097,4097,1,VERB,\\xff,a \
-    book has 4096 rows at most
+check sell|%FF|sell| -> Faults(2) 4096,4096,1,VERB,sell,\"cell, write, update or stop\"|4097,4097,1,VERB,\\xff,a book \
+    has 4096 rows at most
 
 # Texts of 15 pages and of 16, in the GSM 7-bit alphabet and in UCS-2.
 before cell,1,1|write,0,a,4370,0,1,en,2,2,0,*,
 times 1395 a
 check | -> clean
-check a| -> Faults(1) 2,2,12,TEXT,aaaaaaaaaaaaaaaaaaaaaaaaaaaaaaaaaaaaaaaaaaaaaaaaaaaaaaaaaaaaaaaaaaaaaaaaaaaaaaaa,\"16 \
-    pages, 15 is the most\"
+check a| -> Faults(1) 2,2,12,TEXT,aaaaaaaaaaaaaaaaaaaaaaaaaaaaaaaaaaaaaaaaaaaaaaaaaaaaaaaaaaaaaaaaaaaaaaaaaaaaaaaa,\
+    \"16 pages, 15 is the most\"
 before cell,1,1|write,0,a,4370,0,1,en,2,2,0,*,abó
 times 612 a
 check | -> clean
-check a| -> Faults(1) 2,2,12,TEXT,abóaaaaaaaaaaaaaaaaaaaaaaaaaaaaaaaaaaaaaaaaaaaaaaaaaaaaaaaaaaaaaaaaaaaaaaaaaaaaa,\"16 \
-    pages, 15 is the most: UCS-2 because of ó at 2\"
+check a| -> Faults(1) 2,2,12,TEXT,abóaaaaaaaaaaaaaaaaaaaaaaaaaaaaaaaaaaaaaaaaaaaaaaaaaaaaaaaaaaaaaaaaaaaaaaaaaaaaa,\
+    \"16 pages, 15 is the most: UCS-2 because of ó at 2\"
 
 # Of a long value its first 80 characters are shown, whole ones.
 before
 check xxxxxxxxxxxxxxxxxxxxxxxxxxxxxxxxxxxxxxxxxxxxxxxxxxxxxxxxxxxxxxxxxxxxxxxxxxxxxxxx| -> Faults(1) \
-    1,1,1,VERB,xxxxxxxxxxxxxxxxxxxxxxxxxxxxxxxxxxxxxxxxxxxxxxxxxxxxxxxxxxxxxxxxxxxxxxxxxxxxxxxx,\"cell, write, \
-    update or stop\"
+    1,1,1,VERB,xxxxxxxxxxxxxxxxxxxxxxxxxxxxxxxxxxxxxxxxxxxxxxxxxxxxxxxxxxxxxxxxxxxxxxxxxxxxxxxx,\"cell, write, update \
+    or stop\"
 check xxxxxxxxxxxxxxxxxxxxxxxxxxxxxxxxxxxxxxxxxxxxxxxxxxxxxxxxxxxxxxxxxxxxxxxxxxxxxxxxx| -> Faults(1) \
-    1,1,1,VERB,xxxxxxxxxxxxxxxxxxxxxxxxxxxxxxxxxxxxxxxxxxxxxxxxxxxxxxxxxxxxxxxxxxxxxxxxxxxxxxxx,\"cell, write, \
-    update or stop\"
+    1,1,1,VERB,xxxxxxxxxxxxxxxxxxxxxxxxxxxxxxxxxxxxxxxxxxxxxxxxxxxxxxxxxxxxxxxxxxxxxxxxxxxxxxxx,\"cell, write, update \
+    or stop\"
 check xxxxxxxxxxxxxxxxxxxxxxxxxxxxxxxxxxxxxxxxxxxxxxxxxxxxxxxxxxxxxxxxxxxxxxxxxxxxxxx€€| -> Faults(1) \
-    1,1,1,VERB,xxxxxxxxxxxxxxxxxxxxxxxxxxxxxxxxxxxxxxxxxxxxxxxxxxxxxxxxxxxxxxxxxxxxxxxxxxxxxxx€,\"cell, write, \
-    update or stop\"
+    1,1,1,VERB,xxxxxxxxxxxxxxxxxxxxxxxxxxxxxxxxxxxxxxxxxxxxxxxxxxxxxxxxxxxxxxxxxxxxxxxxxxxxxxx€,\"cell, write, update \
+    or stop\"
 check xxxxxxxxxxxxxxxxxxxxxxxxxxxxxxxxxxxxxxxxxxxxxxxxxxxxxxxxxxxxxxxxxxxxxxxxxxxxxxx%FF%FF| -> Faults(1) \
     1,1,1,VERB,xxxxxxxxxxxxxxxxxxxxxxxxxxxxxxxxxxxxxxxxxxxxxxxxxxxxxxxxxxxxxxxxxxxxxxxxxxxxxxx\\xff,not UTF-8: save \
     as CSV UTF-8

@@ -2,16 +2,16 @@
 //!
 //! What the next rows speak of:
 //!
-//! - `before ROWS`: these rows stand before those of each book that follows; `times NUMBER ROWS`: and these, so many
+//! - `before ROWS`: these rows stand before those of each book that follows; `times NUMBER ROWS`: and these, NUMBER
 //!   times;
-//! - `most NUMBER`: a read gives, and a write takes, so many octets at most.
+//! - `most NUMBER`: a read gives, and a write takes, that many octets at most.
 //!
 //! What comes of a check:
 //!
 //! - `check ROWS`: `clean`, or how many rows have a fault and what is told of them, its line ends as bars;
 //! - `line ROWS`: the line of the fault, as the program prints it;
-//! - `line_feeds NUMBER`: that line of a book of so many line feeds, and how many octets are not read;
-//! - `reads NUMBER ROWS`: the fault where the reader fails after so many calls; `writes NUMBER ROWS`: where the writer
+//! - `line_feeds NUMBER`: that line of a book of NUMBER line feeds, and how many octets are not read;
+//! - `reads NUMBER ROWS`: the fault where the reader fails after NUMBER calls; `writes NUMBER ROWS`: where the writer
 //!   does, and how many octets are out.
 
 use crate::checks::{Ends, Outcome, add_rows, outcome_of};
@@ -147,7 +147,7 @@ fn expect_each(alloc: Global, given: &mut Given, table: &str) -> Result<u16, Fai
     Ok(rows)
 }
 
-/// Expects what the rows of a table say, so many of which want something.
+/// Expects what the rows of a table say. `count` of them want something.
 pub fn expect_rows<T: AllocGlobal + Abort>(rt: &T, table: &str, count: u16) -> Result<(), Fail> {
     let mut given = Given {
         before: Vec::new(rt.alloc()),

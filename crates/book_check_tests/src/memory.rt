@@ -34,7 +34,7 @@ fn outcome_of(alloc: Global, output: &mut [u8]) -> (Option<CheckFault>, usize) {
     (fault.err(), size.saturating_sub(left.len()))
 }
 
-/// Whether the faults are told, in a room of so many blocks or with all memory, or it is refused memory.
+/// Whether the faults are told, in a room of that many blocks or with all memory, or it is refused memory.
 fn is_told(alloc: Global, room: &mut Room, blocks: Option<u16>) -> Result<bool, Fail> {
     let mut output = [0; SIZE];
     if let Some(blocks) = blocks {
