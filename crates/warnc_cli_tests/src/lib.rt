@@ -3,6 +3,8 @@
 #![tactic(auto)]
 
 #[cfg(test)]
+mod attempts;
+#[cfg(test)]
 mod bench;
 #[cfg(test)]
 mod books;
@@ -10,6 +12,8 @@ mod books;
 mod captures;
 #[cfg(test)]
 mod charts;
+#[cfg(test)]
+mod checks;
 #[cfg(test)]
 mod groups;
 #[cfg(test)]
@@ -26,6 +30,8 @@ mod read;
 mod rows;
 #[cfg(test)]
 mod scarce;
+#[cfg(test)]
+mod shortage;
 #[cfg(test)]
 mod verify;
 #[cfg(test)]

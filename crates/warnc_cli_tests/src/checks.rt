@@ -1,0 +1,77 @@
+//! Runs of `check` and `texts`. What they say of books and texts of all kinds is in the tests of their engines.
+
+use crate::rows::expect_rows;
+use std::test::Fail;
+
+const CHECK: &str = "
+args check
+in cell,1,1
+in write,0,a,4370,0,1,en,2,2,0,*,One
+run -> 0
+out -> row,line,column,field,value,says
+
+in cell,1,1
+in write,0,a,4370,0,1,en,2,2,0,*,One
+in stop,0,b,*
+in write,0,c,4370,0,1,en,2,0,0,*,\"Two, three\"
+run -> 1
+out -> row,line,column,field,value,says
+out -> 3,3,3,NAME,b,no earlier row writes this name
+out -> 4,4,9,PERIOD,0,a number from 1 to 1024
+err -> warnc: faults: 2
+reads 0 90 -> 3 warnc: read failed
+worked row,line,column,field,value,says
+worked 3,3,3,NAME,b,no earlier row writes this name
+worked 4,4,9,PERIOD,0,a number from 1 to 1024
+writer 10 3
+run -> 3
+err -> warnc: write failed
+all -> 30 of 117
+args check --slots 2
+usage -> 2 error:
+args check book.csv
+usage -> 2 error:
+";
+
+const TEXTS: &str = "
+args texts
+in cell,1,1
+in write,0,a,4370,0,1,en,2,2,0,*,Stay in!
+in update,0,a,pl,2,2,0,*,żółw żółw
+in stop,0,a,*
+run -> 0
+out -> row,name,lang,coding,characters,pages,room,first_ucs2,place
+out -> 2,a,en,GSM 7-bit,8,1,85,,
+out -> 3,a,pl,UCS-2,9,1,32,ż,0
+args texts --pages 15
+run -> 0
+out -> row,name,lang,coding,characters,pages,room,first_ucs2,place,fits
+out -> 2,a,en,GSM 7-bit,8,1,85,,,8
+out -> 3,a,pl,UCS-2,9,1,32,ż,0,9
+reads 0 80 -> 3 warnc: read failed
+worked row,name,lang,coding,characters,pages,room,first_ucs2,place,fits
+worked 2,a,en,GSM 7-bit,8,1,85,,,8
+worked 3,a,pl,UCS-2,9,1,32,ż,0,9
+writer 20 2
+run -> 3
+err -> warnc: write failed
+all -> 40 of 120
+in cell,1
+fails -> 1 warnc: row 1: columns
+args texts --pages 0
+usage -> 2 error:
+args texts --pages 16
+usage -> 2 error:
+args texts --lang en
+usage -> 2 error:
+";
+
+#[test]
+fn books_are_checked(rt: HostRuntime) -> Result<(), Fail> {
+    expect_rows(&rt, CHECK, 26)
+}
+
+#[test]
+fn texts_are_costed(rt: HostRuntime) -> Result<(), Fail> {
+    expect_rows(&rt, TEXTS, 30)
+}
