@@ -1,11 +1,11 @@
 #!/bin/sh
-# Installs the program of dist/ with its man pages and its completions for bash, zsh and fish, or removes them again.
+# Installs the program of dist/, its man pages and completions for bash, zsh and fish, and warnc-cap, which needs
+# python3; or removes them again.
 #
 # Usage: ./install.sh [--prefix DIR] [--uninstall]
 #
 # DIR is /usr/local, if it isn't given. A packager's DESTDIR goes before it. Nothing is built: the program is that of
-# dist/, also if a source was changed since. It is for
-# x86-64 Linux with glibc 2.34 or later.
+# dist/, also if a source was changed since. It is for x86-64 Linux with glibc 2.34 or later.
 set -eu
 here=$(dirname "$(readlink -f "$0")")
 prefix=/usr/local uninstall=
@@ -36,6 +36,14 @@ to=${DESTDIR:-}$prefix
 list() {
     cat << 'END'
 755 dist/warnc-x86_64-linux bin/warnc
+755 cap/warnc-cap bin/warnc-cap
+644 cap/warnc_cap/__init__.py share/warnc/warnc_cap/__init__.py
+644 cap/warnc_cap/command.py share/warnc/warnc_cap/command.py
+644 cap/warnc_cap/message.py share/warnc/warnc_cap/message.py
+644 cap/warnc_cap/place.py share/warnc/warnc_cap/place.py
+644 cap/warnc_cap/plan.py share/warnc/warnc_cap/plan.py
+644 cap/warnc_cap/policy.py share/warnc/warnc_cap/policy.py
+644 cap/warnc_cap/text.py share/warnc/warnc_cap/text.py
 644 docs/warnc.1 share/man/man1/warnc.1
 644 docs/warnc-book.5 share/man/man5/warnc-book.5
 644 tools/completions/warnc.bash share/bash-completion/completions/warnc
@@ -48,7 +56,7 @@ END
 
 if [ -n "$uninstall" ]; then
     list | while read -r mode file place; do rm -f "$to/$place"; done
-    rmdir "$to/share/doc/warnc" 2> /dev/null || true
+    rmdir "$to/share/doc/warnc" "$to/share/warnc/warnc_cap" "$to/share/warnc" 2> /dev/null || true
     echo "warnc is removed from $to"
     exit 0
 fi

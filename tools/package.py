@@ -33,6 +33,7 @@ Section: utils
 Priority: optional
 Architecture: amd64
 Depends: libc6 (>= 2.34)
+Recommends: python3
 Installed-Size: {size}
 Maintainer: Silltangelo maintainers <maintainers@users.noreply.silltangelo.example>
 Description: compiler of GSM cell broadcast warnings
@@ -69,6 +70,8 @@ def debian_files():
     """Returns what the Debian package has: path to mode and octets."""
     docs = "usr/share/doc/warnc"
     files = {"usr/bin/warnc": (0o755, release.read(release.RELEASED))}
+    files["usr/bin/warnc-cap"] = (0o755, read("cap/warnc-cap"))
+    files.update({f"usr/share/warnc/{it.removeprefix('cap/')}": (0o644, read(it)) for it in listed("cap/warnc_cap")})
     for name in ("warnc.1", "warnc-book.5"):
         pressed = gzip.compress(read(f"docs/{name}"), 9, mtime=0)
         files[f"usr/share/man/man{name[-1]}/{name}.gz"] = (0o644, pressed)
@@ -113,14 +116,14 @@ def make_tar(folder, version, time):
     """Makes the tar file, and returns its name."""
     name = f"warnc-{version}-x86_64-linux.tar.gz"
     paths = [*DOCUMENTS, "install.sh", "dist/MANIFEST", "dist/warnc-x86_64-linux", *COMPLETIONS]
-    paths += [*listed("docs"), *listed("examples")]
+    paths += [*listed("docs"), *listed("examples"), *listed("cap")]
     octets = io.BytesIO()
     with tarfile.open(fileobj=octets, mode="w", format=tarfile.PAX_FORMAT) as tar:
         for path in sorted(paths):
             info = tarfile.TarInfo(f"warnc-{version}/{path}")
             held = read(path)
             info.size, info.mtime = len(held), time
-            info.mode = 0o755 if path in ("install.sh", "dist/warnc-x86_64-linux") else 0o644
+            info.mode = 0o755 if path in ("install.sh", "dist/warnc-x86_64-linux", "cap/warnc-cap") else 0o644
             tar.addfile(info, io.BytesIO(held))
     with open(os.path.join(folder, name), "wb") as it:
         it.write(gzip.compress(octets.getvalue(), 9, mtime=0))
