@@ -19,7 +19,7 @@ TABLES = "crates/warnc_cli_tests/src/*.rt"
 SAID = ("out", "err", "starts", "past", "all", "says", "lists")
 # lines by which the next run has a device that fails, and runs that only the tests can have
 DEVICES = ("reader", "writer", "faults")
-NOT_HERE = ("reads", "book-reads", "scarce")
+NOT_HERE = ("reads", "book-reads", "scarce", "scarce-later", "scarce-threads")
 SECONDS = 60
 
 
@@ -146,6 +146,9 @@ class Bench:
             self.sheets[name].add(b"")
         elif verb == "in-worked":
             self.sheets["in"].add(self.sheets["worked"].octets)
+        elif verb == "keep":
+            self.sheets["worked"].add(self.output)
+            self.output = b""
         else:
             return False
         return True

@@ -180,10 +180,10 @@ fails -> 1 warnc: row 1: columns
 
 #[test]
 fn books_give_tapes(rt: HostRuntime) -> Result<(), Fail> {
-    expect_rows(&rt, COMPILE)
+    expect_rows(&rt, COMPILE, 60)
 }
 
 #[test]
 fn books_give_reports(rt: HostRuntime) -> Result<(), Fail> {
-    expect_rows(&rt, REPORT)
+    expect_rows(&rt, REPORT, 86)
 }

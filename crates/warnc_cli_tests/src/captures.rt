@@ -181,10 +181,10 @@ says --from <IPV4> -> yes
 
 #[test]
 fn tapes_give_captures(rt: HostRuntime) -> Result<(), Fail> {
-    expect_rows(&rt, PCAP)
+    expect_rows(&rt, PCAP, 80)
 }
 
 #[test]
 fn captures_give_tapes(rt: HostRuntime) -> Result<(), Fail> {
-    expect_rows(&rt, TAPE)
+    expect_rows(&rt, TAPE, 79)
 }

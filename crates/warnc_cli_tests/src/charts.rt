@@ -112,5 +112,5 @@ usage -> 2 error:
 
 #[test]
 fn books_give_charts(rt: HostRuntime) -> Result<(), Fail> {
-    expect_rows(&rt, CHART)
+    expect_rows(&rt, CHART, 93)
 }

@@ -155,5 +155,5 @@ fails -> 1 warnc: no such group: the network has 2
 
 #[test]
 fn groups_of_networks_are_run(rt: HostRuntime) -> Result<(), Fail> {
-    expect_rows(&rt, GROUPS)
+    expect_rows(&rt, GROUPS, 129)
 }

@@ -3,6 +3,8 @@
 #![tactic(auto)]
 
 #[cfg(test)]
+mod attempts;
+#[cfg(test)]
 mod bench;
 #[cfg(test)]
 mod books;
@@ -26,6 +28,8 @@ mod read;
 mod rows;
 #[cfg(test)]
 mod scarce;
+#[cfg(test)]
+mod shortage;
 #[cfg(test)]
 mod verify;
 #[cfg(test)]

@@ -87,6 +87,13 @@ impl Written {
         Ok(rest)
     }
 
+    /// Gives a sheet all that wasn't looked at.
+    pub fn give_to(&mut self, sheet: &mut Sheet) -> Result<(), Fail> {
+        sheet.add(self.left())?;
+        self.looked = self.writer.contents().len();
+        Ok(())
+    }
+
     /// The next line, which a line feed has to end.
     pub fn line(&mut self, alloc: Global) -> Result<String, Fail> {
         let left = self.left();

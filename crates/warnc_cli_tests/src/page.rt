@@ -146,10 +146,10 @@ all -> 180 of 200
 
 #[test]
 fn texts_go_out_and_come_back(rt: HostRuntime) -> Result<(), Fail> {
-    expect_rows(&rt, PAGE)
+    expect_rows(&rt, PAGE, 60)
 }
 
 #[test]
 fn refused_texts_and_failed_devices_are_named(rt: HostRuntime) -> Result<(), Fail> {
-    expect_rows(&rt, REFUSED)
+    expect_rows(&rt, REFUSED, 53)
 }

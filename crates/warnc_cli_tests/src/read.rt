@@ -135,10 +135,10 @@ fails -> 1 warnc: tape is long
 
 #[test]
 fn tapes_show_their_texts(rt: HostRuntime) -> Result<(), Fail> {
-    expect_rows(&rt, READ)
+    expect_rows(&rt, READ, 38)
 }
 
 #[test]
 fn refused_tapes_and_failed_devices_are_named(rt: HostRuntime) -> Result<(), Fail> {
-    expect_rows(&rt, REFUSED)
+    expect_rows(&rt, REFUSED, 69)
 }

@@ -8,7 +8,8 @@
 //! `in-none` is one of no octets, and `repeat N` has the input N times;
 //! - `book TEXT`, `book-cells FROM END`, `book-none`: the same of the book that `verify` gets beside its input;
 //!   `bookless`: the next run gets none;
-//! - `worked TEXT`, `worked-hex DIGITS ..`: worked octets, with which an output is compared;
+//! - `worked TEXT`, `worked-hex DIGITS ..`: worked octets, with which an output is compared; `keep` has them be what
+//!   the last run wrote;
 //! - `reader N CALLS`, `writer N CALLS`, `faults N CALLS`: the device moves N octets a call, and fails after so many
 //!   calls. At other runs none fails.
 //!
@@ -24,12 +25,19 @@
 //! - `fronts N M -> STATUS LINE`: it `fails` so on each front of the input that has N to M octets;
 //! - `reads N M -> STATUS LINE`: it `fails` so with a reader of an octet a call that fails after N to M calls;
 //!   `book-reads N M -> STATUS LINE`: with such a reader of the book;
-//! - `scarce -> STATUS OUTPUT`: it runs with more and more memory until that is enough. Without worked octets, the
-//!   status is all that is told.
+//! - `scarce STEPS LEAST -> worked`: it runs again and again, each time short of memory. A run makes so many steps: it
+//!   asks for the allocator, or it reads. Memory ends at each step in turn, but for a room that grows by a least block
+//!   until the run comes to its next step, or at the last step until it isn't refused. It is refused so often at least,
+//!   and each time it says so, has written nothing, and left a book that it doesn't ask for; and then it writes the
+//!   worked octets with all memory. `args page-stream` calls the engine of `page` alone here, as for the worked page;
+//! - `scarce-later FIRST FRONT STEPS LEAST -> worked`: so too from a step on, when a network's first group is written,
+//!   which has so many octets;
+//! - `scarce-threads STEPS LEAST -> worked`: so too at the first so many steps, before there are threads; it isn't run
+//!   with all memory, since threads keep memory of a process. `refused to the end`: the largest room is too small.
 
+use crate::attempts::attempts;
 use crate::bench::{Bench, Pace, runs};
 use crate::octets::{Sheet, Written};
-use crate::scarce::scarce;
 use std::alloc::Global;
 use std::process::Abort;
 use std::sync::Wait;
@@ -85,6 +93,7 @@ fn set<'a>(
         "repeat" => bench.input.repeat(alloc, rest.parse::<u64>()?)?,
         "worked" => bench.worked.add_line(rest)?,
         "worked-hex" => bench.worked.add_hex(alloc, rest)?,
+        "keep" if rest.is_empty() => bench.output.give_to(&mut bench.worked)?,
         "reader" => bench.reader = pace_of(rest)?,
         "writer" => bench.writer = pace_of(rest)?,
         "faults" => bench.faults_writer = pace_of(rest)?,
@@ -149,7 +158,9 @@ fn carried_out<'a, T: AllocGlobal + Threads + Wait + Sync>(
         "run" | "fails" | "usage" | "fronts" | "reads" | "book-reads" if bench.unseen() == 0 => {
             runs(rt, bench, verb, numbers_of(rest)?)
         }
-        "scarce" if rest.is_empty() => scarce(rt, bench),
+        "scarce" | "scarce-later" | "scarce-threads" if bench.unseen() == 0 => {
+            attempts(rt, bench, verb, rest)
+        }
         "out" | "err" | "starts" | "past" | "all" | "says" | "lists" => {
             shown(rt.alloc(), bench, verb, rest)
         }
@@ -157,18 +168,22 @@ fn carried_out<'a, T: AllocGlobal + Threads + Wait + Sync>(
     }
 }
 
-/// Expects what the rows of a table say, and that each run's octets are looked at.
+/// Expects what the rows of a table say, that there are so many, and that each run's octets are looked at.
 pub fn expect_rows<T: AllocGlobal + Abort + Threads + Wait + Sync>(
     rt: &T,
     table: &str,
+    count: u16,
 ) -> Result<(), Fail> {
     let mut bench = Bench::new(rt.alloc());
+    let mut rows = 0_u16;
     for line in table.split('\n') {
         if let Some(row) = Row::of(line) {
             let found = carried_out(rt, &mut bench, row.action)?;
             assert_eq!(rt; found.as_str(), row.wanted, "{line}");
+            rows = rows.saturating_add(1);
         }
     }
     assert_eq!(rt; bench.unseen(), 0);
+    assert_eq!(rt; rows, count);
     Ok(())
 }

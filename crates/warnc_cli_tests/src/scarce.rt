@@ -1,132 +1,11 @@
-//! Runs of the program with hardly any memory: whatever is refused, the run ends with status 4 and writes nothing.
+//! Runs that are short of memory: growths are refused one after the other. A refused run says so with status 4, and
+//! writes nothing; and then the same run with all memory writes what it has to.
 
-use crate::bench::Bench;
-use crate::octets::part_of;
 use crate::rows::expect_rows;
-use device_ends::memory::MemoryReader;
-use std::alloc::Global;
-use std::sync::Wait;
 use std::test::Fail;
-use std::thread::Threads;
-use test_support::take_all;
-use warnc_cli::run::run_with_book;
 
-/// How many octets each block of the memory has that is given back.
-const BLOCK: usize = 512;
-
-/// What a run wrote, which took no memory for that.
-#[derive(Drop)]
-struct Slate {
-    status: u8,
-    output: [u8; 3000],
-    output_left: usize,
-    faults: [u8; 3000],
-    faults_left: usize,
-}
-
-impl Slate {
-    /// Nothing yet.
-    fn new() -> Slate {
-        Slate {
-            status: 0,
-            output: [0; 3000],
-            output_left: 3000,
-            faults: [0; 3000],
-            faults_left: 3000,
-        }
-    }
-
-    /// What went to the output.
-    fn output(&self) -> &[u8] {
-        &self.output[..3000_usize.saturating_sub(self.output_left)]
-    }
-
-    /// Whether the run was refused memory, and said so, and wrote nothing. A group's run names the group.
-    fn is_out_of_memory(&self) -> bool {
-        let faults = &self.faults[..3000_usize.saturating_sub(self.faults_left)];
-        self.status == 4
-            && self.output().is_empty()
-            && (faults == b"warnc: out of memory\n".as_slice()
-                || faults == b"warnc: group 0: out of memory\n".as_slice())
-    }
-
-    /// Runs the program.
-    fn run<T: AllocGlobal + Threads + Wait + Sync>(
-        &mut self,
-        rt: &T,
-        words: &[&str],
-        book: &[u8],
-        input: &[u8],
-    ) {
-        let mut book = MemoryReader::new(book, 100, None);
-        let mut reader = MemoryReader::new(input, 100, None);
-        let mut output = self.output.as_mut_slice();
-        let mut faults = self.faults.as_mut_slice();
-        self.status = run_with_book(rt, words, &mut book, &mut reader, &mut output, &mut faults);
-        self.output_left = output.len();
-        self.faults_left = faults.len();
-    }
-}
-
-/// 400 blocks of memory.
-fn spare_blocks(alloc: Global) -> Result<Vec<Vec<u8>>, Fail> {
-    let mut spare = Vec::with_capacity(alloc, 400)?;
-    for _ in 0..400 {
-        spare.push(Vec::with_capacity(alloc, BLOCK)?)?;
-    }
-    Ok(spare)
-}
-
-/// Runs the program again and again, with one block of memory more each time, until it isn't refused memory any more.
-/// Returns how often it was. Blocks give no thread its stack, so what needs threads has all memory in the end.
-fn refusals<T: AllocGlobal + Threads + Wait + Sync>(
-    rt: &T,
-    words: &[&str],
-    book: &[u8],
-    input: &[u8],
-    slate: &mut Slate,
-) -> Result<u16, Fail> {
-    let mut spare = spare_blocks(rt.alloc())?;
-    let mut taken = Vec::with_capacity(rt.alloc(), 100_000)?;
-    take_all(rt.alloc(), &mut taken);
-    let mut refused = 0_u16;
-    for _ in 0..400 {
-        slate.run(rt, words, book, input);
-        if !slate.is_out_of_memory() {
-            return Ok(refused);
-        }
-        refused = refused.saturating_add(1);
-        let _ = spare.pop();
-    }
-    taken.clear();
-    slate.run(rt, words, book, input);
-    Ok(refused)
-}
-
-/// The status of the run that wasn't refused memory, and its output if there are worked octets, if at least four before
-/// it were.
-pub fn scarce<T: AllocGlobal + Threads + Wait + Sync>(
-    rt: &T,
-    bench: &mut Bench,
-) -> Result<String, Fail> {
-    let alloc = rt.alloc();
-    let words = bench.words(alloc)?;
-    let mut slate = Slate::new();
-    let book = &bench.book.octets;
-    let refused = refusals(rt, &words, book, &bench.input.octets, &mut slate)?;
-    bench.renew();
-    if refused < 4 {
-        return Ok(format!(in alloc; "{refused} refusals")?);
-    }
-    if bench.worked.octets.is_empty() {
-        return Ok(slate.status.to_string(alloc)?);
-    }
-    let output = part_of(alloc, slate.output(), &bench.worked.octets)?;
-    Ok(format!(in alloc; "{} {output}", slate.status)?)
-}
-
-/// Whatever is refused, the run ends with status 4.
-const SCARCE: &str = "
+/// `page`, the engine of `page` alone, and `read`.
+const PAGE: &str = "
 args page --lang en --id 4370 --scope 0 --code 1 --update 0
 in @
 worked 200010111201118046a3d168341a8d46a3d168341a8d46
@@ -134,68 +13,15 @@ worked 21a3d168341a8d46a3d168341a8d46a3d168341a8d46a3
 worked 22d168341a8d46a3d168341a8d46a3d168341a8d46a3d1
 worked 3368341a8d46a3d168341a8d46a3d168341a8d46a3d100
 worked 4370 0010 @
-scarce -> 0 worked
+scarce 4 2300 -> worked
+args page-stream
+scarce 3 480 -> worked
 
 # a tape without slots
 args read
 in-hex 0001 0001 00000000
 worked lac,ci,id,serial,text
-scarce -> 0 worked
-
-args compile --slots 2
-in cell,1,1
-in write,0,a,4370,0,1,en,2,2,0,1-1,@
-worked-hex 0001 0001 00000002
-worked-hex 200010111201118046a3d168341a8d46a3d168341a8d46
-worked-hex 21a3d168341a8d46a3d168341a8d46a3d168341a8d46a3
-worked-hex 22d168341a8d46a3d168341a8d46a3d168341a8d46a3d1
-worked-hex 3368341a8d46a3d168341a8d46a3d168341a8d46a3d100
-worked-hex 2f2b2b2b2b2b2b2b2b2b2b2b2b2b2b2b2b2b2b2b2b2b2b
-worked-hex 2f2b2b2b2b2b2b2b2b2b2b2b2b2b2b2b2b2b2b2b2b2b2b
-worked-hex 2f2b2b2b2b2b2b2b2b2b2b2b2b2b2b2b2b2b2b2b2b2b2b
-worked-hex 2f2b2b2b2b2b2b2b2b2b2b2b2b2b2b2b2b2b2b2b2b2b2b
-scarce -> 0 worked
-";
-
-const LIVE: &str = "
-args live --slots 2 --sessions 2
-in cell,1,1
-in write,0,a,4370,0,1,en,2,2,0,1-1,@
-worked-hex 0001 0001 00000002
-worked-hex 200010111201118046a3d168341a8d46a3d168341a8d46
-worked-hex 21a3d168341a8d46a3d168341a8d46a3d168341a8d46a3
-worked-hex 22d168341a8d46a3d168341a8d46a3d168341a8d46a3d1
-worked-hex 3368341a8d46a3d168341a8d46a3d168341a8d46a3d100
-worked-hex 2f2b2b2b2b2b2b2b2b2b2b2b2b2b2b2b2b2b2b2b2b2b2b
-worked-hex 2f2b2b2b2b2b2b2b2b2b2b2b2b2b2b2b2b2b2b2b2b2b2b
-worked-hex 2f2b2b2b2b2b2b2b2b2b2b2b2b2b2b2b2b2b2b2b2b2b2b
-worked-hex 2f2b2b2b2b2b2b2b2b2b2b2b2b2b2b2b2b2b2b2b2b2b2b
-scarce -> 0 worked
-";
-
-const REPORT: &str = "
-args report --slots 2
-in cell,1,1
-in write,0,a,4370,0,1,en,2,2,0,1-1,@
-worked lac,ci,id,serial,start,end,completed,shown
-worked 1,1,4370,0010,0,2,1,yes
-scarce -> 0 worked
-";
-
-const GROUPS: &str = "
-args groups
-in cell,1,1
-worked 1
-scarce -> 0 worked
-
-args report --slots 2 --group 0
-in cell,1,1
-in write,0,a,4370,0,1,en,2,2,0,1-1,@
-worked lac,ci,id,serial,start,end,completed,shown
-worked 1,1,4370,0010,0,2,1,yes
-scarce -> 0 worked
-args report --slots 2 --network
-scarce -> 0 worked
+scarce 4 3800 -> worked
 ";
 
 const CAPTURES: &str = "
@@ -214,7 +40,7 @@ worked-hex 00000000f12e07004300000043000000 4500004300000000401170a9000100010a00
 worked-hex 12791279002f0000 0204010000000000000000860f000200 22d168341a8d46a3d168341a8d46a3d168341a8d46a3d1
 worked-hex 0000000069c60a004300000043000000 4500004300000000401170a9000100010a000000
 worked-hex 12791279002f0000 0204010000000000000000b90f000200 3368341a8d46a3d168341a8d46a3d168341a8d46a3d100
-scarce -> 0 worked
+scarce 4 2200 -> worked
 
 args tape --cell 1-1 --slots 1
 in-worked
@@ -223,14 +49,82 @@ worked-hex 200010111201118046a3d168341a8d46a3d168341a8d46
 worked-hex 21a3d168341a8d46a3d168341a8d46a3d168341a8d46a3
 worked-hex 22d168341a8d46a3d168341a8d46a3d168341a8d46a3d1
 worked-hex 3368341a8d46a3d168341a8d46a3d168341a8d46a3d100
-scarce -> 0 worked
+scarce 4 2200 -> worked
+";
+
+/// The tapes of a book, of its group, and of its network.
+const TAPES: &str = "
+in cell,1,1
+in write,0,a,4370,0,1,en,2,2,0,1-1,@
+worked-hex 0001 0001 00000002
+worked-hex 200010111201118046a3d168341a8d46a3d168341a8d46
+worked-hex 21a3d168341a8d46a3d168341a8d46a3d168341a8d46a3
+worked-hex 22d168341a8d46a3d168341a8d46a3d168341a8d46a3d1
+worked-hex 3368341a8d46a3d168341a8d46a3d168341a8d46a3d100
+worked-hex 2f2b2b2b2b2b2b2b2b2b2b2b2b2b2b2b2b2b2b2b2b2b2b
+worked-hex 2f2b2b2b2b2b2b2b2b2b2b2b2b2b2b2b2b2b2b2b2b2b2b
+worked-hex 2f2b2b2b2b2b2b2b2b2b2b2b2b2b2b2b2b2b2b2b2b2b2b
+worked-hex 2f2b2b2b2b2b2b2b2b2b2b2b2b2b2b2b2b2b2b2b2b2b2b
+args compile --slots 2
+scarce 18 2600 -> worked
+args compile --slots 2 --group 0
+scarce 19 2600 -> worked
+args compile --slots 2 --network
+scarce 20 2600 -> worked
+";
+
+/// So too of one session, which works in the calling thread, and the number of groups.
+const LIVE: &str = "
+in cell,1,1
+in write,0,a,4370,0,1,en,2,2,0,1-1,@
+worked-hex 0001 0001 00000002
+worked-hex 200010111201118046a3d168341a8d46a3d168341a8d46
+worked-hex 21a3d168341a8d46a3d168341a8d46a3d168341a8d46a3
+worked-hex 22d168341a8d46a3d168341a8d46a3d168341a8d46a3d1
+worked-hex 3368341a8d46a3d168341a8d46a3d168341a8d46a3d100
+worked-hex 2f2b2b2b2b2b2b2b2b2b2b2b2b2b2b2b2b2b2b2b2b2b2b
+worked-hex 2f2b2b2b2b2b2b2b2b2b2b2b2b2b2b2b2b2b2b2b2b2b2b
+worked-hex 2f2b2b2b2b2b2b2b2b2b2b2b2b2b2b2b2b2b2b2b2b2b2b
+worked-hex 2f2b2b2b2b2b2b2b2b2b2b2b2b2b2b2b2b2b2b2b2b2b2b
+args live --slots 2 --group 0
+scarce 19 2600 -> worked
+args live --slots 2 --network
+scarce 20 2600 -> worked
+
+args groups
+in cell,1,1
+worked 1
+scarce 9 2200 -> worked
+";
+
+const REPORT: &str = "
+in cell,1,1
+in write,0,a,4370,0,1,en,2,2,0,1-1,@
+worked lac,ci,id,serial,start,end,completed,shown
+worked 1,1,4370,0010,0,2,1,yes
+args report --slots 2
+scarce 23 4700 -> worked
+args report --slots 2 --group 0
+scarce 24 4700 -> worked
+args report --slots 2 --network
+scarce 25 4700 -> worked
 ";
 
 const CHART: &str = "
-args chart --slots 2
 in cell,1,1
 in write,0,a,4370,0,1,en,2,2,0,1-1,@
-scarce -> 0
+args chart --slots 2
+run -> 0
+keep
+scarce 21 4800 -> worked
+args chart --slots 2 --group 0
+run -> 0
+keep
+scarce 22 4800 -> worked
+args chart --slots 2 --network
+run -> 0
+keep
+scarce 23 4800 -> worked
 ";
 
 const VERIFY: &str = "
@@ -243,12 +137,52 @@ in-hex 2f2b2b2b2b2b2b2b2b2b2b2b2b2b2b2b2b2b2b2b2b2b2b
 in-hex 2f2b2b2b2b2b2b2b2b2b2b2b2b2b2b2b2b2b2b2b2b2b2b
 in-hex 2f2b2b2b2b2b2b2b2b2b2b2b2b2b2b2b2b2b2b2b2b2b2b
 worked lac,ci,id,serial,slot,difference
-scarce -> 0 worked
+scarce 22 2600 -> worked
+args verify --slots 1 --book network.csv --group 0
+scarce 23 2600 -> worked
 ";
 
-/// Two cells, two pages, two sessions and two workers. The tapes are those of a program that isn't ours.
+/// The second group of a network, once the first is written: 64 tapes of 100 octets, or a line under that of the names.
+const NETWORK: &str = "
+in-cells 0 65
+in write,0,a,4370,0,1,en,2,2,1,1-0 1-64,@
+args compile --slots 1 --network
+run -> 0
+keep
+scarce-later 21 6400 32 380 -> worked
+
+args report --slots 2 --network
+worked lac,ci,id,serial,start,end,completed,shown
+worked 1,0,4370,0010,0,2,1,yes
+worked 1,64,4370,0010,0,2,1,yes
+scarce-later 278 67 293 2400 -> worked
+";
+
+/// With so little memory no thread can be made: a session works in the calling thread. Memory ends before there are
+/// threads, since they keep memory of a process. Runs of one session come first, so that the stack has grown.
+const SESSIONS: &str = "
+in cell,1,1
+in write,0,a,4370,0,1,en,2,2,0,1-1,@
+worked-hex 0001 0001 00000002
+worked-hex 200010111201118046a3d168341a8d46a3d168341a8d46
+worked-hex 21a3d168341a8d46a3d168341a8d46a3d168341a8d46a3
+worked-hex 22d168341a8d46a3d168341a8d46a3d168341a8d46a3d1
+worked-hex 3368341a8d46a3d168341a8d46a3d168341a8d46a3d100
+worked-hex 2f2b2b2b2b2b2b2b2b2b2b2b2b2b2b2b2b2b2b2b2b2b2b
+worked-hex 2f2b2b2b2b2b2b2b2b2b2b2b2b2b2b2b2b2b2b2b2b2b2b
+worked-hex 2f2b2b2b2b2b2b2b2b2b2b2b2b2b2b2b2b2b2b2b2b2b2b
+worked-hex 2f2b2b2b2b2b2b2b2b2b2b2b2b2b2b2b2b2b2b2b2b2b2b
+args live --slots 2
+scarce 18 2600 -> worked
+args live --slots 2 --sessions 2
+scarce-threads 10 2700 -> worked
+run -> 0
+all -> worked
+";
+
+/// Two cells, two pages, two sessions and two workers, which are refused whatever else they have. The tapes are those
+/// of a program that isn't ours.
 const TWO: &str = "
-args compile --slots 2 --workers 2
 in cell,1,1
 in cell,1,2
 in write,0,a,4370,0,1,ru,2,2,0,1-1 1-2,Река поднимается! Идите сейчас же в школу.
@@ -270,56 +204,81 @@ worked-hex 20001011124822002e000d000d000d000d000d000d000d
 worked-hex 21000d000d000d000d000d000d000d000d000d000d000d
 worked-hex 22000d000d000d000d000d000d000d000d000d000d000d
 worked-hex 33000d000d000d000d000d000d000d000d000d000d000d
-scarce -> 0 worked
-args live --slots 2 --sessions 2 --workers 2
-scarce -> 0 worked
+args compile --slots 2
+scarce 18 2900 -> worked
 
 args read
 in-worked
 worked lac,ci,id,serial,text
 worked 1,1,4370,0010,Река поднимается! Идите сейчас же в школу.
 worked 1,2,4370,0010,Река поднимается! Идите сейчас же в школу.
-scarce -> 0 worked
+scarce 7 3900 -> worked
+
+in cell,1,1
+in cell,1,2
+in write,0,a,4370,0,1,ru,2,2,0,1-1 1-2,Река поднимается! Идите сейчас же в школу.
+args compile --slots 2
+run -> 0
+keep
+args compile --slots 2 --workers 2
+scarce-threads 13 3600 -> refused to the end
+args live --slots 2 --sessions 2 --workers 2
+scarce-threads 10 3600 -> refused to the end
+run -> 0
+all -> worked
+args compile --slots 2 --workers 2
+run -> 0
+all -> worked
 ";
 
 #[test]
-fn runs_without_memory_are_status_4(rt: HostRuntime) -> Result<(), Fail> {
-    expect_rows(&rt, SCARCE)
+fn pages_without_memory_are_status_4(rt: HostRuntime) -> Result<(), Fail> {
+    expect_rows(&rt, PAGE, 14)
 }
 
 #[test]
 fn captures_without_memory_are_status_4(rt: HostRuntime) -> Result<(), Fail> {
-    expect_rows(&rt, CAPTURES)
+    expect_rows(&rt, CAPTURES, 24)
+}
+
+#[test]
+fn tapes_without_memory_are_status_4(rt: HostRuntime) -> Result<(), Fail> {
+    expect_rows(&rt, TAPES, 17)
+}
+
+#[test]
+fn sessions_without_memory_are_status_4(rt: HostRuntime) -> Result<(), Fail> {
+    expect_rows(&rt, LIVE, 19)
+}
+
+#[test]
+fn a_report_without_memory_is_status_4(rt: HostRuntime) -> Result<(), Fail> {
+    expect_rows(&rt, REPORT, 10)
+}
+
+#[test]
+fn a_chart_without_memory_is_status_4(rt: HostRuntime) -> Result<(), Fail> {
+    expect_rows(&rt, CHART, 14)
+}
+
+#[test]
+fn a_verification_without_memory_is_status_4(rt: HostRuntime) -> Result<(), Fail> {
+    expect_rows(&rt, VERIFY, 12)
+}
+
+#[test]
+fn a_second_group_without_memory_is_status_4(rt: HostRuntime) -> Result<(), Fail> {
+    expect_rows(&rt, NETWORK, 11)
 }
 
 // Threads keep memory of a process, so what starts some has a process of its own.
 
 #[test]
-fn sessions_without_memory_are_status_4(rt: HostRuntime) -> Result<(), Fail> {
-    expect_rows(&rt, LIVE)
-}
-
-#[test]
-fn a_report_without_memory_is_status_4(rt: HostRuntime) -> Result<(), Fail> {
-    expect_rows(&rt, REPORT)
-}
-
-#[test]
-fn groups_without_memory_are_status_4(rt: HostRuntime) -> Result<(), Fail> {
-    expect_rows(&rt, GROUPS)
-}
-
-#[test]
-fn a_chart_without_memory_is_status_4(rt: HostRuntime) -> Result<(), Fail> {
-    expect_rows(&rt, CHART)
-}
-
-#[test]
-fn a_verification_without_memory_is_status_4(rt: HostRuntime) -> Result<(), Fail> {
-    expect_rows(&rt, VERIFY)
+fn two_sessions_without_memory_are_status_4(rt: HostRuntime) -> Result<(), Fail> {
+    expect_rows(&rt, SESSIONS, 17)
 }
 
 #[test]
 fn two_of_each_without_memory_are_status_4(rt: HostRuntime) -> Result<(), Fail> {
-    expect_rows(&rt, TWO)
+    expect_rows(&rt, TWO, 44)
 }

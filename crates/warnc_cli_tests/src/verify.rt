@@ -205,5 +205,5 @@ usage -> 2 error:
 
 #[test]
 fn tapes_are_judged_by_their_book(rt: HostRuntime) -> Result<(), Fail> {
-    expect_rows(&rt, VERIFY)
+    expect_rows(&rt, VERIFY, 176)
 }

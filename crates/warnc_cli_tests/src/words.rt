@@ -148,6 +148,6 @@ run -> 3
 
 #[test]
 fn other_words_are_refused_and_help_is_written(rt: HostRuntime) -> Result<(), Fail> {
-    expect_rows(&rt, USAGE)?;
-    expect_rows(&rt, HELP)
+    expect_rows(&rt, USAGE, 84)?;
+    expect_rows(&rt, HELP, 40)
 }
