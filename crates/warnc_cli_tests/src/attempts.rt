@@ -267,8 +267,8 @@ fn attempts_at<T: AllocGlobal + Threads + Wait + Sync>(
     End::Refused
 }
 
-/// Has memory end at each step of a plan, one after the other. Before that the run is done with all memory: a block
-/// that is taken may stand right under the stack, which grows no more then.
+/// Has memory end at each step of a plan, one after the other. Before that the run is done with all memory, so that the
+/// stack has grown: a block that is taken later may stand right under it.
 fn attempts_at_each<T: AllocGlobal + Threads + Wait + Sync>(
     rt: &mut Shortage<T>,
     words: &[&str],

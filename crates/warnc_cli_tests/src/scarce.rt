@@ -73,7 +73,7 @@ args compile --slots 2 --network
 scarce 20 2600 -> worked
 ";
 
-/// So too of one session, which works in the calling thread.
+/// So too of one session, which works in the calling thread, and the number of groups.
 const LIVE: &str = "
 in cell,1,1
 in write,0,a,4370,0,1,en,2,2,0,1-1,@
@@ -86,8 +86,6 @@ worked-hex 2f2b2b2b2b2b2b2b2b2b2b2b2b2b2b2b2b2b2b2b2b2b2b
 worked-hex 2f2b2b2b2b2b2b2b2b2b2b2b2b2b2b2b2b2b2b2b2b2b2b
 worked-hex 2f2b2b2b2b2b2b2b2b2b2b2b2b2b2b2b2b2b2b2b2b2b2b
 worked-hex 2f2b2b2b2b2b2b2b2b2b2b2b2b2b2b2b2b2b2b2b2b2b2b
-args live --slots 2
-scarce 18 2600 -> worked
 args live --slots 2 --group 0
 scarce 19 2600 -> worked
 args live --slots 2 --network
@@ -161,7 +159,7 @@ scarce-later 278 67 293 2400 -> worked
 ";
 
 /// With so little memory no thread can be made: a session works in the calling thread. Memory ends before there are
-/// threads, since they keep memory of a process. A run without threads comes first, so that the stack has grown.
+/// threads, since they keep memory of a process. Runs of one session come first, so that the stack has grown.
 const SESSIONS: &str = "
 in cell,1,1
 in write,0,a,4370,0,1,en,2,2,0,1-1,@
@@ -175,8 +173,7 @@ worked-hex 2f2b2b2b2b2b2b2b2b2b2b2b2b2b2b2b2b2b2b2b2b2b2b
 worked-hex 2f2b2b2b2b2b2b2b2b2b2b2b2b2b2b2b2b2b2b2b2b2b2b
 worked-hex 2f2b2b2b2b2b2b2b2b2b2b2b2b2b2b2b2b2b2b2b2b2b2b
 args live --slots 2
-run -> 0
-all -> worked
+scarce 18 2600 -> worked
 args live --slots 2 --sessions 2
 scarce-threads 10 2700 -> worked
 run -> 0
@@ -251,7 +248,7 @@ fn tapes_without_memory_are_status_4(rt: HostRuntime) -> Result<(), Fail> {
 
 #[test]
 fn sessions_without_memory_are_status_4(rt: HostRuntime) -> Result<(), Fail> {
-    expect_rows(&rt, LIVE, 21)
+    expect_rows(&rt, LIVE, 19)
 }
 
 #[test]
@@ -278,7 +275,7 @@ fn a_second_group_without_memory_is_status_4(rt: HostRuntime) -> Result<(), Fail
 
 #[test]
 fn two_sessions_without_memory_are_status_4(rt: HostRuntime) -> Result<(), Fail> {
-    expect_rows(&rt, SESSIONS, 18)
+    expect_rows(&rt, SESSIONS, 17)
 }
 
 #[test]
