@@ -1,7 +1,7 @@
 -- What `check` writes and refuses, and what its statuses say of the ends.
 use Rattle.std.proofs.Common.{◌≡◌, ◌≢◌, ◌⊎◌, ◌↔◌, ℕ, ◌≤◌, List, Option, None, Some, IfSome, Ok, Err, Result, IsErrOf}
 use Rattle.std.proofs.Common.{IsTrue}
-use Rattle.std.proofs.Common.{true, false, ap, arith, inl, inr, refl, rules, subst, sym}
+use Rattle.std.proofs.Common.{true, false, ap, arith, inl, inr, refl, rules, subst, sym, ◌<◌, ◌++◌, length}
 use Rattle.std.proofs.KnownBytes.{Keeps-refl}
 use Rattle.std.specs.Io.KnownBytes.{Keeps}
 use Rattle.device_ends.specs.Moves.{WritesOutput}
@@ -10,14 +10,27 @@ use Rattle.device_ends.specs.Source.{source_failed}
 use Rattle.device_ends.specs.Stream.{Writes}
 use Rattle.device_ends.specs.declared.reading.Source.{Source}
 use Rattle.device_ends.specs.declared.writing.Sink.{Sink}
-use Rattle.book_check.specs.Checked.{HasFaults, HasTold, HasWritten, IsCheckFault}
+use Rattle.book_check.specs.Checked.{HasFaults, HasTold, HasWritten, IsCheckFault, IsClean}
+use Rattle.book_check.specs.Told.{header_row}
 use Rattle.book_check.specs.declared.fault.CheckFault.{CheckFault}
 use Rattle.book_check.specs.declared.fault.CheckFault.TheVariants as fault
-use Rattle.warnc_cli.specs.Run.{OneHasFailed}
+use Rattle.warnc_cli.specs.Run.{OneHasFailed, WritesSome}
 use Rattle.warnc_cli.specs.RunSteps.{IsRunBetween}
 use Rattle.warnc_cli.specs.Status.{status_of_check_fault}
 use Rattle.warnc_cli.specs.Tasks.{IsNotClean}
 use Rattle.warnc_cli.specs.declared.command.Task.TheVariants as task
+
+some_octets : (rows : List ℕ) → 0 < length (header_row ++ rows)
+some_octets rows = omega arith
+
+-- the table of a clean book has the names of its columns
+pub some_names : (left old new : Option (List ℕ)) → WritesOutput IsClean left old new → WritesSome old new
+some_names left old new written =
+    let clean = written.of_some.2 in (
+      written.of_some.1,
+      subst (λ (octets : List ℕ). 0 < length octets) (sym clean.written) (some_octets _),
+      written.of_some.3,
+    )
 
 -- a fault of `check` with status 1 says that the input isn't clean
 pub refused_check : (left old new : Option (List ℕ)) (why : CheckFault) → IsCheckFault left old new why

@@ -3,8 +3,11 @@ use Rattle.std.proofs.KnownBytes.{Keeps-refl}
 use Rattle.std.specs.Io.KnownBytes.{Keeps}
 use Rattle.device_ends.specs.Sink.{writer_of}
 use Rattle.warnc_cli.specs.Status.{status_of_check_fault}
-use Rattle.warnc_cli.proofs.Faulty.{check_between, kept_or_told, refused_check}
+use Rattle.warnc_cli.proofs.Faulty.{check_between, kept_or_told, refused_check, some_names}
 use Rattle.warnc_cli.proofs.run.run_check.Goals as goal
+
+pub returns-in-Ok-clause-wrote : goal.returns-in-Ok-clause-wrote
+returns-in-Ok-clause-wrote g c = λ is always. some_names _ _ _ c.in-Ok.ensures.ok
 
 pub returns-in-Err-clause-refused : goal.returns-in-Err-clause-refused
 returns-in-Err-clause-refused g c =
