@@ -10,7 +10,7 @@ EARTH = 6371.0088  # the mean radius of the earth, in kilometres
 DEGREE = math.pi * EARTH / 180  # a degree of latitude, in kilometres
 COLUMNS = ["lac", "ci", "lat", "lon", "radius"]
 # how many pairs of an edge and a cell are looked at for a polygon, and how many points it has: some seconds of work
-MOST_PAIRS, MOST_POINTS = 4_000_000, 50_000
+MOST_PAIRS, MOST_POINTS = 2_000_000, 50_000
 NEAR = 1e-9  # an edge passes through a point where it comes as near, in kilometres
 
 
