@@ -175,6 +175,46 @@ def case(program, name, lines):
     return judge(name, found, status, "".join(cells + book), told)
 
 
+# --- Two days ---
+
+DAY = 86400
+# Of a day its messages, and the rows of its book. D was sent before B, and comes after it: it takes the next code. The
+# second day begins in slot 45,883 of the first.
+TWO_DAYS = (
+    (0, ("alert A 3600 | headline=One Z=a", "alert B 7200 | headline=Two Z=a expires=9000"),
+     ("write,1912,w@x.example/A/1,4371,1,1,en,0,64,0,*,One", "write,3824,w@x.example/B/1,4371,1,2,en,0,64,15,*,Two")),
+    (DAY, ("update C 90000 of=A | headline=Three Z=a", "alert D 3700 | headline=Late Z=a"),
+     ("write,0,w@x.example/A/1,4371,1,1,en,0,64,0,*,One", "write,0,w@x.example/D/1,4371,1,3,en,0,64,0,*,Late",
+      "update,1912,w@x.example/A/1,en,0,64,0,*,Three")),
+    (DAY * 2, (), ("write,0,w@x.example/A/1,4371,1,1,en,0,64,0,*,One",
+                   "update,0,w@x.example/A/1,en,0,64,0,*,Three",
+                   "write,0,w@x.example/D/1,4371,1,3,en,0,64,0,*,Late")),
+)
+
+
+def two_days(program):
+    """Whether what one call keeps goes on in the next: messages, and codes of names."""
+    good = True
+    with tempfile.TemporaryDirectory() as folder:
+        put(folder, "cells.csv", "lac,ci,lat,lon,radius,Z\n1,1,,,,a\n")
+        for start, messages, rows in TWO_DAYS:
+            names = []
+            for line in messages:
+                names.append(message_of(line)[0])
+                put(folder, *message_of(line))
+            words = ["--cells", "cells.csv", "--start", at(start), "--slots", "9000", "--state", "state.json", *names]
+            status, book, _ = ran(program, words, folder)
+            good = judge(f"day of {start}", (status, book, []), 0, "".join(f"{it}\n" for it in ("cell,1,1", *rows)),
+                         []) and good
+        for wrong in ("", "{}", "[1]", '{"version": 1, "codes": {"a": "b"}, "messages": []}', "[" * 100_000):
+            put(folder, "state.json", wrong)
+            status, book, lines = ran(program, words, folder)
+            if (status, book, len(lines)) != (2, "", 1):
+                print(f"cap/test.py: state {wrong[:40]}: status {status}", *lines[-3:], sep="\n")
+                good = False
+    return good
+
+
 # --- Spoilt messages ---
 
 HOSTILE = (
@@ -249,9 +289,11 @@ def main(words):
         jobs = [pool.submit(sample, program, it) for it in folders]
         jobs += [pool.submit(case, program, name, lines) for name, lines in cases()]
         jobs.append(pool.submit(lambda: not any([days.differs(it) for it in range(DAYS)])))
+        jobs.append(pool.submit(two_days, program))
         jobs.append(pool.submit(spoilt_runs, program, runs))
         failed = sum(not it.result() for it in jobs)
-    print(f"cap/test.py: {len(jobs) - 2} cases, {DAYS} random days and {runs} spoilt messages, {failed} failed")
+    counts = f"{len(jobs) - 3} cases, two days, {DAYS} random days and {runs} spoilt messages"
+    print(f"cap/test.py: {counts}, {failed} failed")
     return 1 if failed else 0
 
 

@@ -6,7 +6,7 @@ import os
 import shutil
 import sys
 
-from . import message, place, policy, text
+from . import message, place, policy, state, text
 from .plan import Plan, key_of
 
 HERE = os.path.dirname(os.path.dirname(os.path.dirname(os.path.realpath(__file__))))
@@ -35,8 +35,12 @@ def words_of(words, document):
     parser.add_argument("--strict", action="store_true", help="status 1 if an info has no cell")
     parser.add_argument("--warnc", metavar="PROGRAM", default=os.environ.get("WARNC"),
                         help="the program that costs texts and runs the book, if it isn't this one; also by WARNC")
-    parser.add_argument("messages", nargs="+", metavar="MESSAGE")
+    parser.add_argument("--state", metavar="FILE",
+                        help="keeps the messages and the codes of their names, so that the next call goes on with them")
+    parser.add_argument("messages", nargs="*", metavar="MESSAGE")
     options = parser.parse_args(words)
+    if not options.messages and not options.state:
+        parser.error("no MESSAGE is given")
     start = message.time_of(options.start)
     if start is None or not 1 <= options.slots <= 65535:
         parser.error("--start is as 2026-03-01T06:30:00+01:00, --slots 1 to 65535")
@@ -72,9 +76,11 @@ def octets_of(path):
         raise message.Wrong("file", fault.strerror or str(fault)) from None
 
 
-def messages_of(words):
-    """Returns the messages of files in the order in which they count, and a line for each that is wrong."""
-    found, wrong = {}, []
+def messages_of(words, past):
+    """Returns the messages of past calls and those of files in the order in which they count, and a line for each that
+    is wrong."""
+    found, wrong = {it.encode(): message.message_of(name, it.encode()) for name, it in past}, []
+    first = {(it.sender, it.identifier): it for it in found.values()}
     for name, path in files_of(words):
         try:
             octets = octets_of(path)
@@ -83,13 +89,13 @@ def messages_of(words):
         except message.Wrong as fault:
             wrong.append(f"{name}: {fault}")
     ordered = sorted(found.items(), key=lambda it: (it[1].sent, it[1].identifier, it[1].sender, it[0]))
-    kept, known = [], {}
-    for _, it in ordered:
-        first = known.setdefault((it.sender, it.identifier), it)
-        if first is it:
-            kept.append(it)
+    kept = []
+    for octets, it in ordered:
+        other = first.setdefault((it.sender, it.identifier), it)
+        if other is it:
+            kept.append((octets, it))
         else:
-            wrong.append(f"{it.file}: identifier: {first.file} is another message with this sender and identifier")
+            wrong.append(f"{it.file}: identifier: {other.file} is another message with this sender and identifier")
     return kept, wrong
 
 
@@ -171,9 +177,11 @@ def main(words, document):
         cells, codes = place.cells_of(options.cells)
         rules = policy.policy_of(options.policy) if options.policy else policy.DEFAULT
         plan = Plan(options, rules, cells, codes, place.Map(cells))
-        messages, wrong = messages_of(options.messages)
-        book, more, refused = made(plan, messages)
-    except (place.TableFault, text.NoProgram) as fault:
+        past, plan.known_codes = state.read(options.state)
+        kept, wrong = messages_of(options.messages, past)
+        book, more, refused = made(plan, [it for _, it in kept])
+        state.write(options.state, kept, plan.given)
+    except (place.TableFault, state.StateFault, text.NoProgram) as fault:
         print(f"warnc-cap: {fault}", file=sys.stderr)
         return 2
     wrong += more

@@ -130,11 +130,14 @@ class Plan:
                     self.by_code.setdefault((name, value), set()).add(cell.name)
         # names of the book that the program refuses in all of their cells, and writes that wait for what they follow
         self.refused, self.moved = set(), set()
+        # the codes that names have had before
+        self.known_codes = {}
         self.begin()
 
     def begin(self):
         """Forgets what was planned."""
         self.chains, self.items, self.notes, self.without_cells = {}, [], [], False
+        self.given = dict(self.known_codes)
 
     def note(self, file, element, what):
         line = f"note: {file}: {element}: {what}"
@@ -213,19 +216,20 @@ class Plan:
         parts = [] if message.kind == "Cancel" else self.parts_of(message, prepared)
         chain, known = self.chain_of(message)
         now = slot_at(message.sent, self.options.start)
-        kept, count = [(it, list(it.rows)) for it in chain.items], len(self.items)
+        kept, count, given = [(it, list(it.rows)) for it in chain.items], len(self.items), dict(self.given)
         if known:
             self.withdraw(message, chain, now)
         if message.kind != "Cancel":
             self.follow(message, chain, parts, now)
         elif known:
             self.cancel(message, chain, now)
-        if len(self.items) > MOST_CODE:
+        if max(self.given.values(), default=0) > MOST_CODE:
             del self.items[count:]
+            self.given = given
             chain.items = [it for it, _ in kept]
             for it, rows in kept:
                 it.rows = rows
-            raise Wrong("identifier", f"the book has {MOST_CODE} warnings already, as many as there are codes")
+            raise Wrong("identifier", f"there are {MOST_CODE} warnings already, as many as there are codes")
         if message.kind != "Cancel":
             self.chains[message.sender, message.identifier] = chain
 
@@ -306,8 +310,10 @@ class Plan:
     def write(self, message, chain, part, stopped):
         """Plans a new name of the book."""
         policy = self.policy[part.identifier]
-        item = Item(f"{message.sender}/{message.identifier}/{part.info.number}", part.identifier, len(self.items) + 1,
-                    part.language, part.cells, len(self.items), policy.period, policy.category)
+        name = f"{message.sender}/{message.identifier}/{part.info.number}"
+        code = self.given.setdefault(name, max(self.given.values(), default=0) + 1)
+        item = Item(name, part.identifier, code, part.language, part.cells, len(self.items), policy.period,
+                    policy.category)
         self.items.append(item)
         chain.items.append(item)
         item.follows = bool(stopped)

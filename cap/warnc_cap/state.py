@@ -1,0 +1,48 @@
+"""What is kept from one call to the next: the messages, and the codes of their names."""
+import json
+import os
+
+from . import message
+
+VERSION = 1
+
+
+class StateFault(Exception):
+    """A state that can't be read or written."""
+
+
+def read(path):
+    """Returns the messages of past calls, each with the name of its file, and the codes of names."""
+    if path is None or not os.path.exists(path):
+        return [], {}
+    try:
+        with open(path, encoding="utf-8") as it:
+            held = json.load(it)
+        if held["version"] != VERSION:
+            raise StateFault(f"{path}: its version isn't {VERSION}")
+        past = [(one["file"], one["message"]) for one in held["messages"]]
+        for name, text in past:
+            message.message_of(name, text.encode())
+        codes = held["codes"]
+        if len(set(codes.values())) != len(codes) or not all(type(it) is int and it > 0 for it in codes.values()):
+            raise StateFault(f"{path}: its codes aren't different numbers")
+        return past, codes
+    except OSError as fault:
+        raise StateFault(f"{path}: {fault.strerror}") from None
+    except (ValueError, KeyError, TypeError, AttributeError, RecursionError, message.Wrong) as fault:
+        raise StateFault(f"{path}: it isn't what warnc-cap writes: {fault}") from None
+
+
+def write(path, kept, codes):
+    """Writes the state anew as a whole, if there is to be one."""
+    if path is None:
+        return
+    held = {"version": VERSION, "codes": codes,
+            "messages": [{"file": it.file, "message": octets.decode()} for octets, it in kept]}
+    try:
+        with open(f"{path}.new", "w", encoding="utf-8") as file:
+            json.dump(held, file, ensure_ascii=False, indent=1)
+            file.write("\n")
+        os.replace(f"{path}.new", path)
+    except OSError as fault:
+        raise StateFault(f"{path}: {fault.strerror}") from None
