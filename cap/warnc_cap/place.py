@@ -42,7 +42,9 @@ def rows_of(path, columns):
                     raise TableFault(f"{path}: line {rows.line_num} has {len(row)} columns, the first has {len(names)}")
                 if row:
                     yield rows.line_num, dict(zip(names, (it.strip() for it in row)))
-    except (OSError, UnicodeError, csv.Error) as fault:
+    except OSError as fault:
+        raise TableFault(f"{path}: {fault.strerror}") from None
+    except (UnicodeError, csv.Error) as fault:
         raise TableFault(f"{path}: {fault}") from None
 
 
