@@ -112,14 +112,14 @@ def prepared_texts(plan, messages):
 
 
 def planned(plan, messages, prepared):
-    """Plans all messages, and returns the book and a line for each that is wrong."""
+    """Plans all messages, and returns the book, and what is wrong with each message that is passed over for it."""
     plan.begin()
-    wrong = []
+    wrong = {}
     for it in messages:
         try:
             plan.take(it, prepared)
         except message.Wrong as fault:
-            wrong.append(f"{it.file}: {fault}")
+            wrong[it.sender, it.identifier] = f"{it.file}: {fault}"
     return plan.book(), wrong
 
 
@@ -158,7 +158,7 @@ def learned(plan, refused):
 
 
 def made(plan, messages):
-    """Returns the book, a line for each message that is wrong, and what the program refuses of the book.
+    """Returns the book, what is wrong with messages, and what the program refuses of the book.
 
     What is refused changes what later messages come to, so the book is made anew until nothing new is refused.
     """
@@ -180,11 +180,11 @@ def main(words, document):
         past, plan.known_codes = state.read(options.state)
         kept, wrong = messages_of(options.messages, past)
         book, more, refused = made(plan, [it for _, it in kept])
-        state.write(options.state, kept, plan.given)
+        state.write(options.state, [it for it in kept if (it[1].sender, it[1].identifier) not in more], plan.given)
     except (place.TableFault, state.StateFault, text.NoProgram) as fault:
         print(f"warnc-cap: {fault}", file=sys.stderr)
         return 2
-    wrong += more
+    wrong += more.values()
     for (name, update, cause), (_, count) in sorted(refused.items()):
         verb = "update" if update else "write"
         plan.note(name, verb, f"refused in {count} {'cell' if count == 1 else 'cells'}: {CAUSES.get(cause, cause)}")

@@ -12,7 +12,7 @@ KINDS = ("Alert", "Update", "Cancel", "Ack", "Error")
 SCOPES = ("Public", "Restricted", "Private")
 URGENCIES = ("Immediate", "Expected", "Future", "Past", "Unknown")
 SEVERITIES = ("Extreme", "Severe", "Moderate", "Minor", "Unknown")
-CERTAINTIES = ("Observed", "Likely", "Possible", "Unlikely", "Unknown")
+CERTAINTIES = ("Observed", "Likely", "Very Likely", "Possible", "Unlikely", "Unknown")
 TIME = re.compile(r"([0-9]{4})-([0-9]{2})-([0-9]{2})T([0-9]{2}):([0-9]{2}):([0-9]{2})(\.[0-9]{1,9})?"
                   r"(Z|[+-][0-9]{2}:[0-9]{2})")
 NUMBER = re.compile(r"[+-]?[0-9]{1,9}(\.[0-9]{1,20})?")
@@ -267,7 +267,8 @@ def info_of(node, number):
     return Info(
         number, at_most_one(node, "language", place), only(node, "event", place),
         one_of(node, "urgency", URGENCIES, place), one_of(node, "severity", SEVERITIES, place),
-        one_of(node, "certainty", CERTAINTIES, place), time_in(node, "effective", place),
+        # CAP 1.2 has a word of CAP 1.0 count as the plain one
+        one_of(node, "certainty", CERTAINTIES, place).removeprefix("Very "), time_in(node, "effective", place),
         time_in(node, "expires", place), pairs_in(node, "eventCode", place),
         dict(reversed(pairs_in(node, "parameter", place))), at_most_one(node, "headline", place),
         at_most_one(node, "description", place), at_most_one(node, "instruction", place),

@@ -138,6 +138,8 @@ class Plan:
         """Forgets what was planned."""
         self.chains, self.items, self.notes, self.without_cells = {}, [], [], False
         self.given = dict(self.known_codes)
+        # a sender or an identifier may have a slash, as names of the book have
+        self.named = {}
 
     def note(self, file, element, what):
         line = f"note: {file}: {element}: {what}"
@@ -213,6 +215,9 @@ class Plan:
         """Takes a message: its rows are planned. If it is wrong, nothing is changed."""
         if self.passed_over(message):
             return
+        key, name = (message.sender, message.identifier), f"{message.sender}/{message.identifier}"
+        if self.named.setdefault(name, key) != key:
+            raise Wrong("identifier", f"another message has the name {shown(name)} in the book")
         parts = [] if message.kind == "Cancel" else self.parts_of(message, prepared)
         chain, known = self.chain_of(message)
         now = slot_at(message.sent, self.options.start)
