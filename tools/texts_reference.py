@@ -11,6 +11,7 @@ import subprocess
 import sys
 
 import gsm
+from random_runs import judged
 
 NAMES = ("row", "name", "lang", "coding", "characters", "pages", "room", "first_ucs2", "place")
 WORDS = ("fire", "Stay", "inside!", "flood", "€5", "[now]", "Wasser", "Straße", "Вода", "наверх", "żółw", "don’t", "a",
@@ -138,15 +139,5 @@ def differs(program, seed):
     return True
 
 
-def main(words):
-    if len(words) not in (1, 2) or words[0] in ("-h", "--help"):
-        print(__doc__, end="")
-        return 0 if words and words[0] in ("-h", "--help") else 2
-    runs = int(words[1]) if len(words) > 1 else 300
-    found = sum(differs(words[0], seed) for seed in range(runs))
-    print(f"texts_reference: {runs} books, {found} differ")
-    return 1 if found else 0
-
-
 if __name__ == "__main__":
-    sys.exit(main(sys.argv[1:]))
+    sys.exit(judged("texts_reference", __doc__, sys.argv[1:], differs, 300))

@@ -10,7 +10,6 @@ Usage: verify_reference.py PROGRAM [RUNS]    random books, whose tapes are left 
 """
 import csv
 import io
-import os
 import random
 import subprocess
 import sys
@@ -18,6 +17,7 @@ import tempfile
 
 import books
 import gsm
+from random_runs import judged
 
 # those of the data codings 00 to 0F
 LANGUAGES = [it for it, dcs in gsm.LANGUAGES.items() if dcs < 0x10]
@@ -215,15 +215,5 @@ def differs(program, seed):
     return True
 
 
-def main(words):
-    if not words or not os.access(words[0], os.X_OK):
-        print(__doc__, end="")
-        return 0 if words in (["-h"], ["--help"]) else 2
-    runs = int(words[1]) if len(words) > 1 else 1500
-    differing = sum(differs(words[0], seed) for seed in range(runs))
-    print(f"{runs} runs, {differing} differ")
-    return 1 if differing else 0
-
-
 if __name__ == "__main__":
-    sys.exit(main(sys.argv[1:]))
+    sys.exit(judged("verify_reference", __doc__, sys.argv[1:], differs, 1500))
