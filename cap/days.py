@@ -10,9 +10,9 @@ from dataclasses import dataclass
 from fractions import Fraction
 from types import SimpleNamespace
 
-from warnc_cap.message import Area, Info, Message
+from warnc_cap.message import Area, Info, Message, Wrong
 from warnc_cap.place import Cell, Map
-from warnc_cap.plan import Plan
+from warnc_cap.plan import MOST_CODE, Plan
 from warnc_cap.policy import DEFAULT
 
 SLOTS = 4096
@@ -170,13 +170,43 @@ def air(intervals, slot):
                   for it in intervals if it.begin <= slot < it.end() for cell in it.cells)
 
 
+def plan_of(messages):
+    """Returns an empty plan, and the texts that it is given for messages."""
+    cells = [Cell(name, f"cell,{name.replace('-', ',')}", None, 0.0, {"Z": [code]}) for code, name in PLACES.items()]
+    options = SimpleNamespace(start=Fraction(0), slots=SLOTS, presidential=[], tests=False, joined=False, strict=False)
+    prepared = {("w", it.identifier, info.number): (info.headline, []) for it in messages for info in it.infos}
+    return Plan(options, DEFAULT, cells, ["Z"], Map(cells)), prepared
+
+
+def keeps_chains():
+    """Whether a message for which there is no code changes nothing: two chains that it would join stay two."""
+    rng = random.Random(0)
+    messages = [Message(f"{at}.xml", f"M{at}", "w", Fraction(0), "Actual", "Alert", "Public", [],
+                        [random_info(rng, 1, f"M{at}", 0)]) for at in range(MOST_CODE)]
+    for it in messages:
+        it.infos[0].effective = it.infos[0].expires = None
+    joining = Message("join.xml", "J", "w", Fraction(60), "Actual", "Update", "Public", [("w", "M0"), ("w", "M1")],
+                      [random_info(rng, 1, "J", 60), random_info(rng, 2, "J", 60)])
+    cancel = Message("cancel.xml", "C", "w", Fraction(120), "Actual", "Cancel", "Public", [("w", "M0")], [])
+    joining.infos[0].language, joining.infos[1].language = "fr", "it"
+    plan, prepared = plan_of([*messages, joining])
+    for it in messages:
+        plan.take(it, prepared)
+    before = plan.book()
+    try:
+        plan.take(joining, prepared)
+        return False
+    except Wrong:
+        same = plan.book() == before
+    plan.take(cancel, prepared)
+    stops = [it.split(b",")[2] for it in plan.book().split(b"\n") if it.startswith(b"stop,")]
+    return same and stops == [b"w/M0/1"]
+
+
 def differs(seed):
     """Whether a random day is otherwise on the air than its book says; prints how."""
     messages = random_day(random.Random(seed))
-    cells = [Cell(name, f"cell,{name.replace('-', ',')}", None, 0.0, {"Z": [code]}) for code, name in PLACES.items()]
-    options = SimpleNamespace(start=Fraction(0), slots=SLOTS, presidential=[], tests=False, joined=False, strict=False)
-    plan = Plan(options, DEFAULT, cells, ["Z"], Map(cells))
-    prepared = {("w", it.identifier, info.number): (info.headline, []) for it in messages for info in it.infos}
+    plan, prepared = plan_of(messages)
     for it in messages:
         plan.take(it, prepared)
     wanted, found = intervals_of(messages), intervals_in(plan.book())

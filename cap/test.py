@@ -289,10 +289,11 @@ def main(words):
         jobs = [pool.submit(sample, program, it) for it in folders]
         jobs += [pool.submit(case, program, name, lines) for name, lines in cases()]
         jobs.append(pool.submit(lambda: not any([days.differs(it) for it in range(DAYS)])))
+        jobs.append(pool.submit(days.keeps_chains))
         jobs.append(pool.submit(two_days, program))
         jobs.append(pool.submit(spoilt_runs, program, runs))
         failed = sum(not it.result() for it in jobs)
-    counts = f"{len(jobs) - 3} cases, two days, {DAYS} random days and {runs} spoilt messages"
+    counts = f"{len(jobs) - 4} cases, two days, {DAYS} random days and {runs} spoilt messages"
     print(f"cap/test.py: {counts}, {failed} failed")
     return 1 if failed else 0
 

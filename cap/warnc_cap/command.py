@@ -116,9 +116,11 @@ def planned(plan, messages, prepared):
     plan.begin()
     wrong = {}
     for it in messages:
+        notes = len(plan.notes)
         try:
             plan.take(it, prepared)
         except message.Wrong as fault:
+            del plan.notes[notes:]
             wrong[it.sender, it.identifier] = f"{it.file}: {fault}"
     return plan.book(), wrong
 

@@ -219,24 +219,25 @@ class Plan:
         if self.named.setdefault(name, key) != key:
             raise Wrong("identifier", f"another message has the name {shown(name)} in the book")
         parts = [] if message.kind == "Cancel" else self.parts_of(message, prepared)
-        chain, known = self.chain_of(message)
+        found = self.chains_of(message)
+        chain = Chain([it for one in found for it in one.items])
         now = slot_at(message.sent, self.options.start)
         kept, count, given = [(it, list(it.rows)) for it in chain.items], len(self.items), dict(self.given)
-        if known:
+        if found:
             self.withdraw(message, chain, now)
         if message.kind != "Cancel":
             self.follow(message, chain, parts, now)
-        elif known:
+        elif found:
             self.cancel(message, chain, now)
         if max(self.given.values(), default=0) > MOST_CODE:
             del self.items[count:]
             self.given = given
-            chain.items = [it for it, _ in kept]
             for it, rows in kept:
                 it.rows = rows
             raise Wrong("identifier", f"there are {MOST_CODE} warnings already, as many as there are codes")
+        self.join(found, chain)
         if message.kind != "Cancel":
-            self.chains[message.sender, message.identifier] = chain
+            self.chains[key] = chain
 
     def passed_over(self, message):
         """Whether a message is passed over, which is told."""
@@ -251,10 +252,10 @@ class Plan:
             return False
         return True
 
-    def chain_of(self, message):
-        """Returns the chain that a message belongs to, and whether it was known."""
+    def chains_of(self, message):
+        """Returns the chains that a message belongs to."""
         if message.kind == "Alert":
-            return Chain(), False
+            return []
         found = []
         for it in message.references:
             chain = self.chains.get(it)
@@ -263,14 +264,13 @@ class Plan:
         if not found:
             what = "passed over" if message.kind == "Cancel" else "taken as an Alert"
             self.note(message.file, "references", f"no message that is known: {what}")
-            return Chain(), False
-        first = found[0]
-        for other in found[1:]:
-            first.items += other.items
-            for key, chain in self.chains.items():
-                if chain is other:
-                    self.chains[key] = first
-        return first, True
+        return found
+
+    def join(self, found, chain):
+        """Has a chain take the place of others."""
+        for key, other in self.chains.items():
+            if any(other is it for it in found):
+                self.chains[key] = chain
 
     def withdraw(self, message, chain, now):
         """Takes away the rows of a chain that haven't begun."""
