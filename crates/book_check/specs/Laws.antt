@@ -1,6 +1,7 @@
 -- What the check of a book says of the book. Own.
 use Rattle.std.specs.Prelude.{◌≡◌, ℕ, ◌+◌, List, [], ◌∷◌, Option, Some, None, count_by, length}
 use Rattle.std.specs.Option.{option_or}
+use Rattle.book_texts.specs.Cost.{pages_needed}
 use Rattle.cbs_page.specs.Text.{IsPagingOf}
 use Rattle.alert_book.specs.Book.{Contents, fault_at, kind_of, IsBook, IsWrong}
 use Rattle.alert_book.specs.declared.fault.BookFault.{BookFault}
@@ -9,7 +10,6 @@ use Rattle.alert_book.specs.declared.judging.Verdict.{Verdict}
 use Rattle.alert_book.specs.declared.judging.Verdict.TheVariants as verdict
 use Rattle.book_check.specs.Checked.{IsChecked, IsClean}
 use Rattle.book_check.specs.Told.{is_told}
-use Rattle.book_check.specs.Words.{pages_needed}
 
 -- the first fault of a row's own, where the first of the rows has this number
 abbrev pub first_wrong : (row : ℕ) → List Verdict → Option BookFault

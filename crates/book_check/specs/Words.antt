@@ -8,9 +8,7 @@ use Rattle.std.specs.Fmt.{decimal}
 use Rattle.std.specs.List.{flat_map, list_any}
 use Rattle.std.specs.Str.{bytes_eq, chars, is_utf8}
 use Rattle.hex.specs.Hex.{encode_lower}
-use Rattle.book_texts.specs.Cost.{first_forcing, place_of_forcing}
-use Rattle.cbs_page.specs.Text.{alphabet_for, capacity, cost_of}
-use Rattle.cbs_page.specs.declared.coding.Alphabet.{Alphabet}
+use Rattle.book_texts.specs.Cost.{first_forcing, pages_needed, place_of_forcing}
 use Rattle.cbs_page.specs.declared.paging.TextFault.{TextFault}
 use Rattle.cbs_page.specs.declared.paging.TextFault.TheVariants as text
 use Rattle.cbsp_wire.specs.declared.message.Cell.{Cell}
@@ -178,18 +176,6 @@ says_of_row row after fields verb place fault.UnknownName = unknown_words verb
 says_of_row row after fields verb place fault.TooManyUpdates = codes "an alert has 15 updates at most"
 says_of_row row after fields verb place fault.TooManyRows = too_many_words row
 says_of_row row after fields verb place fault.Refused = []
-
--- how many pages a text takes, from a page on that has this many codes: a page has as many characters as go into it
-abbrev pub pages_from : Alphabet → (used : ℕ) → List ℕ → ℕ
-pages_from alphabet used [] = 1
-pages_from alphabet used (character ∷ text) =
-    if nat_le (used + cost_of alphabet character) (capacity alphabet)
-    then pages_from alphabet (used + cost_of alphabet character) text
-    else 1 + pages_from alphabet (cost_of alphabet character) text
-
-abbrev pub pages_needed : List ℕ → ℕ
-pages_needed [] = 0
-pages_needed (character ∷ text) = pages_from (alphabet_for (character ∷ text)) 0 (character ∷ text)
 
 -- of a text by its number of pages, and why it is UCS-2: its first such character, and the place of that character,
 -- counted from 0

@@ -9,13 +9,14 @@ use Rattle.cbs_page.proofs.PagingLaws.{one_paging}
 use Rattle.cbs_page.proofs.PaginateLaws.{has_pages}
 use Rattle.cbs_page.specs.Text.{alphabet_for, capacity, codes_of, cost_of}
 use Rattle.cbs_page.specs.declared.coding.Alphabet.{Alphabet}
+use Rattle.book_texts.specs.Cost.{pages_from}
 use Rattle.book_texts.specs.Fit.{ends_word, FitsIn, IsCut, IsWhole}
-use Rattle.book_texts.specs.FitSteps.{best_with, length_of_best, pages_from, HasFilled, IsBest}
+use Rattle.book_texts.specs.FitSteps.{best_with, length_of_best, HasFilled, IsBest}
 use Rattle.book_texts.specs.declared.fit.Best.{Best}
 use Rattle.book_texts.specs.declared.fit.Pages.{Pages}
 
 -- they are as many as the cutting gives
-same_count : (alphabet : Alphabet) (used : ℕ) (text : List ℕ)
+pub same_count : (alphabet : Alphabet) (used : ℕ) (text : List ℕ)
     → pages_from alphabet used text ≡ count_from (codes_of alphabet) (capacity alphabet) used text
 same_count alphabet used [] = refl
 same_count alphabet used (c ∷ rest) =

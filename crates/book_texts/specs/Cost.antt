@@ -1,6 +1,7 @@
 -- What a text costs: how many pages it takes, and what room its last one has. The alphabet and the pages are those of a
 -- text that is sent (3GPP TS 23.038, clauses 6.1.2.2, 6.2.1 and 6.2.3), but here a text may take any number of pages.
-use Rattle.std.specs.Prelude.{◌≡◌, ℕ, ◌-◌, Bool, not, is_some, List, [], ◌∷◌, length, Option, find, position, sum_by}
+use Rattle.std.specs.Prelude.{◌≡◌, ℕ, ◌+◌, ◌-◌, Bool, if◌then◌else◌, nat_le, not, is_some, List, [], ◌∷◌, length, Option}
+use Rattle.std.specs.Prelude.{find, position, sum_by}
 use Rattle.gsm_alphabet.specs.Alphabet.{code_of}
 use Rattle.cbs_page.specs.Text.{alphabet_for, capacity, cost_of, IsPagingOf}
 use Rattle.cbs_page.specs.declared.coding.Alphabet.{Alphabet}
@@ -23,6 +24,20 @@ pub record IsCostOf (text : List ℕ) (cost : TextCost) : Type 0 where
   pub paging : IsPagingOf text pieces
   pub pages : cost.pages ≡ length pieces
   pub room : cost.room ≡ room_after (alphabet_for text) pieces
+
+-- how many pages characters take where `used` codes stand on the page at hand, with that page: each has as many
+-- characters as go into it
+abbrev pub pages_from : Alphabet → (used : ℕ) → List ℕ → ℕ
+pages_from alphabet used [] = 1
+pages_from alphabet used (character ∷ rest) =
+    if nat_le (used + cost_of alphabet character) (capacity alphabet)
+    then pages_from alphabet (used + cost_of alphabet character) rest
+    else 1 + pages_from alphabet (cost_of alphabet character) rest
+
+-- how many a text takes
+abbrev pub pages_needed : List ℕ → ℕ
+pages_needed [] = 0
+pages_needed (character ∷ rest) = pages_from (alphabet_for (character ∷ rest)) 0 (character ∷ rest)
 
 -- a character that GSM 7-bit lacks, so that a text with it is sent in UCS-2
 abbrev pub forces_ucs2 : ℕ → Bool

@@ -1,25 +1,17 @@
 -- Steps of a cut (own): how far a front of a text fills its pages, and the best of the fronts that were seen. The
 -- contracts of private functions alone speak of it.
-use Rattle.std.specs.Prelude.{◌≡◌, ℕ, ◌+◌, ◌<◌, ◌≤◌, ◌&&◌, Bool, is_some, List, [], ◌∷◌, ◌++◌, length, nat_le}
-use Rattle.std.specs.Prelude.{nat_lt}
-use Rattle.std.specs.Prelude.{if◌then◌else◌, take}
+use Rattle.std.specs.Prelude.{◌≡◌, ℕ, ◌+◌, ◌<◌, ◌≤◌, ◌&&◌, Bool, is_some, List, ◌++◌, length, nat_lt, if◌then◌else◌}
+use Rattle.std.specs.Prelude.{take}
 use Rattle.std.specs.List.{list_all}
 use Rattle.gsm_alphabet.specs.Alphabet.{code_of}
-use Rattle.cbs_page.specs.Text.{capacity, codes_of}
+use Rattle.cbs_page.specs.Text.{capacity}
 use Rattle.cbs_page.specs.declared.coding.Alphabet.{Alphabet}
 use Rattle.cbs_page.specs.declared.coding.Alphabet.TheVariants as alphabet
+use Rattle.book_texts.specs.Cost.{pages_from}
 use Rattle.book_texts.specs.Fit.{FitsIn, IsWhole}
 use Rattle.book_texts.specs.declared.fit.Best.{Best}
 use Rattle.book_texts.specs.declared.fit.Front.{Front}
 use Rattle.book_texts.specs.declared.fit.Pages.{Pages}
-
--- how many pages characters take where `used` codes stand on the page at hand, with that page
-abbrev pub pages_from : Alphabet → (used : ℕ) → List ℕ → ℕ
-pages_from alphabet used [] = 1
-pages_from alphabet used (c ∷ rest) =
-    if nat_le (used + length (codes_of alphabet c)) (capacity alphabet)
-    then pages_from alphabet (used + length (codes_of alphabet c)) rest
-    else 1 + pages_from alphabet (length (codes_of alphabet c)) rest
 
 -- a front fills pages so far: whatever follows it goes on from here
 abbrev pub HasFilled : List ℕ → Pages → Type 0

@@ -3,3 +3,4 @@ pub mod Fit
 pub mod FitSteps
 pub mod TextsOutput
 pub mod TextsSteps
+pub mod Laws

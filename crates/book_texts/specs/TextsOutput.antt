@@ -1,5 +1,5 @@
 -- What `warnc texts` makes of a book: a table of what the texts of its orders cost, as CSV. Own.
-use Rattle.std.specs.Prelude.{◌≡◌, ℕ, ◌<◌, ◌≤◌, List, [], ◌∷◌, ◌++◌, length, Option, None, Some, codes, encode_utf8}
+use Rattle.std.specs.Prelude.{◌≡◌, ⊤, ℕ, ◌<◌, ◌≤◌, List, [], ◌∷◌, ◌++◌, length, Option, None, Some, codes, encode_utf8}
 use Rattle.std.specs.Prelude.{is_some}
 use Rattle.std.specs.Prelude.{if◌then◌else◌, position, Bool}
 use Rattle.std.specs.Fmt.{decimal}
@@ -105,6 +105,11 @@ IsTextsFault pages input old new fault.ReadFailed = Keeps old new
 IsTextsFault pages input old new fault.Refused = Keeps old new
 IsTextsFault pages input old new fault.WriteFailed =
     (output : List ℕ) × IsTextsOutput pages input output × AppendsFront old new output
+
+-- the fault of a row
+abbrev pub IsOfRow : TextsFault → Type 0
+IsOfRow (fault.Row f) = ⊤
+IsOfRow other = ⊥
 
 -- the fault of a failed writer
 abbrev pub IsTextsWriteFault : TextsFault → Type 0

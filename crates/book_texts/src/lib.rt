@@ -7,9 +7,11 @@
 
 mod cost;
 mod fit;
+mod laws;
 mod table;
 mod texts;
 
 pub use cost::{TextCost, cost_of_text, first_forcing, place_of_forcing};
 pub use fit::cut_for;
+pub use laws::texts_laws;
 pub use texts::{TextsFault, texts_stream};

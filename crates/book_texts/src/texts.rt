@@ -1,12 +1,15 @@
 //! The command `texts`: a book to a table of what its texts cost.
 
-ghost use Rattle.std.specs.Prelude.{◌≡◌, ◌⊎◌, ◌≤◌, ◌+◌, ◌++◌, ℕ, List, length, IfErr, IfOk, OnOk};
+ghost use Rattle.std.specs.Prelude.{◌≡◌, ◌≢◌, ◌⊎◌, ◌≤◌, ◌+◌, ◌++◌, ℕ, List, length, IfErr, IfOk, OnOk};
+ghost use Rattle.std.specs.Io.KnownBytes.{IsAtEnd};
 ghost use Rattle.device_ends.specs.Moves.{ConsumesSome};
 ghost use Rattle.device_ends.specs.Source.{reader_of};
 ghost use Rattle.device_ends.specs.Stream.{FaultOfInput, IsStreamBetween, OutputOfInput};
-ghost use Rattle.alert_book.specs.Book.{max_book, refused, IsRowFault};
-ghost use Rattle.book_texts.specs.TextsOutput.{header_line, AreLinesOf, IsTextsFault, IsTextsOutput, IsTextsWriteFault};
+ghost use Rattle.alert_book.specs.Book.{max_book, IsRowFault};
 ghost use Rattle.alert_book.specs.declared.fault.BookFault.{BookFault};
+ghost use Rattle.alert_book.specs.declared.fault.BookFaultKind.TheVariants as kind;
+ghost use Rattle.book_texts.specs.TextsOutput.{header_line, AreLinesOf, IsOfRow, IsTextsFault, IsTextsOutput};
+ghost use Rattle.book_texts.specs.TextsOutput.{IsTextsWriteFault};
 ghost use Rattle.book_texts.specs.declared.texts.TextsFault.TheVariants as faults;
 
 use crate::table::Table;
@@ -54,7 +57,9 @@ pub fn texts_stream<R: Read, W: Write>(
     ensures ok { OnOk result (OutputOfInput R.remaining W.contents (IsTextsOutput pages) source.old sink.old sink.new) }
     ensures err { IfErr result (FaultOfInput R.remaining W.contents (IsTextsFault pages) source.old sink.old sink.new) }
 
-    // One octet past the bound is read at most.
+    // The book was read to its end, and no more than one octet past the bound.
+    ensures whole { OnOk result (IsAtEnd (R.remaining (reader_of source.new))) }
+    ensures whole_with_row { IfErr result (λ fault. IsOfRow fault → IsAtEnd (R.remaining (reader_of source.new))) }
     ensures reads { ConsumesSome (R.remaining (reader_of source.old)) (R.remaining (reader_of source.new))
         (MAX_INPUT + 1) }
 
@@ -99,8 +104,8 @@ fn texts_output(alloc: Global, input: &[u8], pages: Option<u16>) -> Result<Vec<u
 
 /// The fault that a fault of a book's rows is.
 fn fault_of_row(fault: BookFault) -> TextsFault
-    ensures refused { fault ≡ refused → result ≡ faults.Refused }
-    ensures row { (result ≡ faults.Refused) ⊎ (result ≡ faults.Row fault) }
+    ensures refused { fault.kind ≡ kind.Refused → result ≡ faults.Refused }
+    ensures row { fault.kind ≢ kind.Refused → result ≡ faults.Row fault }
 {
     match fault.kind {
         BookFaultKind::Refused => TextsFault::Refused,

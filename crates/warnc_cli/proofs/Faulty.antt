@@ -7,9 +7,9 @@ use Rattle.std.specs.Io.KnownBytes.{Keeps}
 use Rattle.device_ends.specs.Moves.{WritesOutput}
 use Rattle.device_ends.specs.Sink.{sink_failed, writer_of}
 use Rattle.device_ends.specs.Source.{source_failed}
-use Rattle.device_ends.specs.Stream.{Writes}
 use Rattle.device_ends.specs.declared.reading.Source.{Source}
 use Rattle.device_ends.specs.declared.writing.Sink.{Sink}
+use Rattle.alert_book.specs.Book.{max_book}
 use Rattle.book_check.specs.Checked.{HasFaults, HasTold, HasWritten, IsCheckFault, IsClean}
 use Rattle.book_check.specs.Told.{header_row}
 use Rattle.book_check.specs.declared.fault.CheckFault.{CheckFault}
@@ -44,18 +44,28 @@ refused_check (Some input) old new fault.ReadFailed told is = absurd (omega (ari
 refused_check (Some input) old new fault.Refused told is = absurd (omega (arith, is))
 refused_check (Some input) old new fault.WriteFailed told is = absurd (omega (arith, is))
 
--- with status 1 the faults were written, or nothing was, as with 4
-pub kept_or_told : (Kept : Type 0) (left old new : Option (List ℕ)) (why : CheckFault) → IsCheckFault left old new why
+-- with status 1 the faults were written, or nothing was of a book that is too long
+pub unseen_or_written : (Kept : Type 0) (left old new : Option (List ℕ)) (why : CheckFault)
+    → IsCheckFault left old new why
     → ((HasWritten why → ⊥) → Kept)
-    → (status_of_check_fault why ≡ 1) ⊎ (status_of_check_fault why ≡ 4)
-    → Kept ⊎ ((status_of_check_fault why ≡ 1) × ((count : ℕ) × WritesOutput (HasFaults count) left old new))
-kept_or_told Kept left old new (fault.Faults count) told kept is = inr (refl, (count, told))
-kept_or_told Kept left old new fault.TooLong told kept is = inl (kept (λ w. w))
-kept_or_told Kept left old new fault.ReadFailed told kept (inl is) = absurd (omega (arith, is))
-kept_or_told Kept left old new fault.ReadFailed told kept (inr is) = absurd (omega (arith, is))
-kept_or_told Kept left old new fault.Refused told kept is = inl (kept (λ w. w))
-kept_or_told Kept left old new fault.WriteFailed told kept (inl is) = absurd (omega (arith, is))
-kept_or_told Kept left old new fault.WriteFailed told kept (inr is) = absurd (omega (arith, is))
+    → status_of_check_fault why ≡ 1
+    → (IfSome left (λ input. max_book < length input) × Kept)
+    ⊎ ((count : ℕ) × WritesOutput (HasFaults count) left old new)
+unseen_or_written Kept left old new (fault.Faults count) told kept is = inr (count, told)
+unseen_or_written Kept left old new fault.TooLong told kept is = inl (told, kept (λ w. w))
+unseen_or_written Kept left old new fault.ReadFailed told kept is = absurd (omega (arith, is))
+unseen_or_written Kept left old new fault.Refused told kept is = absurd (omega (arith, is))
+unseen_or_written Kept left old new fault.WriteFailed told kept is = absurd (omega (arith, is))
+
+-- with status 4 nothing was
+pub kept_without_memory : (Kept : Type 0) (why : CheckFault) → ((HasWritten why → ⊥) → Kept)
+    → status_of_check_fault why ≡ 4
+    → Kept
+kept_without_memory Kept (fault.Faults count) kept is = absurd (omega (arith, is))
+kept_without_memory Kept fault.TooLong kept is = absurd (omega (arith, is))
+kept_without_memory Kept fault.ReadFailed kept is = absurd (omega (arith, is))
+kept_without_memory Kept fault.Refused kept is = kept (λ w. w)
+kept_without_memory Kept fault.WriteFailed kept is = absurd (omega (arith, is))
 
 -- what the engine says of the ends with a fault
 pub record AreCheckEnds {R W : Type 0} (why : CheckFault) (last : Source R) (old new : Sink W) : Type 0 where

@@ -27,7 +27,7 @@ use Rattle.warnc_cli.proofs.Statuses.{run_kind, OneOrFour}
 use Rattle.warnc_cli.specs.Run.{AnyHasFailed, WritesSome}
 use Rattle.warnc_cli.specs.RunSteps.{IsVerifyRunBetween}
 use Rattle.warnc_cli.specs.Status.{status_of_run_fault, status_of_verify_fault}
-use Rattle.warnc_cli.specs.Tasks.{IsNotVerified, WritesOutputOfBoth}
+use Rattle.warnc_cli.specs.Tasks.{IsNotVerified, IsUnverified, WritesOutputOfBoth}
 
 -- the table without a difference that was written is that of the book and of the tapes
 pub table_written : (from : Origin) (slots : ℕ) (ends : Readers) (old new : Option (List ℕ))
@@ -81,37 +81,56 @@ known_readers book tapes book_last tapes_last = record {
   tapes_last = tapes_last;
 }
 
-refused_here : (from : Origin) (slots : ℕ) (book tapes : List ℕ) (book_last tapes_last old new : Option (List ℕ))
+-- a fault of status 1 that tells of no difference says why nothing is known of these tapes and this book
+unseen_here : (from : Origin) (slots : ℕ) (book tapes : List ℕ) (book_last tapes_last old new : Option (List ℕ))
     (why : VerifyFault)
     → IsVerifyFault from slots (known_readers book tapes book_last tapes_last) old new why
     → status_of_verify_fault why ≡ 1
-    → IsNotVerified from slots book tapes
-refused_here from slots book tapes book_last tapes_last old new (fault.Run f) told is =
+    → (IsDifference why → ⊥)
+    → IsUnverified from slots book tapes
+unseen_here from slots book tapes book_last tapes_last old new (fault.Run f) told is none =
     inl (no_records from slots book book_last f told is)
-refused_here from slots book tapes book_last tapes_last old new (fault.Tapes tape.Short) told is =
+unseen_here from slots book tapes book_last tapes_last old new (fault.Tapes tape.Short) told is none =
     let run = told.1 in
-    inr (inl (
+    inr (
       (
         told.0,
         subst (λ (octets : List ℕ). RunOf from slots 1 octets told.0)
             (whole book run.input book_last run.read run.ended) run.made,
       ),
       inl told.2,
-    ))
-refused_here from slots book tapes book_last tapes_last old new (fault.Tapes tape.Long) told is =
+    )
+unseen_here from slots book tapes book_last tapes_last old new (fault.Tapes tape.Long) told is none =
     let run = told.1 in
-    inr (inl (
+    inr (
       (
         told.0,
         subst (λ (octets : List ℕ). RunOf from slots 1 octets told.0)
             (whole book run.input book_last run.read run.ended) run.made,
       ),
       inr told.2,
-    ))
-refused_here from slots book tapes book_last tapes_last old new (fault.Tapes tape.ReadFailed) told is =
+    )
+unseen_here from slots book tapes book_last tapes_last old new (fault.Tapes tape.ReadFailed) told is none =
     absurd (omega (arith, is))
-refused_here from slots book tapes book_last tapes_last old new (fault.Tapes tape.Refused) told is =
+unseen_here from slots book tapes book_last tapes_last old new (fault.Tapes tape.Refused) told is none =
     absurd (omega (arith, is))
+unseen_here from slots book tapes book_last tapes_last old new (fault.Differences n) told is none = absurd (none tt)
+unseen_here from slots book tapes book_last tapes_last old new fault.Refused told is none =
+    absurd (omega (arith, is))
+unseen_here from slots book tapes book_last tapes_last old new fault.WriteFailed told is none =
+    absurd (omega (arith, is))
+
+-- what can't be judged isn't verified
+unjudged : (from : Origin) (slots : ℕ) (book tapes : List ℕ) → IsUnverified from slots book tapes
+    → IsNotVerified from slots book tapes
+unjudged from slots book tapes (inl no_run) = inl no_run
+unjudged from slots book tapes (inr no_tapes) = inr (inl no_tapes)
+
+refused_here : (from : Origin) (slots : ℕ) (book tapes : List ℕ) (book_last tapes_last old new : Option (List ℕ))
+    (why : VerifyFault)
+    → IsVerifyFault from slots (known_readers book tapes book_last tapes_last) old new why
+    → status_of_verify_fault why ≡ 1
+    → IsNotVerified from slots book tapes
 refused_here from slots book tapes book_last tapes_last old new (fault.Differences n) told is =
     let finds = told.1.0 in
     inr (inr (
@@ -122,6 +141,12 @@ refused_here from slots book tapes book_last tapes_last old new (fault.Differenc
           finds.differ),
       omega (arith, told.2, told.3),
     ))
+refused_here from slots book tapes book_last tapes_last old new (fault.Run f) told is =
+    unjudged from slots book tapes
+    (unseen_here from slots book tapes book_last tapes_last old new (fault.Run f) told is (λ no. no))
+refused_here from slots book tapes book_last tapes_last old new (fault.Tapes f) told is =
+    unjudged from slots book tapes
+    (unseen_here from slots book tapes book_last tapes_last old new (fault.Tapes f) told is (λ no. no))
 refused_here from slots book tapes book_last tapes_last old new fault.Refused told is = absurd (omega (arith, is))
 refused_here from slots book tapes book_last tapes_last old new fault.WriteFailed told is = absurd (omega (arith, is))
 
@@ -141,16 +166,37 @@ refused_verification from slots (Some book) None book_last tapes_last old new wh
 refused_verification from slots (Some book) (Some tapes) book_last tapes_last old new why told is =
     refused_here from slots book tapes book_last tapes_last old new why told is
 
--- with status 1 the differences were written, or nothing was
-pub kept_or_differs : (Kept Differ : Type 0) (why : VerifyFault) → ((HasWritten why → ⊥) → Kept)
+-- so says one of any readers
+pub unseen_verification : (from : Origin) (slots : ℕ) (book tapes book_last tapes_last old new : Option (List ℕ))
+    (why : VerifyFault)
+    → IsVerifyFault from slots (record {
+      book_first = book;
+      book_last = book_last;
+      tapes_first = tapes;
+      tapes_last = tapes_last;
+    }) old new why
+    → status_of_verify_fault why ≡ 1
+    → (IsDifference why → ⊥)
+    → IfSome book (λ octets. IfSome tapes (IsUnverified from slots octets))
+unseen_verification from slots None tapes book_last tapes_last old new why told is none = tt
+unseen_verification from slots (Some book) None book_last tapes_last old new why told is none = tt
+unseen_verification from slots (Some book) (Some tapes) book_last tapes_last old new why told is none =
+    unseen_here from slots book tapes book_last tapes_last old new why told is none
+
+-- with status 1 the differences were written, or nothing was of tapes and a book that can't be judged
+pub unseen_or_differs : (Unseen Kept Differ : Type 0) (why : VerifyFault)
+    → (status_of_verify_fault why ≡ 1 → (IsDifference why → ⊥) → Unseen)
+    → ((HasWritten why → ⊥) → Kept)
     → (IsDifference why → Differ)
     → status_of_verify_fault why ≡ 1
-    → Kept ⊎ Differ
-kept_or_differs Kept Differ (fault.Run f) kept differs is = inl (kept (λ w. w))
-kept_or_differs Kept Differ (fault.Tapes f) kept differs is = inl (kept (λ w. w))
-kept_or_differs Kept Differ (fault.Differences n) kept differs is = inr (differs tt)
-kept_or_differs Kept Differ fault.Refused kept differs is = inl (kept (λ w. w))
-kept_or_differs Kept Differ fault.WriteFailed kept differs is = absurd (omega (arith, is))
+    → (Unseen × Kept) ⊎ Differ
+unseen_or_differs Unseen Kept Differ (fault.Run f) unseen kept differs is =
+    inl (unseen is (λ no. no), kept (λ w. w))
+unseen_or_differs Unseen Kept Differ (fault.Tapes f) unseen kept differs is =
+    inl (unseen is (λ no. no), kept (λ w. w))
+unseen_or_differs Unseen Kept Differ (fault.Differences n) unseen kept differs is = inr (differs tt)
+unseen_or_differs Unseen Kept Differ fault.Refused unseen kept differs is = absurd (omega (arith, is))
+unseen_or_differs Unseen Kept Differ fault.WriteFailed unseen kept differs is = absurd (omega (arith, is))
 
 -- a fault of the run is that of a book that wasn't read, or has one of these statuses
 run_status : (from : Origin) (slots : ℕ) (first last : Option (List ℕ)) (f : RunFault)

@@ -1,4 +1,5 @@
--- What is said of a task of one input is so of any task, whatever book there is beside it.
+-- What is said of a task of one input, which writes no table with status 1, is so of any task, whatever book there is
+-- beside it.
 use Rattle.std.proofs.Common.{◌≡◌, ◌≢◌, ◌⊎◌, ℕ, List, Option, IfSome, None, arith, false, true, inl, inr, refl, rules}
 use Rattle.std.specs.Io.KnownBytes.{Keeps}
 use Rattle.device_ends.specs.Moves.{WritesOutput}
@@ -7,14 +8,15 @@ use Rattle.device_ends.specs.Source.{reader_of, source_failed}
 use Rattle.device_ends.specs.declared.reading.Source.{Source}
 use Rattle.device_ends.specs.declared.writing.Sink.{Sink}
 use Rattle.warnc_cli.specs.Run.{AnyHasFailed, OneHasFailed}
-use Rattle.warnc_cli.specs.RunSteps.{HasRun, IsDoneBy, IsOfOneInput, IsRefusedBy, IsRunBetween, WroteFrontBy}
-use Rattle.warnc_cli.specs.RunSteps.{WroteFaultsBy, WroteSomeBy}
-use Rattle.warnc_cli.specs.Tasks.{Means, Refuses, RefusesOne, WritesAll, WritesDifferences, WritesFirstGroups}
+use Rattle.warnc_cli.specs.RunSteps.{HasRun, IsDoneBy, IsRefusedBy, IsRunBetween, IsSilent, WroteFaultsBy}
+use Rattle.warnc_cli.specs.RunSteps.{WroteFrontBy, WroteSomeBy}
+use Rattle.warnc_cli.specs.Tasks.{KeepsUnseen, Means, Refuses, RefusesOne, WritesAll, WritesDifferences}
+use Rattle.warnc_cli.specs.Tasks.{WritesFirstGroups}
 use Rattle.warnc_cli.specs.declared.command.Task.{Task}
 use Rattle.warnc_cli.specs.declared.command.Task.TheVariants as task
 
 -- what it writes
-writes : (t : Task) (book input old new : Option (List ℕ)) → IsOfOneInput t → WritesOutput (Means t) input old new
+writes : (t : Task) (book input old new : Option (List ℕ)) → IsSilent t → WritesOutput (Means t) input old new
     → WritesAll t book input old new
 writes (task.Verify from slots file workers) book input old new one wrote = absurd one
 writes (task.Page language id serial) book input old new one wrote = wrote
@@ -22,12 +24,12 @@ writes task.Read book input old new one wrote = wrote
 writes (task.Pcap settings) book input old new one wrote = wrote
 writes (task.Tape wanted) book input old new one wrote = wrote
 writes task.Groups book input old new one wrote = wrote
-writes task.Check book input old new one wrote = wrote
+writes task.Check book input old new one wrote = absurd one
 writes (task.Texts pages) book input old new one wrote = wrote
 writes (task.Make run made) book input old new one wrote = wrote
 
 -- what it refuses
-refuses : (t : Task) (book input : Option (List ℕ)) → IsOfOneInput t → IfSome input (RefusesOne t)
+refuses : (t : Task) (book input : Option (List ℕ)) → IsSilent t → IfSome input (RefusesOne t)
     → Refuses t book input
 refuses (task.Verify from slots file workers) book input one refused = absurd one
 refuses (task.Page language id serial) book input one refused = refused
@@ -35,7 +37,7 @@ refuses task.Read book input one refused = refused
 refuses (task.Pcap settings) book input one refused = refused
 refuses (task.Tape wanted) book input one refused = refused
 refuses task.Groups book input one refused = refused
-refuses task.Check book input one refused = refused
+refuses task.Check book input one refused = absurd one
 refuses (task.Texts pages) book input one refused = refused
 refuses (task.Make run made) book input one refused = refused
 
@@ -59,18 +61,32 @@ front : (t : Task) (book input old new : Option (List ℕ))
 front t book input old new (inl kept) = inl kept
 front t book input old new (inr wrote) = inr (groups t book input old new wrote)
 
--- or the differences
-any_front : (t : Task) (book input old new : Option (List ℕ))
+-- nothing, since it has no table
+unseen : (t : Task) (book input old new : Option (List ℕ)) → IsSilent t → Keeps old new
+    → KeepsUnseen t book input old new
+unseen (task.Verify from slots file workers) book input old new one kept = absurd one
+unseen (task.Page language id serial) book input old new one kept = (tt, kept)
+unseen task.Read book input old new one kept = (tt, kept)
+unseen (task.Pcap settings) book input old new one kept = (tt, kept)
+unseen (task.Tape wanted) book input old new one kept = (tt, kept)
+unseen task.Groups book input old new one kept = (tt, kept)
+unseen task.Check book input old new one kept = absurd one
+unseen (task.Texts pages) book input old new one kept = (tt, kept)
+unseen (task.Make run made) book input old new one kept = (tt, kept)
+
+-- or the first groups
+any_front : (t : Task) (book input old new : Option (List ℕ)) → IsSilent t
     → Keeps old new ⊎ WritesFirstGroups t None input old new
-    → Keeps old new ⊎ (WritesDifferences t book input old new ⊎ WritesFirstGroups t book input old new)
-any_front t book input old new (inl kept) = inl kept
-any_front t book input old new (inr wrote) = inr (inr (groups t book input old new wrote))
+    → KeepsUnseen t book input old new
+    ⊎ (WritesDifferences t book input old new ⊎ WritesFirstGroups t book input old new)
+any_front t book input old new one (inl kept) = inl (unseen t book input old new one kept)
+any_front t book input old new one (inr wrote) = inr (inr (groups t book input old new wrote))
 
 -- all of it
 pub of_one : {B R W : Type 0} (t : Task) (status : ℕ) (book_left : B → Option (List ℕ))
     (left : R → Option (List ℕ)) (held : W → Option (List ℕ)) (book : Source B) (first last : Source R)
     (old new : Sink W)
-    → IsOfOneInput t
+    → IsSilent t
     → IsDoneBy t status left held first old new
     → WroteSomeBy t status held old new
     → IsRefusedBy t status left first
@@ -85,7 +101,7 @@ of_one t status book_left left held book first last old new one done wrote refus
   refused = λ is. refuses t _ _ one (refused is);
   nothing_written = ends.nothing_written;
   untouched = ends.untouched;
-  of_refused = λ is. any_front t _ _ _ _ (early (inl is));
+  of_refused = λ is. any_front t _ _ _ _ one (early (inl is));
   of_memory = λ is. front t _ _ _ _ (early (inr is));
   device = λ is. inr (ends.device is);
   failed = λ sound input sink failed. by_end sound sink failed;
@@ -113,33 +129,23 @@ of_check status book_left left held book first last old new done wrote refused t
   refused = refused;
   nothing_written = ends.nothing_written;
   untouched = ends.untouched;
-  of_refused = λ is. faults (told (inl is));
-  of_memory = λ is. nothing is (told (inr is));
+  of_refused = λ is. faults (told.0 is);
+  of_memory = λ is. inl (told.1 is);
   device = λ is. inr (ends.device is);
   failed = λ sound input sink failed. by_end sound sink failed;
   no_book = λ none. refl;
 }
   where
-    faults : Keeps (held (writer_of old)) (held (writer_of new))
-        ⊎ ((status ≡ 1) × WritesDifferences task.Check None (left (reader_of first)) (held (writer_of old))
-        (held (writer_of new)))
-        → Keeps (held (writer_of old)) (held (writer_of new))
+    faults : KeepsUnseen task.Check None (left (reader_of first)) (held (writer_of old)) (held (writer_of new))
+        ⊎ WritesDifferences task.Check None (left (reader_of first)) (held (writer_of old)) (held (writer_of new))
+        → KeepsUnseen task.Check (book_left (reader_of book)) (left (reader_of first)) (held (writer_of old))
+        (held (writer_of new))
         ⊎ (WritesDifferences task.Check (book_left (reader_of book)) (left (reader_of first)) (held (writer_of old))
         (held (writer_of new))
         ⊎ WritesFirstGroups task.Check (book_left (reader_of book)) (left (reader_of first)) (held (writer_of old))
         (held (writer_of new)))
     faults (inl kept) = inl kept
-    faults (inr written) = inr (inl written.1)
-
-    nothing : status ≡ 4
-        → Keeps (held (writer_of old)) (held (writer_of new))
-        ⊎ ((status ≡ 1) × WritesDifferences task.Check None (left (reader_of first)) (held (writer_of old))
-        (held (writer_of new)))
-        → Keeps (held (writer_of old)) (held (writer_of new))
-        ⊎ WritesFirstGroups task.Check (book_left (reader_of book)) (left (reader_of first)) (held (writer_of old))
-        (held (writer_of new))
-    nothing is (inl kept) = inl kept
-    nothing is (inr written) = absurd (omega (arith, is, written.0))
+    faults (inr written) = inr (inl written)
 
     by_end : source_failed book ≡ false → sink_failed old ≡ false → AnyHasFailed book last new → status ≡ 3
     by_end sound sink (inl failed) = absurd (search (rules, sound, failed))

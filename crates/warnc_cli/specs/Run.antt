@@ -6,7 +6,7 @@ use Rattle.device_ends.specs.Source.{reader_of, source_failed}
 use Rattle.device_ends.specs.declared.reading.Source.{Source}
 use Rattle.device_ends.specs.declared.writing.Sink.{Sink}
 use Rattle.warnc_cli.specs.CommandLine.{asks_for_text, is_given}
-use Rattle.warnc_cli.specs.Tasks.{IsTaskOf, Refuses, WritesAll, WritesDifferences, WritesFirstGroups}
+use Rattle.warnc_cli.specs.Tasks.{IsTaskOf, KeepsUnseen, Refuses, WritesAll, WritesDifferences, WritesFirstGroups}
 use Rattle.warnc_cli.specs.declared.command.Task.{Task}
 
 -- what was written is so by what the readers of a book and of the input had left
@@ -64,11 +64,12 @@ MayWrite words status = (status ≡ 0) ⊎ ((status ≡ 3)
 abbrev pub WroteFirstGroups : (words : List (List ℕ)) (book input old new : Option (List ℕ)) → Type 0
 WroteFirstGroups words = WroteAs WritesFirstGroups words
 
--- what was written with status 1: nothing, or the differences of `verify` or the faults of `check`, or the first groups
--- of a network
+-- what was written with status 1: the differences of `verify` or the faults of `check`, and nothing only where they have
+-- none to write; the first groups of a network; and nothing by all other commands
 abbrev pub WroteOfRefused : (words : List (List ℕ)) (book input old new : Option (List ℕ)) → Type 0
 WroteOfRefused words book input old new =
-    Keeps old new ⊎ (WroteAs WritesDifferences words book input old new ⊎ WroteFirstGroups words book input old new)
+    WroteAs KeepsUnseen words book input old new
+    ⊎ (WroteAs WritesDifferences words book input old new ⊎ WroteFirstGroups words book input old new)
 
 -- and with status 4: nothing, or the first groups of a network
 abbrev pub WroteWithoutMemory : (words : List (List ℕ)) (book input old new : Option (List ℕ)) → Type 0

@@ -10,8 +10,8 @@ use Rattle.device_ends.specs.declared.reading.Source.{Source}
 use Rattle.device_ends.specs.declared.writing.Sink.{Sink}
 use Rattle.warnc_run.specs.declared.run.Books.TheVariants as books
 use Rattle.warnc_cli.specs.Run.{AnyHasFailed, ByInputs, OneHasFailed, WritesSome}
-use Rattle.warnc_cli.specs.Tasks.{AlwaysWrites, Means, Refuses, RefusesOne, WritesAll, WritesDifferences}
-use Rattle.warnc_cli.specs.Tasks.{WritesFirstGroups}
+use Rattle.warnc_cli.specs.Tasks.{AlwaysWrites, KeepsUnseen, Means, Refuses, RefusesOne, WritesAll}
+use Rattle.warnc_cli.specs.Tasks.{WritesDifferences, WritesFirstGroups}
 use Rattle.warnc_cli.specs.declared.command.Task.{Task}
 use Rattle.warnc_cli.specs.declared.command.Task.TheVariants as task
 
@@ -27,6 +27,12 @@ MayHaveWritten other status = (status ≡ 0) ⊎ (status ≡ 3)
 abbrev pub IsOfOneInput : Task → Type 0
 IsOfOneInput (task.Verify from slots file workers) = ⊥
 IsOfOneInput other = ⊤
+
+-- nor a table with status 1
+abbrev pub IsSilent : Task → Type 0
+IsSilent (task.Verify from slots file workers) = ⊥
+IsSilent task.Check = ⊥
+IsSilent other = ⊤
 
 -- what status 0 says of a task of one input
 abbrev pub IsDoneBy : {R W : Type 0} → Task → (status : ℕ) (left : R → Option (List ℕ)) (held : W → Option (List ℕ))
@@ -48,12 +54,14 @@ abbrev pub WroteFrontBy : {R W : Type 0} → Task → (status : ℕ) (left : R �
 WroteFrontBy task status left held first old new = (status ≡ 1) ⊎ (status ≡ 4) → Writes held Keeps old new
     ⊎ WritesFirstGroups task None (left (reader_of first)) (held (writer_of old)) (held (writer_of new))
 
--- what statuses 1 and 4 say of what `check` wrote: nothing, or with 1 the faults
+-- what statuses 1 and 4 say of what `check` wrote: with 1 the faults, or nothing of a book that is too long, and with 4
+-- nothing
 abbrev pub WroteFaultsBy : {R W : Type 0} → (status : ℕ) (left : R → Option (List ℕ))
     (held : W → Option (List ℕ)) → (first : Source R) → (old new : Sink W) → Type 0
-WroteFaultsBy status left held first old new = (status ≡ 1) ⊎ (status ≡ 4) → Writes held Keeps old new
-    ⊎ ((status ≡ 1) × WritesDifferences task.Check None (left (reader_of first)) (held (writer_of old))
-    (held (writer_of new)))
+WroteFaultsBy status left held first old new = (status ≡ 1
+    → KeepsUnseen task.Check None (left (reader_of first)) (held (writer_of old)) (held (writer_of new))
+    ⊎ WritesDifferences task.Check None (left (reader_of first)) (held (writer_of old)) (held (writer_of new)))
+    × (status ≡ 4 → Writes held Keeps old new)
 
 -- what the status of a task of one input says of both ends
 pub record IsRunBetween {R W : Type 0} (task : Task) (status : ℕ) (held : W → Option (List ℕ)) (last : Source R)
@@ -93,7 +101,7 @@ pub record HasRun {B R W : Type 0} (task : Task) (status : ℕ) (book_left : B �
   pub refused : status ≡ 1 → Refuses task (book_left (reader_of first_book)) (left (reader_of first))
   pub nothing_written : (MayHaveWritten task status → ⊥) → Writes held Keeps old new
   pub untouched : (MayHaveWritten task status → ⊥) → new ≡ old
-  pub of_refused : status ≡ 1 → Writes held Keeps old new
+  pub of_refused : status ≡ 1 → ByInputs book_left left held (KeepsUnseen task) first_book first old new
       ⊎ (ByInputs book_left left held (WritesDifferences task) first_book first old new
       ⊎ ByInputs book_left left held (WritesFirstGroups task) first_book first old new)
   pub of_memory : status ≡ 4 → Writes held Keeps old new

@@ -1,6 +1,6 @@
 -- What a command writes and refuses: by the task that the words ask for. Own.
 use Rattle.std.specs.Prelude.{◌≡◌, ⊤, ℕ, ◌<◌, ◌≤◌, ◌⊎◌, List, length, Option, IfSome}
-use Rattle.std.specs.Io.KnownBytes.{Appends}
+use Rattle.std.specs.Io.KnownBytes.{Appends, Keeps}
 use Rattle.alert_book.specs.declared.fault.BookFault.{BookFault}
 use Rattle.alert_book.specs.declared.fault.BookFaultKind.{BookFaultKind}
 use Rattle.alert_book.specs.declared.network.Origin.{Origin}
@@ -146,6 +146,11 @@ abbrev pub IsNoRunOf : Books → (slots parts : ℕ) (input : List ℕ) → Type
 IsNoRunOf (books.One from) = IsNoRun from
 IsNoRunOf books.EachGroup = IsNoNetworkRun
 
+-- nothing can be said of these tapes and this book: it is none or has no run; or it has one, and the tapes are no whole
+-- ones
+abbrev pub IsUnverified : (from : Origin) (slots : ℕ) (book tapes : List ℕ) → Type 0
+IsUnverified from slots book tapes = IsNoRun from slots 1 book ⊎ (HasRun from slots book × IsNoTapes tapes)
+
 -- these tapes don't keep this book: it is none or has no run; or it has one, and the tapes are no whole ones; or there
 -- is a difference
 abbrev pub IsNotVerified : (from : Origin) (slots : ℕ) (book tapes : List ℕ) → Type 0
@@ -171,6 +176,18 @@ Refuses (task.Verify from slots file workers) book input =
 Refuses other book input = IfSome input (RefusesOne other)
 
 -- What may be written with status 1 and 4.
+
+-- a task refuses what it reads and has no table to write of it: `verify` has no run or no tapes, and a book is too long
+-- for `check`. Other commands never write a table with status 1
+abbrev pub RefusesUnseen : Task → (book input : Option (List ℕ)) → Type 0
+RefusesUnseen (task.Verify from slots file workers) book input =
+    IfSome book (λ octets. IfSome input (IsUnverified from slots octets))
+RefusesUnseen task.Check book input = IfSome input (λ octets. max_book < length octets)
+RefusesUnseen other book input = ⊤
+
+-- so nothing was written
+abbrev pub KeepsUnseen : Task → (book input old new : Option (List ℕ)) → Type 0
+KeepsUnseen task book input old new = RefusesUnseen task book input × Keeps old new
 
 -- the parts of some first groups of a network were written
 abbrev pub WritesFirstGroups : Task → (book input old new : Option (List ℕ)) → Type 0

@@ -503,7 +503,7 @@ fn verify<'a>(alloc: Global) -> Result<Command<'a>, AllocError> {
 fn check<'a>(alloc: Global) -> Command<'a> {
     Command::new(alloc, "check")
         .about(
-            "Reads a book of alerts, as CSV, and writes every row that has a fault,\nits column, and what is wanted there, as CSV",
+            "Reads a book of alerts, as CSV, and writes every row that has a\nfault, its column, and what is wanted there, as CSV",
         )
         .after_help("Example: warnc check < book.csv")
 }
@@ -512,7 +512,7 @@ fn check<'a>(alloc: Global) -> Command<'a> {
 fn texts<'a>(alloc: Global) -> Result<Command<'a>, AllocError> {
     Command::new(alloc, "texts")
         .about(
-            "Reads a book of alerts, as CSV, and writes what each text of it costs:\nits coding, its pages, and what forces UCS-2, as CSV",
+            "Reads a book of alerts, as CSV, and writes what each text of it\ncosts: its coding, its pages, and what forces UCS-2, as CSV",
         )
         .after_help("Example: warnc texts --pages 2 < book.csv")
         .arg(pages(alloc))
@@ -668,7 +668,7 @@ fn pages<'a>(alloc: Global) -> Arg<'a> {
         alloc,
         "pages",
         "PAGES",
-        "Writes, too, to how many characters each text is cut\nso that it takes so many pages at most, 1 to 15",
+        "Writes, too, to how many characters each text is cut\nso that it takes at most this many pages, 1 to 15",
     )
     .value_parser(value_parser!(u16).range(1..=15))
 }

@@ -9,7 +9,7 @@ ghost use Rattle.warnc_cli.specs.Run.{AnyHasFailed, ByInputs, MayWrite, RefusesI
 ghost use Rattle.warnc_cli.specs.Run.{WritesSomeUnlessTapes, WroteOfRefused, WroteWhatIsAsked, WroteWithoutMemory};
 ghost use Rattle.warnc_cli.specs.RunSteps.{HasRun, IsDoneBy, IsRefusedBy, IsRunBetween, IsStatusOfSink};
 ghost use Rattle.warnc_cli.specs.RunSteps.{IsVerifyRunBetween, WroteFaultsBy, WroteFrontBy, WroteSomeBy};
-ghost use Rattle.warnc_cli.specs.Tasks.{IsNotVerified, WritesOutputOfBoth};
+ghost use Rattle.warnc_cli.specs.Tasks.{IsNotVerified, IsUnverified, WritesOutputOfBoth};
 ghost use Rattle.warnc_verify.specs.Verified.{HasDifferences, IsVerified};
 
 use crate::command::{Task, asks_for_text, task_of};
@@ -76,11 +76,11 @@ pub fn run_with_book<
     run_between(rt, words, &mut book, &mut source, &mut sink, faults)
 }
 
-/// The same, between the ends. With status 0 what the words ask for is written, with 2 and 4 nothing is, and with 1 the
-/// differences, if the words ask for `verify` and there are some, or the faults, if they ask for `check`, and else
-/// nothing. That is one octet at least, but for
-/// `compile` and `live`, since a book without cells has no tapes, and for the report of a group. Of a network whose run
-/// ends early the first groups are written with 1 and with 4.
+/// The same, between the ends. With status 0 what the words ask for is written. That is one octet at least, but for
+/// `compile` and `live`, since a book without cells has no tapes, and for the report of a group. With 2 and 4 nothing is
+/// written. With 1 `verify` has written the differences, or nothing where there is no run or no tape to judge; `check`
+/// has written the faults, or nothing of a book that is too long; other commands have written nothing. Of a network
+/// whose run ends early the first groups are written with 1 and with 4.
 pub fn run_between<
     T: AllocGlobal + Threads + Wait + Sync,
     S: AsStr,
@@ -348,8 +348,10 @@ fn run_verify<T: AllocGlobal + Threads + Wait + Sync, B: Read, R: Read, W: Write
     ensures wrote { result ≡ DONE → WritesSome (W.contents (writer_of sink.old)) (W.contents (writer_of sink.new)) }
     ensures refused { result ≡ REFUSED_INPUT → IfSome (B.remaining (reader_of book.old)) (λ octets.
         IfSome (R.remaining (reader_of tapes.old)) (IsNotVerified origin slots octets)) }
-    ensures differences { result ≡ REFUSED_INPUT → Keeps (W.contents (writer_of sink.old))
-        (W.contents (writer_of sink.new)) ⊎ WritesOutputOfBoth (HasDifferences origin slots)
+    ensures differences { result ≡ REFUSED_INPUT → (IfSome (B.remaining (reader_of book.old)) (λ octets.
+        IfSome (R.remaining (reader_of tapes.old)) (IsUnverified origin slots octets))
+        × Keeps (W.contents (writer_of sink.old)) (W.contents (writer_of sink.new)))
+        ⊎ WritesOutputOfBoth (HasDifferences origin slots)
         (B.remaining (reader_of book.old)) (R.remaining (reader_of tapes.old))
         (W.contents (writer_of sink.old)) (W.contents (writer_of sink.new)) }
 {

@@ -1,9 +1,9 @@
-use Rattle.std.proofs.Common.{◌≡◌, ◌⊎◌, ◌∙◌, ℕ, inl, inr, subst, sym}
+use Rattle.std.proofs.Common.{◌≡◌, ◌∙◌, arith, subst, sym}
 use Rattle.std.proofs.KnownBytes.{Keeps-refl}
 use Rattle.std.specs.Io.KnownBytes.{Keeps}
 use Rattle.device_ends.specs.Sink.{writer_of}
 use Rattle.warnc_cli.specs.Status.{status_of_check_fault}
-use Rattle.warnc_cli.proofs.Faulty.{check_between, kept_or_told, refused_check, some_names}
+use Rattle.warnc_cli.proofs.Faulty.{check_between, kept_without_memory, refused_check, some_names, unseen_or_written}
 use Rattle.warnc_cli.proofs.run.run_check.Goals as goal
 
 pub returns-in-Ok-clause-wrote : goal.returns-in-Ok-clause-wrote
@@ -12,6 +12,19 @@ returns-in-Ok-clause-wrote g c = λ is always. some_names _ _ _ c.in-Ok.ensures.
 pub returns-in-Err-clause-refused : goal.returns-in-Err-clause-refused
 returns-in-Err-clause-refused g c =
     λ is. refused_check _ _ _ c.in-Err.fault c.in-Err.ensures.err (sym c.failed.ensures ∙ is)
+
+pub returns-in-Err-clause-told : goal.returns-in-Err-clause-told
+returns-in-Err-clause-told g c =
+    let held = g.W.Write.contents in (
+      λ is. unseen_or_written _ _ _ _ c.in-Err.fault c.in-Err.ensures.err
+          (λ no. subst (λ sink. Keeps (held (writer_of c.args.sink.now)) (held (writer_of sink)))
+          (sym (c.in-Err.ensures.nothing_written no)) (Keeps-refl _))
+          (sym c.failed.ensures ∙ is),
+      λ is. kept_without_memory _ c.in-Err.fault
+          (λ no. subst (λ sink. Keeps (held (writer_of c.args.sink.now)) (held (writer_of sink)))
+          (sym (c.in-Err.ensures.nothing_written no)) (Keeps-refl _))
+          (sym c.failed.ensures ∙ is),
+    )
 
 pub returns-in-Err-clause-ends : goal.returns-in-Err-clause-ends
 returns-in-Err-clause-ends g c =

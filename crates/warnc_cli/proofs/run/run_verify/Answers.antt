@@ -2,8 +2,8 @@ use Rattle.std.proofs.Common.{sym, ◌∙◌, subst}
 use Rattle.std.proofs.KnownBytes.{Keeps-refl}
 use Rattle.std.specs.Io.KnownBytes.{Keeps}
 use Rattle.device_ends.specs.Sink.{writer_of}
-use Rattle.warnc_cli.proofs.NotVerified.{between, differences_written, kept_or_differs, refused_verification}
-use Rattle.warnc_cli.proofs.NotVerified.{some_written, table_written}
+use Rattle.warnc_cli.proofs.NotVerified.{between, differences_written, refused_verification, some_written}
+use Rattle.warnc_cli.proofs.NotVerified.{table_written, unseen_or_differs, unseen_verification}
 use Rattle.warnc_cli.proofs.run.run_verify.Goals as goal
 
 pub returns-in-Ok-clause-done : goal.returns-in-Ok-clause-done
@@ -20,7 +20,9 @@ returns-in-Err-clause-refused g c =
 pub returns-in-Err-clause-differences : goal.returns-in-Err-clause-differences
 returns-in-Err-clause-differences g c =
     let held = g.W.Write.contents in
-    λ is. kept_or_differs _ _ c.in-Err.fault
+    λ is. unseen_or_differs _ _ _ c.in-Err.fault
+    (λ one none. unseen_verification c.args.origin c.args.slots _ _ _ _ _ _ c.in-Err.fault c.in-Err.ensures.err one
+    none)
     (λ no. subst (λ sink. Keeps (held (writer_of c.args.sink.now)) (held (writer_of sink)))
     (sym (c.in-Err.ensures.nothing_written no)) (Keeps-refl _))
     (λ differs. differences_written c.args.origin c.args.slots _ _ _ c.in-Err.fault c.in-Err.ensures.err differs)

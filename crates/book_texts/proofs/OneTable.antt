@@ -1,0 +1,94 @@
+-- Octets have one table of texts at most.
+use Rattle.std.proofs.Common.{◌≡◌, ◌∙◌, ◌⊎◌, ℕ, ◌<◌, List, [], ◌∷◌, ◌++◌, length, take, ap, arith, inl, inr, refl, subst}
+use Rattle.std.proofs.Common.{sym, true, Option, Some, None}
+use Rattle.std.proofs.lemmas.Bool.{cases_lt}
+use Rattle.std.specs.Str.{chars}
+use Rattle.alert_book.proofs.OneAnswer.{one_meaning, right_or_wrong}
+use Rattle.alert_book.specs.Book.{sending_of, Rows}
+use Rattle.alert_book.specs.Row.{row_of}
+use Rattle.alert_book.specs.declared.book.order.Order.{Order}
+use Rattle.alert_book.specs.declared.book.order.Sending.{Sending}
+use Rattle.cbs_page.proofs.PagingLaws.{one_paging}
+use Rattle.cbs_page.specs.Text.{alphabet_for, capacity, cost_of}
+use Rattle.book_texts.specs.Cost.{room_after, IsCostOf}
+use Rattle.book_texts.specs.Fit.{ends_word, FitsIn, IsCut, IsWhole, NoneFits, NoneIsWhole}
+use Rattle.book_texts.specs.Laws.{TablesAreOne, TablesHaveRightRows}
+use Rattle.book_texts.specs.TextsOutput.{header_line, text_line, AreLinesOf, IsCutFor, IsLineOf}
+use Rattle.book_texts.specs.declared.cost.TextCost.{TextCost}
+
+-- what a text costs is one
+same_line : (order : Order) (sending : Sending) (one two : TextCost) (cut other : Option ℕ)
+    → IsCostOf (chars sending.text) one
+    → IsCostOf (chars sending.text) two
+    → cut ≡ other
+    → text_line order sending one cut ≡ text_line order sending two other
+same_line order sending one two cut other a b same =
+    let text = chars sending.text in
+    let pieces = one_paging (cost_of (alphabet_for text)) (capacity (alphabet_for text)) text a.pieces b.pieces a.paging
+    b.paging in
+    let alphabet : one.alphabet ≡ two.alphabet = a.alphabet ∙ sym b.alphabet in
+    let characters : one.characters ≡ two.characters = a.characters ∙ sym b.characters in
+    let pages : one.pages ≡ two.pages = a.pages ∙ ap length pieces ∙ sym b.pages in
+    let room : one.room ≡ two.room = a.room ∙ ap (room_after (alphabet_for text)) pieces ∙ sym b.room in
+    rw (alphabet, characters, pages, room, same) refl
+
+-- no cut of a text is longer than another
+not_longer : (pages : ℕ) (text : List ℕ) (n m : ℕ) → IsCut pages text n → IsCut pages text m → n < m → ⊥
+not_longer pages text n m one two more = by_end two.ends
+  where
+    by_front : NoneIsWhole pages text 0 → NoneFits pages text m
+        → ((0 < n) × (ends_word text n ≡ true)) ⊎ (NoneIsWhole pages text 0 × NoneFits pages text n) → ⊥
+    by_front no_word none_fits (inl whole) = no_word n whole.0 one.within (whole.1, one.fits)
+    by_front no_word none_fits (inr none) = none.1 m more two.within two.fits
+
+    by_end : ((0 < m) × (ends_word text m ≡ true)) ⊎ (NoneIsWhole pages text 0 × NoneFits pages text m) → ⊥
+    by_end (inl whole) = one.longest m more two.within (whole.1, two.fits)
+    by_end (inr none) = by_front none.0 none.1 one.ends
+
+-- a text is cut at one place
+one_cut : (pages : ℕ) (text : List ℕ) (n m : ℕ) → IsCut pages text n → IsCut pages text m → n ≡ m
+one_cut pages text n m one two =
+    elim (cases_lt n m) [
+      | inl less ↦ absurd (not_longer pages text n m one two less)
+      | inr some ↦
+          elim (cases_lt m n) [
+            | inl less ↦ absurd (not_longer pages text m n two one less)
+            | inr other ↦ omega (arith, some, other)
+          ]
+    ]
+
+one_cut_for : (pages : Option ℕ) (text : List ℕ) (cut other : Option ℕ) → IsCutFor pages text cut
+    → IsCutFor pages text other
+    → cut ≡ other
+one_cut_for None text cut other one two = one ∙ sym two
+one_cut_for (Some pages) text cut other one two =
+    one.2 ∙ ap (λ (n : ℕ). Some n) (one_cut pages text one.0 two.0 one.1 two.1) ∙ sym two.2
+
+-- an order has one line
+one_line : (pages : Option ℕ) (sent : Option Sending) (order : Order) (line other : List ℕ)
+    → IsLineOf pages sent order line
+    → IsLineOf pages sent order other
+    → line ≡ other
+one_line pages None order line other one two = one ∙ sym two
+one_line pages (Some sending) order line other one two =
+    let cut = one_cut_for pages (chars sending.text) one.2.0 two.2.0 one.2.1 two.2.1 in
+    one.2.2 ∙ same_line order sending one.0 two.0 one.2.0 two.2.0 one.1 two.1 cut ∙ sym two.2.2
+
+one_lines : (pages : Option ℕ) (orders : List Order) (lines others : List ℕ) → AreLinesOf pages orders lines
+    → AreLinesOf pages orders others
+    → lines ≡ others
+one_lines pages [] lines others one two = one ∙ sym two
+one_lines pages (order ∷ orders) lines others one two =
+    let first = one_line pages (sending_of order.action) order one.0 two.0 one.2 two.2 in
+    let rest = one_lines pages orders one.1 two.1 one.3 two.3 in
+    one.4 ∙ ap (λ (line : List ℕ). line ++ one.1) first ∙ ap (λ (more : List ℕ). two.0 ++ more) rest ∙ sym two.4
+
+pub tables_are_one : TablesAreOne
+tables_are_one pages input output another one two =
+    let rows = one_meaning row_of input one.rows two.rows one.read two.read in
+    let lines = one_lines pages two.rows.orders one.lines two.lines
+    (subst (λ (r : Rows). AreLinesOf pages r.orders one.lines) rows one.lines_are) two.lines_are in
+    one.written ∙ ap (λ (l : List ℕ). header_line pages ++ l) lines ∙ sym two.written
+
+pub tables_have_right_rows : TablesHaveRightRows
+tables_have_right_rows pages input output f table wrong = right_or_wrong row_of input table.rows f table.read wrong
