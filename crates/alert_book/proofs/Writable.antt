@@ -129,10 +129,10 @@ targets_asked live number cells asked =
     λ k d within. record { valid = kept k d within; some = some_cells _ (some k d within) }
 
 -- the requests of an order that is right, with its pages, can be written
-abbrev CanBeWritten : Request → Type 0
+abbrev pub CanBeWritten : Request → Type 0
 CanBeWritten request = is_writable request.message ≡ true
 
-requests_writable : (live : ℕ → Cell → Option ℕ) (order : Order) (sends : Action) (paged : Option Paged) →
+pub requests_writable : (live : ℕ → Cell → Option ℕ) (order : Order) (sends : Action) (paged : Option Paged) →
     IsRightAction sends → ArePagesOf (sending_of sends) paged → All CanBeWritten (requests_by live order sends paged)
 requests_writable live order (action.Write sending) None right pages = absurd pages
 requests_writable live order (action.Write sending) (Some paged) right pages =
@@ -154,10 +154,10 @@ requests_writable live order (action.Stop cells) None right pages =
 requests_writable live order (action.Stop cells) (Some paged) right pages = absurd pages
 
 -- so each request of a book's session can
-abbrev IsReady : Order × Option Paged → Type 0
+abbrev pub IsReady : Order × Option Paged → Type 0
 IsReady next = IsRightAction next.0.action × ArePagesOf (sending_of next.0.action) next.1
 
-orders_ready : (orders : List Order) (pages : List (Option Paged)) → All (λ order. IsRightAction order.action) orders →
+pub orders_ready : (orders : List Order) (pages : List (Option Paged)) → All (λ order. IsRightAction order.action) orders →
     HavePages orders pages → All IsReady (orders_with orders pages)
 orders_ready [] [] right have = All-nil IsReady
 orders_ready [] (paged ∷ pages) right have = absurd have

@@ -18,11 +18,9 @@ use Rattle.cbsp_wire.specs.Range.{cells_of_failures, contents_are_valid, is_cell
 use Rattle.cbsp_wire.specs.Range.{numbers_are_valid, values_are_valid}
 use Rattle.cbsp_wire.specs.Table.{presence_of}
 use Rattle.cbsp_wire.specs.Value.{Fields, fields_of}
-use Rattle.alert_book.specs.declared.network.Origin.{Origin}
 use Rattle.alert_book.specs.Book.{Contents}
-use Rattle.alert_book.specs.Origin.{IsBookFrom}
 use Rattle.alert_book.specs.Session.{cells_asked}
-use Rattle.alert_book.specs.TurnLaws.{AsksOncePerOrder, RequestsAreWritable, orders_in}
+use Rattle.alert_book.specs.TurnLaws.{AsksOncePerOrder, orders_in}
 use Rattle.alert_book.specs.Turns.{AreTurnsOf, Turn, is_asked}
 use Rattle.bsc_table.specs.declared.command.Category.{Category}
 use Rattle.bsc_table.specs.declared.command.Command.{Command}
@@ -30,6 +28,7 @@ use Rattle.bsc_table.specs.declared.command.Command.TheVariants as commands
 use Rattle.bsc_table.specs.declared.entry.Answer.{Answer}
 use Rattle.bsc_table.specs.Orders.{category_of, if_basic_channel, if_category_known, is_basic, order_of}
 use Rattle.order_desk.specs.Reply.{cells_answered}
+use Rattle.book_runs.specs.Fit.{IsFit}
 use Rattle.book_runs.specs.Run.{Exchange, IsExchange, asked_in, asked_of, asked_with}
 use Rattle.cbsp_wire.proofs.CellLists.{same_cell}
 
@@ -55,7 +54,7 @@ of_category : (category : Option Category) (cells named : List Cell) (channel : 
 of_category None cells named channel command asked order = absurd (cc)
 of_category (Some c) cells named channel command asked order = of_channel channel cells named command (asked c) order
 
-order_asks : (m : Message) (cells : List Cell) (command : Command) → order_of m ≡ Ok (cells, command)
+pub order_asks : (m : Message) (cells : List Cell) (command : Command) → order_of m ≡ Ok (cells, command)
     → cells ≡ cells_asked m
 order_asks (messages.Write id new old named channel category period broadcasts dcs contents) cells command order =
     sym (of_category (category_of category) cells named channel command
@@ -193,11 +192,11 @@ asked_by_turns cells c (x ∷ exchanges) are distinct =
     together false n k kept first later = omega arith
 
 -- a session of a part asks a cell at most once for each of the part's orders
-pub asked_few : RequestsAreWritable → AsksOncePerOrder → (from : Origin) (input : List ℕ) (book : Contents)
-    (part parts : ℕ) (cell : Cell) (exchanges : List Exchange) → IsBookFrom from input book
+pub asked_few : AsksOncePerOrder → (book : Contents) (part parts : ℕ) (cell : Cell) (exchanges : List Exchange)
+    → IsFit book
     → AreTurnsOf book part parts (map (λ x. x.turn) exchanges) → All (IsExchange book.cells) exchanges
     → length (asked_of cell exchanges) ≤ length (orders_in book part parts)
-asked_few writable once from input book part parts cell exchanges is session exchanged =
+asked_few once book part parts cell exchanges fit session exchanged =
     let turns : List Turn = map (λ x. x.turn) exchanges in
     let asked = asked_by_turns book.cells cell exchanges exchanged distinct in
     let few = once book part parts turns session.reached cell session.gone in
@@ -206,7 +205,7 @@ asked_few writable once from input book part parts cell exchanges is session exc
     distinct : All IsOfDistinct exchanges
     distinct k d within =
         let x : Exchange = get_or exchanges k d in
-        let written = writable from input book part parts (map (λ (y : Exchange). y.turn) exchanges) session.reached is
+        let written = fit.writable part parts (map (λ (y : Exchange). y.turn) exchanges) session.reached
         session.gone k d.turn
         (subst (λ n. k < n) (sym (length-map exchanges (λ (y : Exchange). y.turn))) within) in
         let here : is_writable x.turn.request.message ≡ true =

@@ -297,7 +297,7 @@ same_records laws slots exchanges (r ∷ records) (q ∷ rest) cells mine theirs
     (All-tail (IsRunOfBook slots exchanges) r records mine) (All-tail (IsRunOfBook slots exchanges) q rest theirs))
 
 -- so a book has one run
-one_run : (laws : OneRunLaws) (book : Contents) (slots : ℕ) (exchanges others : List Exchange)
+pub one_run : (laws : OneRunLaws) (book : Contents) (slots : ℕ) (exchanges others : List Exchange)
     (records rest : List Record) → IsRun book slots exchanges records → IsRun book slots others rest
     → (exchanges ≡ others) × (records ≡ rest)
 one_run laws book slots exchanges others records rest one two =

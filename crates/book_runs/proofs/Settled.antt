@@ -17,6 +17,10 @@ use Rattle.order_desk.specs.declared.note.Note.{Note}
 use Rattle.order_desk.specs.Agreement.{Agrees, IsRightNumber}
 use Rattle.order_desk.specs.Settled.{IsBookOf, IsPlayedOut}
 use Rattle.book_runs.specs.Live.{IsLiveRun, IsRunBy}
+use Rattle.alert_book.specs.TurnLaws.{AsksOncePerOrder}
+use Rattle.alert_book.specs.declared.network.Origin.{Origin}
+use Rattle.alert_book.specs.Origin.{IsBookFrom}
+use Rattle.book_runs.specs.Fit.{IsFit, SettledFitBooksAreRuns}
 use Rattle.book_runs.specs.LiveLaws.{SettledSessionsAreRuns}
 use Rattle.book_runs.specs.Run.{Exchange, entries_for, is_among}
 use Rattle.book_runs.specs.Sessions.{AreSessions, IsNoteOf, IsSessionOf, asks_of, is_of_command}
@@ -104,8 +108,8 @@ right_after passes before after agrees out k =
     (subst (λ (log : List Entry). IsRightNumber before.cell log passes k) (sym out.played.same_log) (agrees.numbers k))
 
 -- sessions whose desk is settled, and whose notes are those of their turns, are a run of the book
-pub settled_sessions_are_runs : BookLaws → SettledSessionsAreRuns
-settled_sessions_are_runs laws from input book slots parts desk passes records is some same_cells same_slots settled
+pub settled_fit_books_are_runs : AsksOncePerOrder → SettledFitBooksAreRuns
+settled_fit_books_are_runs once book slots parts desk passes records fit some same_cells same_slots settled
     are =
     let made = listed (λ k. IsSessionOf book k parts records (get_or passes k [])) parts
     (λ k within. (are k).own within) in
@@ -122,7 +126,7 @@ settled_sessions_are_runs laws from input book slots parts desk passes records i
     distinct : are_distinct (map (λ (r : Record). r.cell) records) ≡ true
     distinct = subst (λ (list : List Cell). are_distinct list ≡ true) (sym cells)
         (and_parts (nat_le (length book.cells) 64) (are_distinct book.cells)
-        (laws.cells_are_valid from input book is)).1
+        fit.cells).1
 
     long : length desk.books ≡ length records
     long = length_all_zip IsPlayedOut desk.books records settled.played
@@ -146,9 +150,9 @@ settled_sessions_are_runs laws from input book slots parts desk passes records i
           slots = have_slots records distinct k d within;
           among = own;
           past = λ q past. get_or_past sessions q [] (omega (arith, count, past));
-          few = λ q below. asked_few laws.writable laws.once_per_order from input book q parts (get_or records k d).cell
-              (get_or sessions q []) is (sess q [] below).turns (sess q [] below).exchanged;
-          orders = laws.orders_are_few from input book is;
+          few = λ q below. asked_few once book q parts (get_or records k d).cell
+              (get_or sessions q []) fit (sess q [] below).turns (sess q [] below).exchanged;
+          orders = fit.orders;
         }) in
         let same : (get_or records k d).slots ≡ slots = out.played.same_slots ∙ run in
         record {
@@ -171,3 +175,18 @@ settled_sessions_are_runs laws from input book slots parts desk passes records i
       exchanged = λ k d within. (sess k d (subst (λ n. k < n) count within)).exchanged;
       each = each sessions count sess;
     }
+
+-- so are those of a book that was read
+pub books_are_fit : BookLaws → (from : Origin) (input : List ℕ) (book : Contents) → IsBookFrom from input book
+    → IsFit book
+books_are_fit laws from input book is = record {
+  cells = laws.cells_are_valid from input book is;
+  orders = laws.orders_are_few from input book is;
+  writable = λ part parts turns reached goes. laws.writable from input book part parts turns reached is goes;
+}
+
+pub settled_sessions_are_runs : BookLaws → SettledSessionsAreRuns
+settled_sessions_are_runs laws from input book slots parts desk passes records is some same_cells same_slots settled
+    are =
+    settled_fit_books_are_runs laws.once_per_order book slots parts desk passes records
+    (books_are_fit laws from input book is) some same_cells same_slots settled are

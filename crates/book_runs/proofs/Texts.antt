@@ -28,7 +28,7 @@ use Rattle.cbch_blocks.specs.RecordBlocks.{pages_of_command}
 use Rattle.book_runs.proofs.Laws.{Laws}
 
 -- what a message for the basic channel asks for
-basic : (channel : Option ℕ) (asked cells : List Cell) (asks command : Command)
+pub basic : (channel : Option ℕ) (asked cells : List Cell) (asks command : Command)
     → if_basic_channel channel asked asks ≡ Ok (cells, command) → asks ≡ command
 basic channel asked cells asks command is = by_channel (is_basic channel) is
   where
@@ -41,7 +41,7 @@ basic channel asked cells asks command is = by_channel (is_basic channel) is
     by_channel false is = cc
 
 -- a write asks for a write of its fields
-written : (category : Option Category) (order : Category → Result (List Cell × Command) ℕ) (cells : List Cell)
+pub written : (category : Option Category) (order : Category → Result (List Cell × Command) ℕ) (cells : List Cell)
     (command : Command) → if_category_known category order ≡ Ok (cells, command)
     → (known : Category) × (order known ≡ Ok (cells, command))
 written None order cells command is = absurd (cc)

@@ -41,10 +41,10 @@ use Rattle.book_runs.specs.Live.{Interleaving}
 use Rattle.book_runs.specs.Run.{Exchange, IsExchange, asked_of, asked_with, entries_for, is_among}
 use Rattle.book_runs.specs.Sessions.{AreSessions, IsNoteOf, asks_of, is_of_command}
 
-abbrev one : Cell
+abbrev pub one : Cell
 one = cell_with 1 1
 
-abbrev other : Cell
+abbrev pub other : Cell
 other = cell_with 1 2
 
 -- contents of eight septets, and CR to the end
@@ -78,22 +78,22 @@ orders =
     ∷ []
 
 -- the book, whatever the pages of its texts
-abbrev book : (p q r : Paged) → Contents
+abbrev pub book : (p q r : Paged) → Contents
 book p q r =
     record { cells = one ∷ other ∷ []; orders = orders; pages = Some p ∷ Some q ∷ Some r ∷ None ∷ [] }
 
 -- the messages of the rows and the answers of the cells
-abbrev write : (id serial : ℕ) (old : Option ℕ) (cells : List Cell) (dcs : Dcs) (contents : List Content) → Message
+abbrev pub write : (id serial : ℕ) (old : Option ℕ) (cells : List Cell) (dcs : Dcs) (contents : List Content) → Message
 write id serial old cells dcs contents = messages.Write id serial old cells None (Some 2) 4 0 dcs contents
 
-abbrev asks : (id serial : ℕ) (old : Option ℕ) (dcs : Dcs) (contents : List Content) → Command
+abbrev pub asks : (id serial : ℕ) (old : Option ℕ) (dcs : Dcs) (contents : List Content) → Command
 asks id serial old dcs contents = commands.Write id serial old Normal dcs 4 0 contents
 
-abbrev request : (row at number : ℕ) (version : Option ℕ) (message : Message) → Request
+abbrev pub request : (row at number : ℕ) (version : Option ℕ) (message : Message) → Request
 request row at number version message =
     record { row = row; at = at; number = number; version = version; message = message }
 
-abbrev exchange : Request → Command → List (Cell × Answer) → Exchange
+abbrev pub exchange : Request → Command → List (Cell × Answer) → Exchange
 exchange asked command given = record {
   turn = record { request = asked; reply = reply_message command given };
   command = command;
@@ -103,19 +103,19 @@ exchange asked command given = record {
 abbrev both_started : List (Cell × Answer)
 both_started = (one, answers.Started 0) ∷ (other, answers.Started 0) ∷ []
 
-abbrev row_3 : (p : Paged) → Exchange
+abbrev pub row_3 : (p : Paged) → Exchange
 row_3 p = exchange (request 3 0 0 (Some 0) (write 4370 16 None (one ∷ other ∷ []) p.dcs p.pages.items))
     (asks 4370 16 None p.dcs p.pages.items) both_started
 
-abbrev row_4 : (q : Paged) → Exchange
+abbrev pub row_4 : (q : Paged) → Exchange
 row_4 q = exchange (request 4 0 1 (Some 0) (write 4383 32 None (one ∷ other ∷ []) q.dcs q.pages.items))
     (asks 4383 32 None q.dcs q.pages.items) both_started
 
-abbrev row_5 : (r : Paged) → Exchange
+abbrev pub row_5 : (r : Paged) → Exchange
 row_5 r = exchange (request 5 4 0 (Some 1) (write 4370 17 (Some 16) (one ∷ []) r.dcs r.pages.items))
     (asks 4370 17 (Some 16) r.dcs r.pages.items) ((one, answers.Replaced 4 1) ∷ [])
 
-abbrev row_6 : Exchange
+abbrev pub row_6 : Exchange
 row_6 = exchange (request 6 6 1 None (messages.Kill 4383 32 (other ∷ []) None)) (commands.Kill 4383 32)
     ((other, answers.Stopped 2) ∷ [])
 

@@ -6,3 +6,7 @@ pub mod Sessions
 pub mod Live
 pub mod LiveLaws
 pub mod OneRun
+pub mod CellParts
+pub mod WholeNetwork
+pub mod LiveParts
+pub mod Fit

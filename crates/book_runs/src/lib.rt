@@ -6,11 +6,17 @@
 //! theirs.
 #![tactic(auto)]
 
+ghost use Rattle.book_runs.specs.CellParts.{CellsRunApart, PartsInARow, PartsMakeTheWhole, RecordsAreThoseOfTheWhole};
+ghost use Rattle.book_runs.specs.CellParts.{TapesInARow};
+ghost use Rattle.book_runs.specs.Fit.{PartsAreFit, SettledFitBooksAreRuns};
 ghost use Rattle.book_runs.specs.LiveLaws.{LiveRunsAcceptWhatWasOrdered, LiveRunsShowTheBook, OneSessionIsARun};
 ghost use Rattle.book_runs.specs.LiveLaws.{SettledSessionsAreRuns};
+ghost use Rattle.book_runs.specs.LiveParts.{CellsLiveApart, LivePartsMakeTheWhole};
 ghost use Rattle.book_runs.specs.OneRun.{RunsAreOne};
 ghost use Rattle.book_runs.specs.Ordered.{RunsAcceptWhatWasOrdered};
 ghost use Rattle.book_runs.specs.RunLaws.{RunsShowTheBook};
+ghost use Rattle.book_runs.specs.WholeNetwork.{GroupsAreOfNetworks, GroupsAreParts, NetworksHaveOneRun};
+ghost use Rattle.book_runs.specs.WholeNetwork.{WholeNetworksAreCounted};
 
 /// States, as its contract, what the blocks of a book's run show. Does nothing: its body names the laws that carry it.
 pub fn run_laws()
@@ -65,4 +71,55 @@ pub fn session_laws()
     alert_book::session_laws();
     bsc_table::legal_histories();
     composition::composition_laws();
+}
+
+/// States, as its contract, that a book's cells don't depend on one another: what concerns some of them in the book's
+/// run is the run of their own book. Does nothing: its body names the laws that carry it.
+pub fn cells_law()
+    // What a run asks, has answered and airs in some cells is a run of these cells' book.
+    ensures apart { CellsRunApart }
+
+    // So each run of these cells' book has of them the records that each run of the whole book has.
+    ensures same { RecordsAreThoseOfTheWhole }
+
+    // And runs of some cells' book and of the others' are one of the whole book, cell by cell in its order.
+    ensures joined { PartsMakeTheWhole }
+
+    // So are those of any number of parts that have its cells one after the other, with the tapes one after the other.
+    ensures in_a_row { PartsInARow }
+    ensures tapes { TapesInARow }
+
+    // Such a part's book is fit to be run at a desk, which when it is settled has a run of it.
+    ensures fit { PartsAreFit }
+    ensures settled { SettledFitBooksAreRuns }
+{
+    alert_book::book_laws();
+    alert_book::network_laws();
+    alert_book::session_laws();
+    scheduler::air_laws();
+}
+
+/// States the same of runs that several sessions serve side by side. Does nothing: its body names the laws that carry
+/// it.
+pub fn live_cells_law()
+    ensures apart { CellsLiveApart }
+    ensures joined { LivePartsMakeTheWhole }
+{
+    alert_book::network_laws();
+}
+
+/// States, as its contract, that the runs of a network's groups are one run of all its cells. Does nothing: its body
+/// names the laws that carry it.
+pub fn networks_law()
+    // The book of a group is that of its cells, of the whole network's book.
+    ensures groups { GroupsAreParts }
+
+    // Each group's book is of such a network, which is counted by its cells.
+    ensures of_networks { GroupsAreOfNetworks }
+    ensures counted { WholeNetworksAreCounted }
+
+    // Runs of the books of all groups are one run of the whole network's.
+    ensures one_run { NetworksHaveOneRun }
+{
+    alert_book::book_laws();
 }

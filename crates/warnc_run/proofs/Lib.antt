@@ -5,3 +5,4 @@ pub mod Asked
 pub mod FirstFault
 pub mod OneOutput
 pub mod GroupParts
+mod Whole

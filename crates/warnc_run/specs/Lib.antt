@@ -8,3 +8,4 @@ pub mod Engine
 pub mod RunSteps
 pub mod NetworkSteps
 pub mod OneOutput
+pub mod Whole
