@@ -24,7 +24,8 @@ import tempfile
 
 from books import GROUP, Alert, Sending, cell_line, random_orders
 
-SCALE = 232792560
+# the height of a full cell in the picture of the loads
+FULL = 1008
 ELEMENTS = set("html head meta title style body h1 p details summary div b i bdi svg desc rect path span br".split())
 TEXTS = [
     "Stay in!",
@@ -151,9 +152,9 @@ def wrong_loads(page, slots):
     for cell in page.cells:
         line = next(it["load"] for it in cell["lines"] if "load" in it)
         steps = [(int(a), int(b)) for a, b in re.findall(r"H(\d+)V(\d+)", line)]
-        if not re.fullmatch(rf"M0 {SCALE}(H\d+V\d+)+z", line) or steps[-1] != (slots, SCALE):
+        if not re.fullmatch(rf"M0 {FULL}(H\d+V\d+)+z", line) or steps[-1] != (slots, FULL):
             yield f"{cell['name']}: {line} isn't a line over {slots} slots"
-        if any(height > SCALE for _, height in steps) or steps != sorted(set(steps)):
+        if any(height > FULL for _, height in steps) or steps != sorted(set(steps)):
             yield f"{cell['name']}: {line} leaves the picture"
 
 

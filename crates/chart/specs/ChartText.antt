@@ -6,7 +6,6 @@ use Rattle.std.specs.Fmt.{decimal}
 use Rattle.std.specs.List.{flat_map}
 use Rattle.std.specs.Io.KnownBytes.{Appends}
 use Rattle.hex.specs.Hex.{encode_lower}
-use Rattle.admission.specs.declared.measure.TheConstants.{SCALE}
 use Rattle.device_ends.specs.Moves.{AppendsFront}
 use Rattle.device_ends.specs.Stream.{Writes}
 use Rattle.device_ends.specs.declared.writing.Sink.{Sink}
@@ -134,13 +133,13 @@ axis slots = times.AXIS.now ++ ticks slots ++ times.AXIS_END.now
 unfoldable pub load_width : (slots : ℕ) → List ℕ
 load_width slots = loads.LOAD.now ++ decimal slots ++ loads.LOAD_BOX.now
 
--- and as high as SCALE, so that its upper edge is a full cell; the line begins and ends at its bottom
+-- and as high as a full cell, whose load is at its upper edge; the line begins and ends at its bottom
 unfoldable pub load_front : (slots : ℕ) → List ℕ
-load_front slots = load_width slots ++ decimal SCALE ++ loads.LOAD_PATH.now ++ decimal SCALE
+load_front slots = load_width slots ++ decimal loads.LOAD_HEIGHT ++ loads.LOAD_PATH.now ++ decimal loads.LOAD_HEIGHT
 
 unfoldable pub load_end : (slots : ℕ) → List ℕ
 load_end slots =
-    loads.TO_SLOT.now ++ decimal slots ++ loads.TO_LOAD.now ++ decimal SCALE ++ loads.LOAD_END.now
+    loads.TO_SLOT.now ++ decimal slots ++ loads.TO_LOAD.now ++ decimal loads.LOAD_HEIGHT ++ loads.LOAD_END.now
 
 abbrev pub load_picture : Record → List ℕ
 load_picture r = load_front r.slots ++ load_line r ++ load_end r.slots

@@ -30,15 +30,16 @@ pub const HEAD: &str = r#"<!DOCTYPE html>
 <title>Warnings by cell</title>
 <style>
 :root{color-scheme:light dark;--ground:#fff;--text:#1a1a1a;--faint:#666;--lane:#eef1f4}
-:root{--bar:#2f6fb3;--whole:#fff;--refusal:#b3261e}
+:root{--bar:#2f6fb3;--whole:#173f6e;--refusal:#b3261e}
 @media(prefers-color-scheme:dark){
 :root{--ground:#15181c;--text:#e6e6e6;--faint:#a0a6ac;--lane:#262c33}
-:root{--bar:#6fa8e0;--whole:#15181c;--refusal:#ff8a80}
+:root{--bar:#6fa8e0;--whole:#e3effb;--refusal:#ff8a80}
 }
 body{background:var(--ground);color:var(--text);font:15px/1.4 system-ui,sans-serif;margin:1.5em}
 summary{cursor:pointer;font-weight:600;margin:.8em 0 .4em}
 .line{align-items:center;display:grid;gap:.8em;grid-template-columns:minmax(8em,22em) 1fr;margin:.15em 0}
-.line p{margin:0;overflow:hidden;text-overflow:ellipsis;white-space:nowrap}
+.line p{display:flex;gap:.3em;margin:0;overflow:hidden;white-space:nowrap}
+.line bdi,.cause{flex:1;min-width:0;overflow:hidden;text-overflow:ellipsis}
 .line i{color:var(--faint)}
 svg{background:var(--lane);display:block;height:1.2em;width:100%}
 path{vector-effect:non-scaling-stroke}
@@ -46,9 +47,13 @@ path{vector-effect:non-scaling-stroke}
 .bar,.load{fill:var(--bar)}
 .whole{stroke:var(--whole)}
 .refusal{stroke:var(--refusal);stroke-width:4px}
-.line .axis{color:var(--faint);display:flex;font-size:.85em;justify-content:space-between;overflow:visible}
+.line .axis{color:var(--faint);font-size:.85em;justify-content:space-between;overflow:visible}
 .axis span{width:0}
 .axis span:last-child{margin-left:-5em;text-align:right;width:5em}
+@media(max-width:46em){
+body{margin:1em}
+.line{gap:.1em;grid-template-columns:minmax(0,1fr);margin:.5em 0}
+}
 </style>
 </head>
 <body>

@@ -1,15 +1,18 @@
 //! Laws of a chart.
 
 ghost use Rattle.chart.specs.Escape.{EscapedIsPlain};
-ghost use Rattle.chart.specs.Laws.{MarksAreCompleted};
+ghost use Rattle.chart.specs.Laws.{HeightsAreOfLoads, MarksAreCompleted};
 
-/// States, as its contract, what texts and marks are in a page. Does nothing: its body names the laws that carry it.
+/// States, as its contract, what texts, marks and loads are in a page. Does nothing: its body names the laws that carry it.
 pub fn chart_laws()
     // No text begins or ends a tag, or the value of an attribute.
     ensures escaped { EscapedIsPlain }
 
     // A message has as many marks as broadcasts of it were completed.
     ensures marks { MarksAreCompleted }
+
+    // The picture of the loads is as high as a full cell.
+    ensures heights { HeightsAreOfLoads }
 {
     bsc_table::guarantee();
     bsc_table::legal_histories();

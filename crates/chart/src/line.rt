@@ -36,10 +36,10 @@ pub const TEXT: &str = "</i> <bdi>";
 pub const TEXT_END: &str = "</bdi></p>\n";
 
 /// What comes after the name of a refused order.
-pub const REFUSED: &str = "</b> refused: ";
+pub const REFUSED: &str = "</b> <span class=\"cause\">refused: ";
 
 /// What comes after its cause.
-pub const CAUSE_END: &str = "</p>\n";
+pub const CAUSE_END: &str = "</span></p>\n";
 
 /// The front of a line's picture, up to its width.
 pub const PICTURE: &str = "<svg viewBox=\"0 0 ";

@@ -9,13 +9,21 @@ ghost use Rattle.bsc_table.specs.Record.{Record, claim_of, claims_in, claims_of}
 ghost use Rattle.bsc_table.specs.Room.{ClaimsFit};
 ghost use Rattle.chart.specs.ChartText.{load_end, load_front, load_picture, load_width};
 ghost use Rattle.chart.specs.Kept.{accepted_kept, all_kept, HavePeriods};
-ghost use Rattle.chart.specs.Load.{AreLoads, step_at, step_text};
+ghost use Rattle.chart.specs.Load.{height_of, step_at, step_text, AreLoads};
+ghost use Rattle.chart.specs.declared.load.TheConstants.{LOAD_HEIGHT};
 ghost use Rattle.chart.specs.Message.{end_within};
 
 use crate::kept::KeptMessage;
 use crate::page::Page;
 use admission::SCALE;
 use std::alloc::{AllocError, Global};
+
+/// How high the picture of the loads is, which is the height of a full cell: a divisor of [`SCALE`], since Firefox leaves
+/// a path out whose numbers are as great as that.
+pub const LOAD_HEIGHT: u64 = 1008;
+
+/// How much load is drawn one step higher.
+pub const LOAD_STEP: u64 = SCALE / LOAD_HEIGHT;
 
 /// The front of the picture of the loads, up to its width.
 pub const LOAD: &str =
@@ -99,6 +107,13 @@ pub(crate) fn loads_of(
     Ok(loads)
 }
 
+/// How far below the picture's top a load is drawn, in whole steps: a full cell at the top, none at the bottom.
+fn height_of(load: u64) -> u64
+    ensures { result ≡ height_of load }
+{
+    LOAD_HEIGHT.saturating_sub(load / LOAD_STEP)
+}
+
 /// Appends the line at a slot.
 fn push_step(page: &mut Page, slot: usize, before: u64, load: u64) -> Result<(), AllocError>
     ensures { OnOk result (page.new ≡ page.old ++ step_text slot before load) }
@@ -109,7 +124,7 @@ fn push_step(page: &mut Page, slot: usize, before: u64, load: u64) -> Result<(),
     page.markup(TO_SLOT)?;
     page.number(slot as u64)?;
     page.markup(TO_LOAD)?;
-    page.number(SCALE.saturating_sub(load))
+    page.number(height_of(load))
 }
 
 /// Appends the line over all slots.
@@ -127,9 +142,9 @@ fn push_line(page: &mut Page, loads: &[u64]) -> Result<(), AllocError>
 
 /// Appends the height of the picture's bottom. Heights are counted from the top, at which the cell is full.
 fn push_bottom(page: &mut Page) -> Result<(), AllocError>
-    ensures { OnOk result (page.new ≡ page.old ++ decimal SCALE) }
+    ensures { OnOk result (page.new ≡ page.old ++ decimal LOAD_HEIGHT) }
 {
-    page.number(SCALE)
+    page.number(LOAD_HEIGHT)
 }
 
 /// Appends the front of the picture of the loads, up to its height.

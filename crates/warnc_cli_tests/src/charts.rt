@@ -22,13 +22,13 @@ out -> <svg viewBox=\"0 0 4 10\" preserveAspectRatio=\"none\" role=\"img\"><titl
 out -> <desc>from slot 0 to slot 3, whole broadcasts: 3, shown</desc>
 out -> <rect class=\"bar\" height=\"10\" x=\"0\" width=\"3\"/>
 out -> <path class=\"whole\" d=\"M1 0v10M2 0v10M3 0v10\"/></svg></div>
-out -> <div class=\"line\"><p><b>2 0020</b> refused: BSC capacity exceeded (06)</p>
+out -> <div class=\"line\"><p><b>2 0020</b> <span class=\"cause\">refused: BSC capacity exceeded (06)</span></p>
 out -> <svg viewBox=\"0 0 4 10\" preserveAspectRatio=\"none\" role=\"img\"><title>2 0020</title>
 out -> <desc>refused at slot 1: BSC capacity exceeded (06)</desc>
 out -> <path class=\"refusal\" d=\"M1 0v10\"/></svg></div>
 out -> <div class=\"line\"><p>Reserved load</p>
-out -> <svg class=\"loads\" viewBox=\"0 0 4 232792560\" preserveAspectRatio=\"none\" role=\"img\"><title>Reserved load</title>
-out -> <path class=\"load\" d=\"M0 232792560H0V0H3V232792560H4V232792560z\"/></svg></div>
+out -> <svg class=\"loads\" viewBox=\"0 0 4 1008\" preserveAspectRatio=\"none\" role=\"img\"><title>Reserved load</title>
+out -> <path class=\"load\" d=\"M0 1008H0V0H3V1008H4V1008z\"/></svg></div>
 out -> <div class=\"line\"><p>Slot, time</p><p class=\"axis\">
 out -> <span>0<br>0.0 min</span>
 out -> <span>1<br>0.0 min</span>
@@ -58,7 +58,7 @@ past <b>4371 0020</b> <i>background</i> <bdi>Two</bdi> -> yes
 past <rect class=\"bar\" height=\"10\" x=\"0\" width=\"4\"/> -> yes
 past <i>normal</i> <bdi>&lt;script&gt;alert(&quot;1&quot;)&lt;/script&gt; &amp; &#39;so&#39;</bdi> -> yes
 past <rect class=\"bar\" height=\"10\" x=\"1\" width=\"3\"/> -> yes
-past d=\"M0 232792560H0V116396280H1V0H2V116396280H4V232792560z\" -> yes
+past d=\"M0 1008H0V504H1V0H2V504H4V1008z\" -> yes
 past </details> -> yes
 out -> </body>
 out -> </html>
@@ -73,7 +73,7 @@ args chart --slots 8
 run -> 0
 past <bdi>Three</bdi> -> yes
 past <rect class=\"bar\" height=\"10\" x=\"4\" width=\"4\"/> -> yes
-past d=\"M0 232792560H0V58198140H1V0H8V232792560z\" -> yes
+past d=\"M0 1008H0V252H1V0H8V1008z\" -> yes
 past </html> -> yes
 
 # a cell that the book doesn't have, and a book without cells

@@ -1,3 +1,4 @@
+use Rattle.std.proofs.Common.{arith, refl}
 use Rattle.chart.proofs.EscapeLaws.{escaped_is_plain}
 use Rattle.chart.proofs.MarkLaws.{marks_are_completed}
 use Rattle.chart.proofs.laws.chart_laws.Goals as goal
@@ -12,4 +13,5 @@ returns c = record {
     order = c.air_laws.ensures.in_order;
     last = c.air_laws.ensures.last_page_counts;
   });
+  heights = (refl, refl, λ load more less. omega (arith, less));
 }
