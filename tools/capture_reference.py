@@ -22,6 +22,10 @@ import sys
 import gsm
 from gsm import Refused
 
+# link types of libpcap, tags of virtual networks, and the type of IPv4 in Ethernet
+LINKS = (0, 1, 101, 108, 113, 228, 276)
+TAGS = (b"\x81\x00", b"\x88\xa8")
+IPV4 = b"\x08\x00"
 FRAMES = 51 * 26 * 2048
 SLOTS = FRAMES // 51 // 8
 CHANNELS = {51: 15, 52: 12}
@@ -89,8 +93,8 @@ def packets_of(octets):
     else:
         raise Refused("not a capture file")
     link = struct.unpack_from(order + "I", octets, 20)[0]
-    if link not in (1, 101, 228):
-        raise Refused("unknown link type")
+    if link not in LINKS:
+        raise Refused(f"unknown link type {link}: known are 0, 1, 101, 108, 113, 228 and 276")
     return link, each_packet(octets, order)
 
 
@@ -108,12 +112,37 @@ def each_packet(octets, order):
         place += size
 
 
+def internet_in(link, octets):
+    """Returns what follows the header of a packet's link; nothing, if that isn't IPv4."""
+    if link in (101, 228):
+        return octets
+    if link in (0, 108):
+        return octets[4:] if octets[:4] in (b"\2\0\0\0", b"\0\0\0\2") else b""
+    if link == 276:
+        return octets[20:] if octets[:2] == IPV4 else b""
+    octets = octets[12 if link == 1 else 14:]
+    for _ in range(2):
+        if octets[:2] in TAGS and len(octets) >= 4:
+            octets = octets[4:]
+    return octets[2:] if octets[:2] == IPV4 else b""
+
+
+def linked(rng, link, octets):
+    """Returns a packet of a link that has these octets, or, at times, another header."""
+    kind = IPV4 if rng.random() < 0.99 else b"\x08\x06"
+    tags = b"".join(rng.choice(TAGS) + rng.randbytes(2) for _ in range(rng.choice([0, 0, 0, 1, 2, 3])))
+    if link in (101, 228):
+        return octets
+    if link in (0, 108):
+        return rng.choice([b"\2\0\0\0", b"\0\0\0\2"]) + octets if kind == IPV4 else b"\x1e\0\0\0" + octets
+    if link == 276:
+        return kind + rng.randbytes(18) + octets
+    return rng.randbytes(12 if link == 1 else 14) + tags + kind + octets
+
+
 def block_in(link, octets, source):
     """Returns the frame number and the block that a packet carries, or None."""
-    if link == 1:
-        if len(octets) < 14 or octets[12:14] != b"\x08\x00":
-            return None
-        octets = octets[14:]
+    octets = internet_in(link, octets)
     if len(octets) < 20 or octets[0] >> 4 != 4 or octets[9] != 17:
         return None
     size = 4 * (octets[0] & 15)
@@ -211,13 +240,12 @@ def disturbed(rng, packets):
 def random_file(rng, tape):
     """A capture of a tape with another header, order, time and disturbance."""
     order, magic = rng.choice("<>"), rng.choice([0xA1B2C3D4, 0xA1B23C4D])
-    link = rng.choice([1, 101, 228])
+    link = rng.choice(LINKS)
     _, packets = packets_of(capture_of(tape, rng.random() < 0.3, rng.choice([12, 15])))
     inside = [octets for _, octets in packets]
     if rng.random() < 0.7:
         inside = disturbed(rng, inside)
-    if link == 1:
-        inside = [rng.randbytes(12) + (b"\x08\x00" if rng.random() < 0.99 else b"\x08\x06") + it for it in inside]
+    inside = [linked(rng, link, it) for it in inside]
     out = file_header(order, magic, link) + b"".join(packet(it, (rng.randrange(1 << 32), 7), order) for it in inside)
     if rng.random() < 0.1:
         out = out[:rng.randrange(len(out) + 1)]

@@ -7,7 +7,7 @@ use Rattle.byteorder.specs.Endian.{big_number, little_number}
 use Rattle.gsmtap.specs.declared.file.OctetOrder.{OctetOrder}
 use Rattle.gsmtap.specs.declared.file.OctetOrder.TheVariants.{HighFirst, LowFirst}
 use Rattle.gsmtap.specs.declared.file.Link.{Link}
-use Rattle.gsmtap.specs.declared.file.Link.TheVariants.{Ethernet, Internet}
+use Rattle.gsmtap.specs.declared.file.Link.TheVariants.{Cooked, CookedTwo, Ethernet, Internet, Loopback}
 
 -- the number in the first four octets
 abbrev pub number_in : OctetOrder → List ℕ → ℕ
@@ -24,13 +24,23 @@ octet_order_of header =
     if is_magic (little_number 4 header) then Some LowFirst
     else (if is_magic (big_number 4 header) then Some HighFirst else None)
 
--- what its packets begin with: 1 is Ethernet, 101 and 228 are IPv4 itself
+-- what its packets begin with (the link types of libpcap): 1 is Ethernet, 101 and 228 are IPv4 itself, 113 and 276 are
+-- Linux cooked headers, and 0 and 108 are those of BSD's loopback device
 abbrev pub link_numbered : ℕ → Option Link
 link_numbered number =
-    if number == 1 then Some Ethernet else (if number == 101 || number == 228 then Some Internet else None)
+    if number == 1 then Some Ethernet
+    else if number == 101 || number == 228 then Some Internet
+    else if number == 113 then Some Cooked
+    else if number == 276 then Some CookedTwo
+    else if number == 0 || number == 108 then Some Loopback
+    else None
+
+-- the link type that a header says
+abbrev pub link_number : OctetOrder → List ℕ → ℕ
+link_number order header = number_in order (drop 20 header)
 
 abbrev pub link_of : OctetOrder → List ℕ → Option Link
-link_of order header = link_numbered (number_in order (drop 20 header))
+link_of order header = link_numbered (link_number order header)
 
 -- a packet: sixteen octets that say when it came and how many octets follow, and these
 pub record Packet : Type 0 where

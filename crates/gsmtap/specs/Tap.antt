@@ -3,16 +3,48 @@
 use Rattle.std.specs.Prelude.{ℕ, ◌+◌, ◌-◌, ◌*◌, ◌/◌, ◌%◌, ◌==◌, ◌&&◌, ◌||◌, nat_le, Bool, true, List, length, take}
 use Rattle.std.specs.Prelude.{drop}
 use Rattle.std.specs.Prelude.{slice_index, Option, Some, None, option_and_then, if◌then◌else◌}
-use Rattle.byteorder.specs.Endian.{big_number}
+use Rattle.byteorder.specs.Endian.{big_number, little_number}
 use Rattle.gsmtap.specs.declared.file.Link.{Link}
-use Rattle.gsmtap.specs.declared.file.Link.TheVariants.{Ethernet, Internet}
+use Rattle.gsmtap.specs.declared.file.Link.TheVariants.{Cooked, CookedTwo, Ethernet, Internet, Loopback}
 use Rattle.gsmtap.specs.declared.tap.Sent.{Sent}
 
--- the IPv4 packet in a packet: after an Ethernet header of 14 octets whose type is IPv4, or the packet itself
+-- what follows a tag of a virtual network, of two octets that say that it is one and two more (IEEE 802.1Q)
+abbrev pub is_tag : ℕ → Bool
+is_tag number = number == 0x8100 || number == 0x88A8
+
+unfoldable pub without_tag : List ℕ → List ℕ
+without_tag octets = if nat_le 4 (length octets) && is_tag (big_number 2 octets) then drop 4 octets else octets
+
+-- what follows the type of IPv4
+unfoldable pub after_type : List ℕ → Option (List ℕ)
+after_type octets =
+    if nat_le 2 (length octets) && big_number 2 octets == 0x0800 then Some (drop 2 octets) else None
+
+-- what follows a header of so many octets, two tags at most, and the type of IPv4
+unfoldable pub after_header : (header : ℕ) → List ℕ → Option (List ℕ)
+after_header header octets =
+    if nat_le header (length octets) then after_type (without_tag (without_tag (drop header octets))) else None
+
+-- what follows a cooked header of the second version: it begins with the type, and has 20 octets
+unfoldable pub after_cooked_two : List ℕ → Option (List ℕ)
+after_cooked_two octets =
+    if nat_le 20 (length octets) && big_number 2 octets == 0x0800 then Some (drop 20 octets) else None
+
+-- what follows the number 2, IPv4's, in four octets: of whichever order the machine has that took it
+unfoldable pub after_family : List ℕ → Option (List ℕ)
+after_family octets =
+    if nat_le 4 (length octets) && (little_number 4 octets == 2 || big_number 4 octets == 2) then Some (drop 4 octets)
+    else None
+
+-- the IPv4 packet in a packet: the packet itself; or after two addresses of Ethernet, of six octets each; or after a
+-- header that Linux makes in place of that of any device, of 14 octets before the type, or with the type first; or
+-- after the family of the loopback device
 unfoldable pub internet_of : Link → List ℕ → Option (List ℕ)
 internet_of Internet octets = Some octets
-internet_of Ethernet octets =
-    if nat_le 14 (length octets) && big_number 2 (drop 12 octets) == 0x0800 then Some (drop 14 octets) else None
+internet_of Ethernet octets = after_header 12 octets
+internet_of Cooked octets = after_header 14 octets
+internet_of CookedTwo octets = after_cooked_two octets
+internet_of Loopback octets = after_family octets
 
 -- it comes from the wanted address, where one is wanted
 abbrev pub is_from : Option ℕ → List ℕ → Bool

@@ -4,7 +4,8 @@ use Rattle.std.specs.Prelude.{unwrap_or}
 use Rattle.std.specs.Prelude.{Option, Some, None, Result, Ok, Err}
 use Rattle.cbch_blocks.specs.Blocks.{idle_block}
 use Rattle.handset.specs.Tape.{tape_octets}
-use Rattle.gsmtap.specs.File.{ArePackets, IsCutPacket, Opens, Packet, link_of, octets_of_packets, octet_order_of}
+use Rattle.gsmtap.specs.File.{ArePackets, IsCutPacket, Opens, Packet, link_number, link_numbered, octets_of_packets}
+use Rattle.gsmtap.specs.File.{octet_order_of}
 use Rattle.gsmtap.specs.Tap.{sent_in}
 use Rattle.gsmtap.specs.Track.{Known, with_block}
 use Rattle.gsmtap.specs.declared.fault.AirFault.{AirFault}
@@ -93,16 +94,17 @@ pub record IsTapeOfCapture (wanted : Wanted) (input output : List ℕ) : Type 0 
 abbrev pub IsNoCapture : List ℕ → Type 0
 IsNoCapture input = (length input < 24) ⊎ (octet_order_of (take 24 input) ≡ None)
 
-pub record IsOtherLink (input : List ℕ) : Type 0 where
+pub record IsOtherLink (input : List ℕ) (number : ℕ) : Type 0 where
   pub long : 24 ≤ length input
   pub order : OctetOrder
   pub order_is : octet_order_of (take 24 input) ≡ Some order
-  pub link_is : link_of order (take 24 input) ≡ None
+  pub number_is : number ≡ link_number order (take 24 input)
+  pub unknown : link_numbered number ≡ None
 
 -- why an input has no tape, but for out of memory
 abbrev pub IsAirFaultOf : Wanted → List ℕ → (packet : ℕ) → AirFaultKind → Type 0
 IsAirFaultOf wanted input packet kind.NoCapture = (packet ≡ 0) × IsNoCapture input
-IsAirFaultOf wanted input packet kind.OtherLink = (packet ≡ 0) × IsOtherLink input
+IsAirFaultOf wanted input packet (kind.OtherLink number) = (packet ≡ 0) × IsOtherLink input number
 IsAirFaultOf wanted input packet kind.Short =
     IsFileWith input (λ order link after. HasShortPacket wanted order link after packet)
 IsAirFaultOf wanted input packet kind.Differs =

@@ -31,7 +31,7 @@ pub record BeginsWithPacket (order : OctetOrder) (octets inside rest : List ℕ)
 -- why octets are no packets that make a tape
 abbrev pub IsPacketFaultOf : Wanted → OctetOrder → Link → List ℕ → (packet : ℕ) → AirFaultKind → Type 0
 IsPacketFaultOf wanted order link octets packet kind.NoCapture = ⊥
-IsPacketFaultOf wanted order link octets packet kind.OtherLink = ⊥
+IsPacketFaultOf wanted order link octets packet (kind.OtherLink number) = ⊥
 IsPacketFaultOf wanted order link octets packet kind.Short = HasShortPacket wanted order link octets packet
 IsPacketFaultOf wanted order link octets packet kind.Differs =
     HasWrongPacket wanted order link octets (record { packet = packet; kind = kind.Differs })
@@ -45,7 +45,7 @@ IsPacketFault wanted order link octets fault = IsPacketFaultOf wanted order link
 -- a fault of a block, which is of one of two kinds
 abbrev pub IsBlockKind : AirFaultKind → Type 0
 IsBlockKind kind.NoCapture = ⊥
-IsBlockKind kind.OtherLink = ⊥
+IsBlockKind (kind.OtherLink number) = ⊥
 IsBlockKind kind.Short = ⊥
 IsBlockKind kind.Differs = Unit {0}
 IsBlockKind kind.StepsBack = Unit {0}

@@ -13,9 +13,9 @@ pub enum AirFaultKind {
     /// The file doesn't begin with the header of a classic capture file.
     #[error("not a capture file")]
     NoCapture,
-    /// The link type is none of 1, 101 and 228.
-    #[error("unknown link type")]
-    OtherLink,
+    /// The link type is this, and none of those that are known.
+    #[error("unknown link type {0}: known are 0, 1, 101, 108, 113, 228 and 276")]
+    OtherLink(u32),
     /// The file ends inside a packet.
     #[error("capture is short")]
     Short,

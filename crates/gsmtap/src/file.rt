@@ -1,7 +1,7 @@
 //! Capture files in the classic format of libpcap: their header, and the packet that comes next.
 
 ghost use Rattle.std.specs.Prelude.{◌≡◌, ◌<◌, ◌≤◌, length};
-ghost use Rattle.gsmtap.specs.File.{is_magic, link_numbered, link_of, number_in, octet_order_of};
+ghost use Rattle.gsmtap.specs.File.{is_magic, link_number, link_numbered, number_in, octet_order_of};
 
 use byteorder::{BigEndian, ByteOrder, LittleEndian};
 
@@ -21,6 +21,12 @@ pub enum Link {
     Ethernet,
     /// A header of IPv4, link types 101 and 228.
     Internet,
+    /// A header that Linux makes in place of that of any device, link type 113.
+    Cooked,
+    /// The second version of such a header, link type 276.
+    CookedTwo,
+    /// A header of BSD's loopback device, link types 0 and 108.
+    Loopback,
 }
 
 /// The number in the first four octets.
@@ -55,23 +61,24 @@ pub fn order_of(header: &[u8]) -> Option<OctetOrder>
     }
 }
 
-/// The link type of a file, by its header.
-pub fn link_of(order: OctetOrder, header: &[u8]) -> Option<Link>
+/// The number of a file's link type, by its header.
+pub fn link_number(order: OctetOrder, header: &[u8]) -> u32
     requires { length header.now ≡ 24 }
-    ensures { result ≡ link_of order header.now }
+    ensures { result ≡ link_number order header.now }
 {
-    link_numbered(number_in(order, &header[20..]))
+    number_in(order, &header[20..])
 }
 
 /// The link type of this number.
-fn link_numbered(number: u32) -> Option<Link>
+pub fn link_numbered(number: u32) -> Option<Link>
     ensures { result ≡ link_numbered number }
 {
-    if number == 1 {
-        Some(Link::Ethernet)
-    } else if number == 101 || number == 228 {
-        Some(Link::Internet)
-    } else {
-        None
+    match number {
+        1 => Some(Link::Ethernet),
+        101 | 228 => Some(Link::Internet),
+        113 => Some(Link::Cooked),
+        276 => Some(Link::CookedTwo),
+        0 | 108 => Some(Link::Loopback),
+        _ => None,
     }
 }

@@ -1,13 +1,20 @@
 //! The block that a packet carries in GSMTAP.
 
 ghost use Rattle.std.specs.Prelude.{◌≡◌, ◌≤◌, length, option_copied, option_map};
-ghost use Rattle.gsmtap.specs.Tap.{block_of, datagram_of, internet_of, is_from, payload_of, sent_in};
+ghost use Rattle.gsmtap.specs.Tap.{after_cooked_two, after_family, after_header, after_type, block_of, datagram_of};
+ghost use Rattle.gsmtap.specs.Tap.{internet_of, is_from, is_tag, payload_of, sent_in, without_tag};
 
 use crate::file::Link;
-use byteorder::{BigEndian, ByteOrder};
+use byteorder::{BigEndian, ByteOrder, LittleEndian};
 
 /// The port of GSMTAP.
 const PORT: u16 = 4729;
+
+/// The type of IPv4 in a header of Ethernet.
+const INTERNET: u16 = 0x0800;
+
+/// The number of IPv4 in a header of the loopback device.
+const FAMILY: u32 = 2;
 
 /// A block that was sent.
 #[derive(Clone, Copy, Debug, PartialEq, Eq)]
@@ -36,13 +43,79 @@ fn internet_of(link: Link, octets: &[u8]) -> Option<&[u8]>
 {
     match link {
         Link::Internet => Some(octets),
-        Link::Ethernet => {
-            if octets.len() >= 14 && BigEndian::read_u16(&octets[12..]) == 0x0800 {
-                Some(&octets[14..])
-            } else {
-                None
-            }
-        }
+        Link::Ethernet => after_header(12, octets),
+        Link::Cooked => after_header(14, octets),
+        Link::CookedTwo => after_cooked_two(octets),
+        Link::Loopback => after_family(octets),
+    }
+}
+
+/// Whether a type is that of a tag of a virtual network (IEEE 802.1Q).
+fn is_tag(number: u16) -> bool
+    ensures { result ≡ is_tag number }
+{
+    number == 0x8100 || number == 0x88A8
+}
+
+/// What follows a tag of a virtual network, if octets begin with one.
+#[tactic(auto, unfolding(crate::specs::Tap::without_tag))]
+fn without_tag(octets: &[u8]) -> &[u8]
+    ensures { result.now ≡ without_tag octets.now }
+{
+    if octets.len() >= 4 && is_tag(BigEndian::read_u16(octets)) {
+        &octets[4..]
+    } else {
+        octets
+    }
+}
+
+/// What follows the type of IPv4.
+#[tactic(auto, unfolding(crate::specs::Tap::after_type))]
+fn after_type(octets: &[u8]) -> Option<&[u8]>
+    ensures { option_copied result ≡ after_type octets.now }
+{
+    if octets.len() >= 2 && BigEndian::read_u16(octets) == INTERNET {
+        Some(&octets[2..])
+    } else {
+        None
+    }
+}
+
+/// What follows a header of so many octets, two tags at most, and the type of IPv4.
+#[tactic(auto, unfolding(crate::specs::Tap::after_header))]
+fn after_header(header: usize, octets: &[u8]) -> Option<&[u8]>
+    ensures { option_copied result ≡ after_header header octets.now }
+{
+    if octets.len() < header {
+        return None;
+    }
+    after_type(without_tag(without_tag(&octets[header..])))
+}
+
+/// What follows a cooked header of the second version, which begins with the type.
+#[tactic(auto, unfolding(crate::specs::Tap::after_cooked_two))]
+fn after_cooked_two(octets: &[u8]) -> Option<&[u8]>
+    ensures { option_copied result ≡ after_cooked_two octets.now }
+{
+    if octets.len() >= 20 && BigEndian::read_u16(octets) == INTERNET {
+        Some(&octets[20..])
+    } else {
+        None
+    }
+}
+
+/// What follows the number of IPv4 in a header of the loopback device. The machine that took it chose the order of its
+/// octets.
+#[tactic(auto, unfolding(crate::specs::Tap::after_family))]
+fn after_family(octets: &[u8]) -> Option<&[u8]>
+    ensures { option_copied result ≡ after_family octets.now }
+{
+    if octets.len() >= 4
+        && (LittleEndian::read_u32(octets) == FAMILY || BigEndian::read_u32(octets) == FAMILY)
+    {
+        Some(&octets[4..])
+    } else {
+        None
     }
 }
 

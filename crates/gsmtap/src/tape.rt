@@ -10,7 +10,7 @@ ghost use Rattle.gsmtap.specs.TapeSteps.{BeginsWithPacket, IsBlockKind, IsPacket
 ghost use Rattle.gsmtap.specs.Tap.{sent_in};
 
 use crate::fault::{AirFault, AirFaultKind};
-use crate::file::{Link, OctetOrder, link_of, number_in, order_of};
+use crate::file::{Link, OctetOrder, link_number, link_numbered, number_in, order_of};
 use crate::tap::sent_in;
 use crate::track::Air;
 use cbch_blocks::idle;
@@ -52,8 +52,9 @@ pub fn tape_of_capture(alloc: Global, input: &[u8], wanted: &Wanted) -> Result<V
     let Some(order) = order_of(header) else {
         return Err(fault_at(0, AirFaultKind::NoCapture));
     };
-    let Some(link) = link_of(order, header) else {
-        return Err(fault_at(0, AirFaultKind::OtherLink));
+    let number = link_number(order, header);
+    let Some(link) = link_numbered(number) else {
+        return Err(fault_at(0, AirFaultKind::OtherLink(number)));
     };
     match read_packets(alloc, wanted, order, link, packets) {
         Ok(air) => Ok(tape_of(alloc, wanted, &air)?),
