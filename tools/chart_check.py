@@ -26,7 +26,7 @@ from books import GROUP, Alert, Sending, cell_line, random_orders
 
 # the height of a full cell in the picture of the loads
 FULL = 1008
-ELEMENTS = set("html head meta title style body h1 p details summary div b i bdi svg desc rect path span br".split())
+ELEMENTS = set("html head meta title style body h1 h2 p details summary div b i bdi svg desc rect path span br".split())
 TEXTS = [
     "Stay in!",
     "<script>document.title='wrong'</script>",
@@ -81,7 +81,7 @@ class Page(html.parser.HTMLParser):
 
     def handle_data(self, text):
         inside = self.inside[-1] if self.inside else ""
-        if inside == "summary":
+        if inside == "h2":
             self.cells[-1]["name"] += text
         elif inside == "title" and "svg" not in self.inside:
             self.title += text

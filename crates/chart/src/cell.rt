@@ -17,13 +17,13 @@ use std::alloc::{AllocError, Global};
 use std::slice;
 
 /// The front of a cell, up to its location area code.
-pub const CELL: &str = "<details open>\n<summary>Cell ";
+pub const CELL: &str = "<details open>\n<summary><h2>Cell ";
 
 /// Between the location area code and the cell identity.
 pub const DASH: &str = "-";
 
 /// What comes after a cell's name.
-pub const NAME_END: &str = "</summary>\n";
+pub const NAME_END: &str = "</h2></summary>\n";
 
 /// The end of a cell.
 pub const CELL_END: &str = "</details>\n";

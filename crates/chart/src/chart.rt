@@ -36,10 +36,12 @@ pub const HEAD: &str = r#"<!DOCTYPE html>
 :root{--bar:#6fa8e0;--whole:#e3effb;--refusal:#ff8a80}
 }
 body{background:var(--ground);color:var(--text);font:15px/1.4 system-ui,sans-serif;margin:1.5em}
-summary{cursor:pointer;font-weight:600;margin:.8em 0 .4em}
+summary{cursor:pointer;margin:.8em 0 .4em}
+h2{display:inline;font-size:1em}
 .line{align-items:center;display:grid;gap:.8em;grid-template-columns:minmax(8em,22em) 1fr;margin:.15em 0}
 .line p{display:flex;gap:.3em;margin:0;overflow:hidden;white-space:nowrap}
 .line bdi,.cause{flex:1;min-width:0;overflow:hidden;text-overflow:ellipsis}
+.line:hover p,.line p:active{white-space:normal}
 .line i{color:var(--faint)}
 svg{background:var(--lane);display:block;height:1.2em;width:100%}
 path{vector-effect:non-scaling-stroke}
@@ -53,7 +55,16 @@ path{vector-effect:non-scaling-stroke}
 @media(max-width:46em){
 body{margin:1em}
 .line{gap:.1em;grid-template-columns:minmax(0,1fr);margin:.5em 0}
+.line p{white-space:normal}
+.axis span{font-size:.85em}
 }
+@media print{
+:root{--lane:#fff}
+svg{border:1px solid var(--faint);print-color-adjust:exact;-webkit-print-color-adjust:exact}
+.line{break-inside:avoid}
+.line p{white-space:normal}
+}
+@media(prefers-contrast:more){:root{--faint:var(--text)}svg{outline:1px solid var(--text)}}
 </style>
 </head>
 <body>
@@ -74,10 +85,10 @@ it is full.</p>
 pub const FOOT: &str = "</body>\n</html>\n";
 
 /// The front of a group of a network, up to its number.
-pub const GROUP: &str = "<details>\n<summary>Group ";
+pub const GROUP: &str = "<details>\n<summary><h2>Group ";
 
 /// What comes after a group's number.
-pub const GROUP_NAME_END: &str = "</summary>\n";
+pub const GROUP_NAME_END: &str = "</h2></summary>\n";
 
 /// The end of a group.
 pub const GROUP_FOOT: &str = "</details>\n";

@@ -16,7 +16,7 @@ out -> <!DOCTYPE html>
 past <p>A run of 4 slots of 1.883 s, 0.1 minutes. -> yes
 past it is full.</p> -> yes
 out -> <details open>
-out -> <summary>Cell 1-1</summary>
+out -> <summary><h2>Cell 1-1</h2></summary>
 out -> <div class=\"line\"><p><b>1 0010</b> <i>high</i> <bdi>One</bdi></p>
 out -> <svg viewBox=\"0 0 4 10\" preserveAspectRatio=\"none\" role=\"img\"><title>1 0010</title>
 out -> <desc>from slot 0 to slot 3, whole broadcasts: 3, shown</desc>
@@ -51,7 +51,7 @@ args chart --slots 4 --cell 1-2 --workers 2
 run -> 0
 past it is full.</p> -> yes
 out -> <details open>
-out -> <summary>Cell 1-2</summary>
+out -> <summary><h2>Cell 1-2</h2></summary>
 past <b>4370 0010</b> <i>normal</i> <bdi>One</bdi> -> yes
 past <rect class=\"bar\" height=\"10\" x=\"0\" width=\"1\"/> -> yes
 past <b>4371 0020</b> <i>background</i> <bdi>Two</bdi> -> yes

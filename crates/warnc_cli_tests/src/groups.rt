@@ -65,25 +65,25 @@ run -> 0
 out -> <!DOCTYPE html>
 past it is full.</p> -> yes
 out -> <details>
-out -> <summary>Group 1</summary>
+out -> <summary><h2>Group 1</h2></summary>
 out -> <details open>
-out -> <summary>Cell 1-64</summary>
+out -> <summary><h2>Cell 1-64</h2></summary>
 past </details> -> yes
 out -> </details>
 out -> </body>
 out -> </html>
 args chart --slots 2 --network
 run -> 0
-past <summary>Group 0</summary> -> yes
-past <summary>Cell 1-0</summary> -> yes
-past <summary>Group 1</summary> -> yes
-past <summary>Cell 1-64</summary> -> yes
+past <summary><h2>Group 0</h2></summary> -> yes
+past <summary><h2>Cell 1-0</h2></summary> -> yes
+past <summary><h2>Group 1</h2></summary> -> yes
+past <summary><h2>Cell 1-64</h2></summary> -> yes
 past </html> -> yes
 args chart --slots 2 --group 1
 run -> 0
 past it is full.</p> -> yes
 out -> <details open>
-out -> <summary>Cell 1-64</summary>
+out -> <summary><h2>Cell 1-64</h2></summary>
 past </html> -> yes
 
 # and is no book of 64 cells
