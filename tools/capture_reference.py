@@ -140,7 +140,7 @@ def linked(rng, link, octets):
     return rng.randbytes(12 if link == 1 else 14) + tags + kind + octets
 
 
-def block_in(link, octets, source):
+def block_in(link, octets, source, channel):
     """Returns the frame number and the block that a packet carries, or None."""
     octets = internet_in(link, octets)
     if len(octets) < 20 or octets[0] >> 4 != 4 or octets[9] != 17:
@@ -159,19 +159,21 @@ def block_in(link, octets, source):
     octets = octets[8:size]
     if len(octets) < 16:
         return None
-    version, words, kind, _, arfcn, _, _, frame, channel = struct.unpack_from(">BBBBHbbIB", octets)
-    if (version, kind) != (2, 1) or words < 4 or arfcn & 0x4000 or channel not in (12, 15):
+    version, words, kind, _, arfcn, _, _, frame, sent_on = struct.unpack_from(">BBBBHbbIB", octets)
+    if (version, kind) != (2, 1) or words < 4 or arfcn & 0x4000 or sent_on not in (12, 15):
+        return None
+    if channel is not None and arfcn & 0x3FFF != channel:
         return None
     if len(octets) != 4 * words + gsm.BLOCK:
         return None
     return frame, octets[4 * words:]
 
 
-def tape_of(octets, lac, cell, slots, source=None):
+def tape_of(octets, lac, cell, slots, source=None, channel=None):
     link, packets = packets_of(octets)
     blocks, first, last = {}, None, None
     for number, inside in packets:
-        found = block_in(link, inside, source)
+        found = block_in(link, inside, source, channel)
         if found is None:
             continue
         frame, block = found
@@ -209,6 +211,7 @@ def foreign(rng):
         internet(source, target, 1, datagram(good[:-1])),
         internet(source, target, 1, datagram(good + b"+")),
         internet(source, target, 1, datagram(gsmtap(at, 15, block, 0x4000))),
+        internet(source, target, 1, datagram(gsmtap(at, 15, block, rng.choice([1, 0x8000, 1023])))),
         internet(source, target, 1, datagram(gsmtap(at, 7, block))),
         internet(source, target, 1, datagram(b"\1" + good[1:])),
         internet(source, target, 1, datagram(good[:2] + b"\2" + good[3:])),
@@ -286,8 +289,10 @@ def compare(program, runs):
         file = random_file(rng, tape)
         wanted = rng.choice([slots, slots, max(1, slots - 1), slots + 3])
         source = rng.choice([None, None, tape[:4], b"\x0A\0\0\1"])
+        channel = rng.choice([None, None, 0, 1])
         back += [str(wanted)] + ([] if source is None else ["--from", ".".join(map(str, source))])
-        mine = made(tape_of, file, lac, cell, wanted, source)
+        back += [] if channel is None else ["--arfcn", str(channel)]
+        mine = made(tape_of, file, lac, cell, wanted, source, channel)
         assert ran(program, back, file) == mine, f"run {run}: {back}: {mine if isinstance(mine, str) else 'a tape'}"
         kind = "a tape" if isinstance(mine, bytes) else mine.split(": ")[-1]
         counts[kind] = counts.get(kind, 0) + 1

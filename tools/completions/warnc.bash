@@ -40,7 +40,7 @@ _warnc() {
             page) words="--lang --id --scope --code --update -h --help" ;;
             live) words="--slots --group --network --sessions --workers -h --help" ;;
             pcap) words="--used --channel -h --help" ;;
-            tape) words="--cell --slots --from -h --help" ;;
+            tape) words="--cell --slots --from --arfcn -h --help" ;;
             groups) words="-h --help" ;;
             help) words="check texts compile report chart read verify page live pcap tape groups" ;;
             esac

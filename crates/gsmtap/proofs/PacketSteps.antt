@@ -14,6 +14,7 @@ use Rattle.gsmtap.specs.declared.fault.AirFaultKind.{AirFaultKind}
 use Rattle.gsmtap.specs.declared.fault.AirFaultKind.TheVariants as kind
 use Rattle.gsmtap.specs.declared.file.Link.{Link}
 use Rattle.gsmtap.specs.declared.file.OctetOrder.{OctetOrder}
+use Rattle.gsmtap.specs.declared.tape.Sender.{Sender}
 use Rattle.gsmtap.specs.declared.tape.Wanted.{Wanted}
 
 -- so many whole packets stand before what is left, and this is known by them
@@ -57,7 +58,7 @@ shorter order octets inside rest begins =
     omega (arith, whole, length-append packet.header packet.octets, begins.is.sixteen)
 
 -- one packet more
-after_more : (link : Link) (from : Option ℕ) (number : ℕ) (state : Result Known AirFaultKind) (packets : List Packet)
+after_more : (link : Link) (from : Sender) (number : ℕ) (state : Result Known AirFaultKind) (packets : List Packet)
     (packet : Packet) (known : Known) → after_packets link from number state packets ≡ Ok known →
     after_packets link from number state (packets ++ packet ∷ [])
     ≡ after_packets link from (number + length packets + 1) (after_packet link from known packet) []
@@ -84,7 +85,7 @@ taken_more wanted link packets packet known is =
     after_more link wanted.from 0 (Ok (nothing_known wanted.slots)) packets packet known is
     ∙ ap (λ n. after_packets link wanted.from n (after_packet link wanted.from known packet) []) here
 
-after_inside : (link : Link) (from : Option ℕ) (known : Known) (packet : Packet) (inside : List ℕ)
+after_inside : (link : Link) (from : Sender) (known : Known) (packet : Packet) (inside : List ℕ)
     (result : Result Known AirFaultKind) → inside ≡ packet.octets →
     after_sent known (sent_in link from inside) ≡ result →
     after_packet link from known packet ≡ result

@@ -17,6 +17,7 @@ use Rattle.gsmtap.proofs.Chunks.{chunks_each, chunks_long}
 use Rattle.gsmtap.proofs.TapeSteps.{blocks_joined, blocks_of_slots}
 use Rattle.gsmtap.specs.Laws.{CaptureHasTheTape}
 use Rattle.gsmtap.specs.declared.capture.Settings.{Settings}
+use Rattle.gsmtap.specs.declared.tape.Sender.{Sender}
 use Rattle.gsmtap.specs.declared.tape.Wanted.{Wanted}
 use Rattle.handset.specs.Tape.{cell_in, octets_of_blocks, tape_octets}
 use Rattle.gsmtap.specs.declared.fault.AirFaultKind.{AirFaultKind}
@@ -25,7 +26,7 @@ use Rattle.gsmtap.specs.declared.file.OctetOrder.{OctetOrder}
 use Rattle.gsmtap.specs.Packet.{datagram_header, frame_number, internet_header, packet, record_header, tap_header}
 use Rattle.std.proofs.lemmas.List.{length-append, length_push, take_all}
 use Rattle.gsmtap.specs.Track.{Known, ahead, followed, nearest, place_in, put, put_at, slot_of_frame, with_block}
-use Rattle.gsmtap.specs.Tap.{block_of, datagram_of, internet_of, payload_of, sent_in}
+use Rattle.gsmtap.specs.Tap.{anyone, block_of, datagram_of, internet_of, payload_of, sent_in}
 use Rattle.gsmtap.specs.declared.file.Link.TheVariants.{Internet}
 use Rattle.gsmtap.specs.declared.file.OctetOrder.TheVariants.{LowFirst}
 use Rattle.gsmtap.specs.declared.packet.Channel.{Channel}
@@ -78,7 +79,7 @@ payload_there channel place block long =
     rw long (ap (λ xs. Some (tap_header channel place ++ xs)) (take_all 23 block (omega (arith, long))))
 
 block_there : (channel : Channel) (place : Place) (block : List ℕ) → length block ≡ 23 →
-    block_of (tap_header channel place ++ block) ≡ Some (record { frame = frame_number channel place; block = block })
+    block_of None (tap_header channel place ++ block) ≡ Some (record { frame = frame_number channel place; block = block })
 unfolding tap_header block_of
 block_there BesideSdcch4 place block long =
     rw long (ap (λ (f : ℕ). Some (record { frame = f; block = block }))
@@ -90,7 +91,7 @@ block_there BesideSdcch8 place block long =
     (frame_fits BesideSdcch8 place)))
 
 sent_there : (channel : Channel) (place : Place) (block : List ℕ) → length block ≡ 23 →
-    sent_in Internet None (inside_of channel place block)
+    sent_in Internet anyone (inside_of channel place block)
     ≡ Some (record { frame = frame_number channel place; block = block })
 unfolding sent_in internet_of
 sent_there channel place block long =
@@ -191,7 +192,7 @@ next_packet : (channel : Channel) (cell : Cell) (slot block : ℕ) (octets : Lis
     (done : List (List ℕ)) (left : ℕ) → length octets ≡ 23 →
     block < 4 → nat_lt block 4 ≡ true → length done ≡ 4 * slot + block →
     followed track (slot % 6656) ≡ Some (record { first = 0; slot = slot }) →
-    after_packet Internet None (record { track = track; blocks = sofar done (suc left) })
+    after_packet Internet anyone (record { track = track; blocks = sofar done (suc left) })
     (packet_at channel (at cell slot block) octets)
     ≡ Ok (record { track = Some (record { first = 0; slot = slot }); blocks = sofar (done ++ octets ∷ []) left })
 unfolding after_packet
@@ -261,7 +262,7 @@ on_whole channel cell slot (octets ∷ rest) each =
     (on_whole channel cell (slot + 1) rest each.1)
 
 -- packets one after another
-after_append : (link : Link) (from : Option ℕ) (number : ℕ) (state : Result Known AirFaultKind)
+after_append : (link : Link) (from : Sender) (number : ℕ) (state : Result Known AirFaultKind)
     (front back : List Packet) (known : Known) → after_packets link from number state front ≡ Ok known →
     after_packets link from number state (front ++ back)
     ≡ after_packets link from (number + length front) (Ok known) back
@@ -284,7 +285,7 @@ known_at slot done left = record { track = Some (record { first = 0; slot = slot
 slot_taken : (channel : Channel) (cell : Cell) (slot number : ℕ) (octets : List ℕ) (track : Option Track)
     (done : List (List ℕ)) (left : ℕ) → length octets ≡ 92 → length done ≡ 4 * slot →
     followed track (slot % 6656) ≡ Some (record { first = 0; slot = slot }) →
-    after_packets Internet None number (Ok (record { track = track; blocks = sofar done (suc (suc (suc (suc left)))) }))
+    after_packets Internet anyone number (Ok (record { track = track; blocks = sofar done (suc (suc (suc (suc left)))) }))
     (packets_in channel cell slot 0 (blocks_in_slot octets))
     ≡ Ok (known_at slot (done ++ blocks_in_slot octets) left)
 slot_taken channel cell slot number octets track done left long many leads =
@@ -302,14 +303,14 @@ slot_taken channel cell slot number octets track done left long many leads =
     let many3 : length three ≡ 4 * slot + 3 = length_push two c ∙ omega (arith, many2) in
     let whole : ((((done ++ a ∷ []) ++ b ∷ []) ++ c ∷ []) ++ d ∷ []) ≡ done ++ blocks_in_slot octets =
     simp append_assoc in
-    ap (λ state. after_packets Internet None (number + 1) state (packets_in channel cell slot 1 (b ∷ c ∷ d ∷ [])))
+    ap (λ state. after_packets Internet anyone (number + 1) state (packets_in channel cell slot 1 (b ∷ c ∷ d ∷ [])))
     (next_packet channel cell slot 0 a track done (suc (suc (suc left))) each.0 (lit< tt) refl
     (omega (arith, many)) leads)
-    ∙ ap (λ state. after_packets Internet None (number + 1 + 1) state (packets_in channel cell slot 2 (c ∷ d ∷ [])))
+    ∙ ap (λ state. after_packets Internet anyone (number + 1 + 1) state (packets_in channel cell slot 2 (c ∷ d ∷ [])))
     (next_packet channel cell slot 1 b track' one (suc (suc left)) each.1.0 (lit< tt) refl many1 (leads_same slot))
-    ∙ ap (λ state. after_packets Internet None (number + 1 + 1 + 1) state (packets_in channel cell slot 3 (d ∷ [])))
+    ∙ ap (λ state. after_packets Internet anyone (number + 1 + 1 + 1) state (packets_in channel cell slot 3 (d ∷ [])))
     (next_packet channel cell slot 2 c track' two (suc left) each.1.1.0 (lit< tt) refl many2 (leads_same slot))
-    ∙ ap (λ state. after_packets Internet None (number + 1 + 1 + 1 + 1) state [])
+    ∙ ap (λ state. after_packets Internet anyone (number + 1 + 1 + 1 + 1) state [])
     (next_packet channel cell slot 3 d track' three left each.1.1.1.0 (lit< tt) refl many3 (leads_same slot))
     ∙ ap (λ blocks. Ok (known_at slot blocks left)) whole
 
@@ -318,7 +319,7 @@ all_taken : (channel : Channel) (cell : Cell) (slot number : ℕ) (slots : List 
     (done : List (List ℕ)) → AllByRecursion (λ slot. length slot ≡ 92) slots → length done ≡ 4 * slot →
     followed track (slot % 6656) ≡ Some (record { first = 0; slot = slot }) →
     (known : Known)
-    × (after_packets Internet None number (Ok (record { track = track; blocks = sofar done (4 * length slots) }))
+    × (after_packets Internet anyone number (Ok (record { track = track; blocks = sofar done (4 * length slots) }))
     (packets_on channel cell slot slots) ≡ Ok known)
     × (known.blocks ≡ map Some (done ++ blocks_of_slots slots))
 all_taken channel cell slot number [] track done each many leads = (
@@ -337,10 +338,10 @@ all_taken channel cell slot number (octets ∷ rest) track done each many leads 
     let others = all_taken channel cell (slot + 1) (number + length front) rest
     (Some (record { first = 0; slot = slot })) (done ++ blocks) each.1 after (leads_next slot) in (
       others.0,
-      ap (λ n. after_packets Internet None number (Ok (record { track = track; blocks = sofar done n }))
+      ap (λ n. after_packets Internet anyone number (Ok (record { track = track; blocks = sofar done n }))
           (front ++ back))
           four
-          ∙ after_append Internet None number
+          ∙ after_append Internet anyone number
           (Ok (record { track = track; blocks = sofar done (suc (suc (suc (suc left)))) })) front back
           (known_at slot (done ++ blocks) left)
           (slot_taken channel cell slot number octets track done left each.0 many leads)
@@ -353,7 +354,7 @@ all_known [] = refl
 all_known (block ∷ blocks) = ap (λ rest. block ∷ rest) (all_known blocks)
 
 packets_taken : (wanted : Wanted) (channel : Channel) (cell : Cell) (slots : List (List ℕ)) →
-    wanted.from ≡ None → wanted.slots ≡ length slots → AllByRecursion (λ slot. length slot ≡ 92) slots →
+    wanted.from ≡ anyone → wanted.slots ≡ length slots → AllByRecursion (λ slot. length slot ≡ 92) slots →
     (known : Known) × (taken wanted Internet (packets_on channel cell 0 slots) ≡ Ok known)
     × (known.blocks ≡ map Some (blocks_of_slots slots))
 unfolding taken
@@ -362,7 +363,7 @@ packets_taken wanted channel cell slots anywhere many each =
       all.0,
       ap (λ from. after_packets Internet from 0 (Ok (nothing_known wanted.slots)) (packets_on channel cell 0 slots))
           anywhere
-          ∙ ap (λ n. after_packets Internet None 0 (Ok (nothing_known n)) (packets_on channel cell 0 slots)) many
+          ∙ ap (λ n. after_packets Internet anyone 0 (Ok (nothing_known n)) (packets_on channel cell 0 slots)) many
           ∙ all.1,
       all.2,
     )
@@ -370,7 +371,7 @@ packets_taken wanted channel cell slots anywhere many each =
 -- the tape of a capture of a tape is that tape
 pub there_and_back : CaptureHasTheTape
 there_and_back cell channel slots few each =
-    let wanted : Wanted = record { cell = cell; slots = length slots; from = None } in
+    let wanted : Wanted = record { cell = cell; slots = length slots; from = anyone } in
     let settings : Settings = record { channel = channel; slots = All } in
     let said : Cell = cell_in (tape_octets cell (length slots) []) in
     let packets : List Packet = packets_on channel said 0 slots in

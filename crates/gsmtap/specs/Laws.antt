@@ -1,9 +1,10 @@
 -- A law of captures (own), over the definitions alone: there and back.
-use Rattle.std.specs.Prelude.{◌≡◌, ℕ, ◌≤◌, List, [], ◌∷◌, length, None}
+use Rattle.std.specs.Prelude.{◌≡◌, ℕ, ◌≤◌, List, [], ◌∷◌, length}
 use Rattle.std.specs.List.{AllByRecursion}
 use Rattle.cbsp_wire.specs.declared.message.Cell.{Cell}
 use Rattle.handset.specs.Tape.{max_slots, tape_octets}
 use Rattle.gsmtap.specs.Capture.{Tape, capture, octets_of_tape}
+use Rattle.gsmtap.specs.Tap.{anyone}
 use Rattle.gsmtap.specs.TapeOfCapture.{IsTapeOfCapture}
 use Rattle.gsmtap.specs.declared.capture.Slots.TheVariants.{All}
 use Rattle.gsmtap.specs.declared.packet.Channel.{Channel}
@@ -17,6 +18,6 @@ abbrev pub CaptureHasTheTape : Type 0
 CaptureHasTheTape =
     (cell : Cell) (channel : Channel) (slots : List (List ℕ)) → length slots ≤ max_slots →
     AllByRecursion (λ slot. length slot ≡ 92) slots →
-    IsTapeOfCapture (record { cell = cell; slots = length slots; from = None })
+    IsTapeOfCapture (record { cell = cell; slots = length slots; from = anyone })
     (capture (record { channel = channel; slots = All }) (tape_with cell slots ∷ []))
     (octets_of_tape (tape_with cell slots))

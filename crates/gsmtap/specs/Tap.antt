@@ -7,6 +7,7 @@ use Rattle.byteorder.specs.Endian.{big_number, little_number}
 use Rattle.gsmtap.specs.declared.file.Link.{Link}
 use Rattle.gsmtap.specs.declared.file.Link.TheVariants.{Cooked, CookedTwo, Ethernet, Internet, Loopback}
 use Rattle.gsmtap.specs.declared.tap.Sent.{Sent}
+use Rattle.gsmtap.specs.declared.tape.Sender.{Sender}
 
 -- what follows a tag of a virtual network, of two octets that say that it is one and two more (IEEE 802.1Q)
 abbrev pub is_tag : ℕ → Bool
@@ -70,12 +71,17 @@ payload_of octets =
     && nat_le (big_number 2 (drop 4 octets)) (length octets)
     then Some (take (big_number 2 (drop 4 octets) - 8) (drop 8 octets)) else None
 
+-- it names the wanted radio channel, where one is wanted: in the low 14 bits of a number
+abbrev pub is_on : Option ℕ → List ℕ → Bool
+is_on None octets = true
+is_on (Some arfcn) octets = big_number 2 (drop 4 octets) % 0x4000 == arfcn
+
 -- the block in GSMTAP: version 2, a header of four words at least, type 1 (a block of the Um interface), downlink (bit
 -- 14 of the ARFCN is 0), channel 12 or 15, and 23 octets after the header. It has the number of its frame
-unfoldable pub block_of : List ℕ → Option Sent
-block_of octets =
+unfoldable pub block_of : Option ℕ → List ℕ → Option Sent
+block_of arfcn octets =
     if nat_le 16 (length octets) && slice_index octets 0 == 2 && nat_le 4 (slice_index octets 1)
-    && slice_index octets 2 == 1 && slice_index octets 4 / 64 % 2 == 0
+    && slice_index octets 2 == 1 && slice_index octets 4 / 64 % 2 == 0 && is_on arfcn octets
     && (slice_index octets 12 == 12 || slice_index octets 12 == 15)
     && length octets == 4 * slice_index octets 1 + 23
     then Some (record {
@@ -84,7 +90,11 @@ block_of octets =
     }) else None
 
 -- the block that a packet carries
-unfoldable pub sent_in : Link → Option ℕ → List ℕ → Option Sent
+unfoldable pub sent_in : Link → Sender → List ℕ → Option Sent
 sent_in link from octets =
-    option_and_then (λ internet. option_and_then (λ datagram. option_and_then block_of (payload_of datagram))
-    (datagram_of from internet)) (internet_of link octets)
+    option_and_then (λ internet. option_and_then (λ datagram. option_and_then (block_of from.arfcn) (payload_of datagram))
+    (datagram_of from.address internet)) (internet_of link octets)
+
+-- whoever sends
+abbrev pub anyone : Sender
+anyone = record { address = None; arfcn = None }

@@ -14,6 +14,7 @@ use Rattle.gsmtap.specs.declared.fault.AirFaultKind.TheVariants as kind
 use Rattle.gsmtap.specs.declared.file.Link.{Link}
 use Rattle.gsmtap.specs.declared.file.OctetOrder.{OctetOrder}
 use Rattle.gsmtap.specs.declared.tap.Sent.{Sent}
+use Rattle.gsmtap.specs.declared.tape.Sender.{Sender}
 use Rattle.gsmtap.specs.declared.tape.Wanted.{Wanted}
 
 -- what is known before the first packet: there are four blocks for each slot
@@ -26,10 +27,10 @@ abbrev pub after_sent : Known → Option Sent → Result Known AirFaultKind
 after_sent known None = Ok known
 after_sent known (Some sent) = with_block known sent
 
-unfoldable pub after_packet : Link → Option ℕ → Known → Packet → Result Known AirFaultKind
+unfoldable pub after_packet : Link → Sender → Known → Packet → Result Known AirFaultKind
 after_packet link from known packet = after_sent known (sent_in link from packet.octets)
 
-abbrev pub after_packets : Link → Option ℕ → (number : ℕ) → Result Known AirFaultKind → List Packet →
+abbrev pub after_packets : Link → Sender → (number : ℕ) → Result Known AirFaultKind → List Packet →
     Result Known AirFault
 after_packets link from number (Ok known) [] = Ok known
 after_packets link from number (Err why) [] = Err (record { packet = number; kind = why })

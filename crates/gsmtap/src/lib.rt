@@ -18,4 +18,4 @@ pub use capture::{CaptureFault, Settings, Slots, capture_of};
 pub use fault::{AirFault, AirFaultKind};
 pub use laws::capture_laws;
 pub use packet::{Channel, Place, push_packet};
-pub use tape::{Wanted, tape_of_capture};
+pub use tape::{Sender, Wanted, tape_of_capture};

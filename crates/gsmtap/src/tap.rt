@@ -2,9 +2,10 @@
 
 ghost use Rattle.std.specs.Prelude.{◌≡◌, ◌≤◌, length, option_copied, option_map};
 ghost use Rattle.gsmtap.specs.Tap.{after_cooked_two, after_family, after_header, after_type, block_of, datagram_of};
-ghost use Rattle.gsmtap.specs.Tap.{internet_of, is_from, is_tag, payload_of, sent_in, without_tag};
+ghost use Rattle.gsmtap.specs.Tap.{internet_of, is_from, is_on, is_tag, payload_of, sent_in, without_tag};
 
 use crate::file::Link;
+use crate::tape::Sender;
 use byteorder::{BigEndian, ByteOrder, LittleEndian};
 
 /// The port of GSMTAP.
@@ -25,15 +26,15 @@ pub struct Sent {
     pub block: [u8; 23],
 }
 
-/// The block that a packet carries: one of a cell broadcast channel, from the wanted address if one is wanted.
+/// The block that a packet carries: one of a cell broadcast channel, from the wanted sender.
 #[tactic(auto, unfolding(crate::specs::Tap::sent_in))]
-pub fn sent_in(link: Link, from: Option<u32>, octets: &[u8]) -> Option<Sent>
+pub fn sent_in(link: Link, from: Sender, octets: &[u8]) -> Option<Sent>
     ensures { result ≡ sent_in link from octets.now }
 {
     let internet = internet_of(link, octets)?;
-    let datagram = datagram_of(from, internet)?;
+    let datagram = datagram_of(from.address, internet)?;
     let payload = payload_of(datagram)?;
-    block_of(payload)
+    block_of(from.arfcn, payload)
 }
 
 /// The IPv4 packet in a packet.
@@ -169,10 +170,21 @@ fn payload_of(octets: &[u8]) -> Option<&[u8]>
     }
 }
 
+/// Whether GSMTAP names the wanted radio channel, in the low 14 bits of its number.
+fn is_on(arfcn: Option<u16>, octets: &[u8]) -> bool
+    requires { 16 ≤ length octets.now }
+    ensures { result ≡ is_on arfcn octets.now }
+{
+    match arfcn {
+        None => true,
+        Some(number) => BigEndian::read_u16(&octets[4..]) % 0x4000 == number,
+    }
+}
+
 /// The block in GSMTAP.
 #[tactic(auto, unfolding(crate::specs::Tap::block_of))]
-fn block_of(octets: &[u8]) -> Option<Sent>
-    ensures { result ≡ block_of octets.now }
+fn block_of(arfcn: Option<u16>, octets: &[u8]) -> Option<Sent>
+    ensures { result ≡ block_of arfcn octets.now }
 {
     if octets.len() < 16 {
         return None;
@@ -182,6 +194,7 @@ fn block_of(octets: &[u8]) -> Option<Sent>
         && octets[1] >= 4
         && octets[2] == 1
         && octets[4] / 64 % 2 == 0
+        && is_on(arfcn, octets)
         && (octets[12] == 12 || octets[12] == 15)
         && octets.len() == header + 23
     {

@@ -23,6 +23,16 @@ const FILE_HEADER: usize = 24;
 /// How many octets the header of its packets has.
 const PACKET_HEADER: usize = 16;
 
+/// Whose packets are taken.
+#[derive(Clone, Copy, Debug, PartialEq, Eq)]
+pub struct Sender {
+    /// The IPv4 address that they come from, if one alone is wanted.
+    pub address: Option<u32>,
+    /// The number of the radio channel (ARFCN) that they name, 0 to 1,023, if one alone is wanted: base stations on one
+    /// host have one address.
+    pub arfcn: Option<u16>,
+}
+
 /// Which tape is wanted of a capture file.
 #[derive(Clone, Copy, Debug, PartialEq, Eq)]
 pub struct Wanted {
@@ -30,8 +40,8 @@ pub struct Wanted {
     pub cell: Cell,
     /// How many slots it has.
     pub slots: u16,
-    /// The IPv4 address that its packets come from, if one alone is wanted.
-    pub from: Option<u32>,
+    /// Whose packets are taken.
+    pub from: Sender,
 }
 
 /// The tape that a capture file is: four blocks for each slot, idle where the file has none. Slot 0 is that of the
@@ -115,7 +125,7 @@ fn next_packet(order: OctetOrder, octets: &[u8]) -> Option<(&[u8], &[u8])>
 }
 
 /// Places the block that a packet carries, if it does.
-fn take(air: &mut Air, link: Link, from: Option<u32>, octets: &[u8]) -> Result<(), AirFaultKind>
+fn take(air: &mut Air, link: Link, from: Sender, octets: &[u8]) -> Result<(), AirFaultKind>
     requires { last_slot air.old.track < 2 ^ 60 }
     ensures placed { OnOk result (after_sent (known_of air.old) (sent_in link from octets.now)
         ≡ Ok (known_of air.new)) }

@@ -10,7 +10,7 @@
 //! more until that is enough: the answer is then `refused; ` and what came in the end. `fronts N M LAC CI SLOTS` makes
 //! tapes of each front of N to M octets, and the answer is that of all of them.
 
-use gsmtap::{Channel, Settings, Slots, Wanted, capture_of, tape_of_capture};
+use gsmtap::{Channel, Sender, Settings, Slots, Wanted, capture_of, tape_of_capture};
 use std::alloc::Global;
 use std::process::Abort;
 use std::test::Fail;
@@ -88,11 +88,25 @@ fn wanted_in(words: &mut Words) -> Result<Wanted, Fail> {
         ci: words.number16()?,
     };
     let slots = words.number16()?;
-    let from = match words.word() {
-        "" => None,
+    Ok(Wanted {
+        cell,
+        slots,
+        from: sender_in(words)?,
+    })
+}
+
+/// Whose packets are wanted: an address in eight hexadecimal digits, or `-` for any, and a radio channel; nothing for
+/// anyone.
+fn sender_in(words: &mut Words) -> Result<Sender, Fail> {
+    let address = match words.word() {
+        "" | "-" => None,
         address => Some(u32::from_str_radix(address, 16)?),
     };
-    Ok(Wanted { cell, slots, from })
+    let arfcn = match words.word() {
+        "" => None,
+        arfcn => Some(arfcn.parse::<u16>()?),
+    };
+    Ok(Sender { address, arfcn })
 }
 
 /// The tape of octets, or the text of the fault.

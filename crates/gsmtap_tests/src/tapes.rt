@@ -123,6 +123,21 @@ want 2f2b2b2b2b2b2b2b2b2b2b2b2b2b2b2b2b2b2b2b2b2b2b
 want 2f2b2b2b2b2b2b2b2b2b2b2b2b2b2b2b2b2b2b2b2b2b2b
 tape 1 2 1 -> as wanted
 
+# two base stations of one host: the second has ARFCN 871, 0367, with a bit of the band above it
+new
+hex d4c3b2a1020004000000000000000000ffff000065000000
+hex 05000000060000004300000043000000 450000430007000040117ca17f0000017f000001
+hex 12791279002f0000 0204010000000000000000200f000200 200010111201118046a3d168341a8d46a3d168341a8d46
+hex 05000000060000004300000043000000 450000430007000040117ca17f0000017f000001
+hex 12791279002f0000 0204010083670000000000200f000200 21a3d168341a8d46a3d168341a8d46a3d168341a8d46a3
+want 0001 0002 00000001
+want 21a3d168341a8d46a3d168341a8d46a3d168341a8d46a3
+want 2f2b2b2b2b2b2b2b2b2b2b2b2b2b2b2b2b2b2b2b2b2b2b
+want 2f2b2b2b2b2b2b2b2b2b2b2b2b2b2b2b2b2b2b2b2b2b2b
+want 2f2b2b2b2b2b2b2b2b2b2b2b2b2b2b2b2b2b2b2b2b2b2b
+tape 1 2 1 - 871 -> as wanted
+tape 1 2 1 7f000001 -> packet 2: block differs
+
 # link type 101. What is passed over: another port, uplink, another type, another version, another channel, another
 # protocol, a block of the extended channel, a block of another source and one after the last slot
 new
@@ -256,6 +271,6 @@ tape 1 2 1 -> unknown link type 229: known are 0, 1, 101, 108, 113, 228 and 276
 
 #[test]
 fn captures_of_others_are_read_or_the_packet_is_named(rt: HostRuntime) -> Result<(), Fail> {
-    expect_rows(&rt, rt.alloc(), FOREIGN, 165)?;
+    expect_rows(&rt, rt.alloc(), FOREIGN, 178)?;
     expect_rows(&rt, rt.alloc(), FAULTS, 47)
 }

@@ -161,12 +161,18 @@ GivesFrom words None = is_given words (codes "--from") ≡ false
 GivesFrom words (Some address) =
     (text : List ℕ) × GivesValue words (codes "--from") text × IsAddress text address
 
+-- the words give the radio channel that packets name, or none
+abbrev pub GivesArfcn : (words : List (List ℕ)) → Option ℕ → Type 0
+GivesArfcn words None = is_given words (codes "--arfcn") ≡ false
+GivesArfcn words (Some arfcn) = GivesNumber words (codes "--arfcn") arfcn
+
 -- the words ask for `tape`
 pub record AsksForTape (words : List (List ℕ)) (wanted : Wanted) : Type 0 where
   pub command : slice_get words 1 ≡ Some (codes "tape")
   pub cell_given : GivesCell words wanted.cell
   pub slots_given : GivesSlots words wanted.slots
-  pub from_given : GivesFrom words wanted.from
+  pub from_given : GivesFrom words wanted.from.address
+  pub arfcn_given : GivesArfcn words wanted.from.arfcn
 
 -- which books the words want: of a network book each group, where a word begins with the name `--network`
 abbrev pub GivesBooks : (words : List (List ℕ)) → Books → Type 0

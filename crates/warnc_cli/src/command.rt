@@ -4,7 +4,8 @@ ghost use Rattle.std.specs.Prelude.{◌≡◌, ◌<◌, ◌∷◌, ◌++◌, ◌
 ghost use Rattle.std.specs.Prelude.{slice_get};
 ghost use Rattle.warnc_cli.specs.CommandLine.{asks_for_text, begins_with, is_given, is_text_word, GivesNumber};
 ghost use Rattle.warnc_cli.specs.CommandLine.{GivesChannel, GivesSlots, GivesThreads, GivesValue};
-ghost use Rattle.warnc_cli.specs.CommandLine.{GivesCell, GivesFrom, GivesWanted, IsAddress, IsCell, IsNumber};
+ghost use Rattle.warnc_cli.specs.CommandLine.{GivesArfcn, GivesCell, GivesFrom, GivesWanted, IsAddress, IsCell};
+ghost use Rattle.warnc_cli.specs.CommandLine.{IsNumber};
 ghost use Rattle.warnc_cli.specs.CommandLine.{slots_given, GivesBooks, GivesOrigin, GivesPages, GivesProduct};
 ghost use Rattle.warnc_cli.specs.Tasks.{IsTaskOf};
 
@@ -12,7 +13,7 @@ use alert_book::Origin;
 use cbs_page::Serial;
 use cbsp_wire::Cell;
 use clap::{Arg, ArgAction, Command, Error, value_parser};
-use gsmtap::{Channel, Settings, Slots, Wanted};
+use gsmtap::{Channel, Sender, Settings, Slots, Wanted};
 use std::alloc::{AllocError, Global};
 use std::convert::AsStr;
 use warnc_run::{Books, Product, Run, Sessions, Workers};
@@ -97,7 +98,10 @@ fn task_in<'a, S: AsStr>(words: &'a [S]) -> Option<Task<'a>>
         "tape" => Some(Task::Tape(Wanted {
             cell: cell_in(words)?,
             slots: slots_in(words)?,
-            from: from_in(words)?,
+            from: Sender {
+                address: from_in(words)?,
+                arfcn: arfcn_in(words)?,
+            },
         })),
         "groups" => Some(Task::Groups),
         "check" => Some(Task::Check),
@@ -226,6 +230,17 @@ fn halves(text: &str, mark: char) -> Option<(&str, &str)>
         Some((front, back)) => Some((front, back)),
         None => None,
     }
+}
+
+/// The radio channel that packets name, if the words give one.
+fn arfcn_in<S: AsStr>(words: &[S]) -> Option<Option<u16>>
+    ensures { IfSome result (GivesArfcn (map S.text words.now)) }
+{
+    if !is_given(words, "--arfcn") {
+        return Some(None);
+    }
+    let arfcn = number_of(words, "--arfcn")?;
+    Some(Some(arfcn))
 }
 
 /// The address that the words give, if they give one.
@@ -570,7 +585,8 @@ fn tape<'a>(alloc: Global) -> Result<Command<'a>, AllocError> {
         .after_help("Example: warnc tape --cell 1-1 --slots 4096 < air.pcap > tape")
         .arg(cell(alloc))?
         .arg(tape_slots(alloc))?
-        .arg(from(alloc))
+        .arg(from(alloc))?
+        .arg(arfcn(alloc))
 }
 
 /// The command line of `groups`.
@@ -744,6 +760,17 @@ fn from<'a>(alloc: Global) -> Arg<'a> {
         "IPV4",
         "Takes the packets from this IPv4 address alone, as\n127.0.0.1; all if it isn't given",
     )
+}
+
+/// The option of the radio channel that packets name.
+fn arfcn<'a>(alloc: Global) -> Arg<'a> {
+    optional(
+        alloc,
+        "arfcn",
+        "ARFCN",
+        "Takes the packets of this radio channel alone, 0 to\n1023; all if it isn't given",
+    )
+    .value_parser(value_parser!(u16).range(0..=1023))
 }
 
 /// An option `--name` without a value.

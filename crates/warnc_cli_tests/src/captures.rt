@@ -139,6 +139,16 @@ worked-hex 2f2b2b2b2b2b2b2b2b2b2b2b2b2b2b2b2b2b2b2b2b2b2b
 run -> 0
 all -> worked
 
+# on another radio channel there is nothing either
+args tape --arfcn 1 --slots 1 --cell 65535-65534
+worked-hex ffff fffe 00000001
+worked-hex 2f2b2b2b2b2b2b2b2b2b2b2b2b2b2b2b2b2b2b2b2b2b2b
+worked-hex 2f2b2b2b2b2b2b2b2b2b2b2b2b2b2b2b2b2b2b2b2b2b2b
+worked-hex 2f2b2b2b2b2b2b2b2b2b2b2b2b2b2b2b2b2b2b2b2b2b2b
+worked-hex 2f2b2b2b2b2b2b2b2b2b2b2b2b2b2b2b2b2b2b2b2b2b2b
+run -> 0
+all -> worked
+
 # the first block again with another octet, two slots back, another link type, and no capture at all
 args tape --cell 1-1 --slots 2
 in-hex d4c3b2a1020004000000000000000000ffff0000e4000000
@@ -186,5 +196,5 @@ fn tapes_give_captures(rt: HostRuntime) -> Result<(), Fail> {
 
 #[test]
 fn captures_give_tapes(rt: HostRuntime) -> Result<(), Fail> {
-    expect_rows(&rt, TAPE, 79)
+    expect_rows(&rt, TAPE, 86)
 }
