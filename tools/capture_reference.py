@@ -26,6 +26,7 @@ from gsm import Refused
 LINKS = (0, 1, 101, 108, 113, 228, 276)
 TAGS = (b"\x81\x00", b"\x88\xa8")
 IPV4 = b"\x08\x00"
+PCAPNG = b"\x0A\x0D\x0D\x0A"
 FRAMES = 51 * 26 * 2048
 SLOTS = FRAMES // 51 // 8
 CHANNELS = {51: 15, 52: 12}
@@ -91,7 +92,8 @@ def packets_of(octets):
         if struct.unpack_from(order + "I", octets)[0] in (0xA1B2C3D4, 0xA1B23C4D):
             break
     else:
-        raise Refused("not a capture file")
+        raise Refused("capture is pcapng: editcap -F pcap makes one that is read" if octets[:4] == PCAPNG else
+                      "not a capture file")
     link = struct.unpack_from(order + "I", octets, 20)[0]
     if link not in LINKS:
         raise Refused(f"unknown link type {link}: known are 0, 1, 101, 108, 113, 228 and 276")
@@ -252,6 +254,8 @@ def random_file(rng, tape):
     out = file_header(order, magic, link) + b"".join(packet(it, (rng.randrange(1 << 32), 7), order) for it in inside)
     if rng.random() < 0.1:
         out = out[:rng.randrange(len(out) + 1)]
+    if rng.random() < 0.02:
+        out = PCAPNG + out[4:]
     if rng.random() < 0.02:
         out = out[:20] + rng.randbytes(4) + out[24:]
     return out

@@ -110,7 +110,8 @@ ROW_FAULT = (r"row 0: too many rows|row [1-9]\d*: (?:columns|verb|number|unknown
              rf"|too many updates|too many rows|{TEXT_FAULT})")
 TAPE_FAULT = "tape is short|tape is long"
 FAULTS = {"page": TEXT_FAULT + "|text is not UTF-8|text is too long", "read": TAPE_FAULT, "pcap": TAPE_FAULT,
-          "tape": r"not a capture file|unknown link type \d+: known are 0, 1, 101, 108, 113, 228 and 276"
+          "tape": r"not a capture file|capture is pcapng: editcap -F pcap makes one that is read"
+                  r"|unknown link type \d+: known are 0, 1, 101, 108, 113, 228 and 276"
                   r"|packet [1-9]\d*: (?:capture is short|block differs|steps back)",
           "verify": rf"{ROW_FAULT}|{TAPE_FAULT}|differences: [1-9]\d*", **dict.fromkeys(OF_BOOKS, ROW_FAULT),
           "check": r"row 0: too many rows|faults: [1-9]\d*", "texts": ROW_FAULT}

@@ -152,6 +152,7 @@ pub wrong_kind : (wanted : Wanted) (order : OctetOrder) (link : Link) (octets le
     BeginsWithPacket order left inside rest → after_sent known (sent_in link wanted.from inside) ≡ Err why →
     IsBlockKind why → IsPacketFaultOf wanted order link octets (number + 1) why
 wrong_kind wanted order link octets left inside rest number known kind.NoCapture sofar begins comes is = absurd is
+wrong_kind wanted order link octets left inside rest number known kind.Pcapng sofar begins comes is = absurd is
 wrong_kind wanted order link octets left inside rest number known (kind.OtherLink other) sofar begins comes is =
     absurd is
 wrong_kind wanted order link octets left inside rest number known kind.Short sofar begins comes is = absurd is

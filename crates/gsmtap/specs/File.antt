@@ -18,6 +18,10 @@ number_in HighFirst octets = big_number 4 octets
 abbrev pub is_magic : ℕ → Bool
 is_magic number = number == 0xA1B2C3D4 || number == 0xA1B23C4D
 
+-- a file of pcapng begins with this block type, which is the same in either order
+abbrev pub is_pcapng : List ℕ → Bool
+is_pcapng octets = big_number 4 octets == 0x0A0D0D0A
+
 -- the order of the octets of its numbers, by the magic number that a file begins with
 abbrev pub octet_order_of : List ℕ → Option OctetOrder
 octet_order_of header =

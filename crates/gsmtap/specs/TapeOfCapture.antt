@@ -1,11 +1,11 @@
 -- The tape that a capture file is: a block that the file doesn't have is idle.
-use Rattle.std.specs.Prelude.{◌≡◌, ℕ, ◌+◌, ◌*◌, ◌<◌, ◌≤◌, ◌⊎◌, List, [], ◌∷◌, ◌++◌, length, map, replicate, take}
+use Rattle.std.specs.Prelude.{◌≡◌, ℕ, ◌+◌, ◌*◌, ◌<◌, ◌≤◌, ◌⊎◌, false, true, List, [], ◌∷◌, ◌++◌, length, map, replicate, take}
 use Rattle.std.specs.Prelude.{unwrap_or}
 use Rattle.std.specs.Prelude.{Option, Some, None, Result, Ok, Err}
 use Rattle.cbch_blocks.specs.Blocks.{idle_block}
 use Rattle.handset.specs.Tape.{tape_octets}
-use Rattle.gsmtap.specs.File.{ArePackets, IsCutPacket, Opens, Packet, link_number, link_numbered, octets_of_packets}
-use Rattle.gsmtap.specs.File.{octet_order_of}
+use Rattle.gsmtap.specs.File.{ArePackets, IsCutPacket, Opens, Packet, is_pcapng, link_number, link_numbered}
+use Rattle.gsmtap.specs.File.{octet_order_of, octets_of_packets}
 use Rattle.gsmtap.specs.Tap.{sent_in}
 use Rattle.gsmtap.specs.Track.{Known, with_block}
 use Rattle.gsmtap.specs.declared.fault.AirFault.{AirFault}
@@ -91,9 +91,14 @@ pub record IsTapeOfCapture (wanted : Wanted) (input output : List ℕ) : Type 0 
   pub file : IsFileWith input (λ order link after. AreKnown wanted order link after known)
   pub written : output ≡ tape_octets wanted.cell wanted.slots (blocks_in known.blocks)
 
--- the header is cut, or its magic number isn't known; or the link type isn't
+-- the header is cut, or its magic number isn't known, or is that of pcapng; or the link type isn't known
 abbrev pub IsNoCapture : List ℕ → Type 0
-IsNoCapture input = (length input < 24) ⊎ (octet_order_of (take 24 input) ≡ None)
+IsNoCapture input = (length input < 24)
+    ⊎ ((octet_order_of (take 24 input) ≡ None) × (is_pcapng (take 24 input) ≡ false))
+
+pub record IsPcapng (input : List ℕ) : Type 0 where
+  pub long : 24 ≤ length input
+  pub begins : is_pcapng (take 24 input) ≡ true
 
 pub record IsOtherLink (input : List ℕ) (number : ℕ) : Type 0 where
   pub long : 24 ≤ length input
@@ -105,6 +110,7 @@ pub record IsOtherLink (input : List ℕ) (number : ℕ) : Type 0 where
 -- why an input has no tape, but for out of memory
 abbrev pub IsAirFaultOf : Wanted → List ℕ → (packet : ℕ) → AirFaultKind → Type 0
 IsAirFaultOf wanted input packet kind.NoCapture = (packet ≡ 0) × IsNoCapture input
+IsAirFaultOf wanted input packet kind.Pcapng = (packet ≡ 0) × IsPcapng input
 IsAirFaultOf wanted input packet (kind.OtherLink number) = (packet ≡ 0) × IsOtherLink input number
 IsAirFaultOf wanted input packet kind.Short =
     IsFileWith input (λ order link after. HasShortPacket wanted order link after packet)

@@ -1,6 +1,6 @@
 -- Steps over the packets of a file. Contracts of private functions alone speak of it.
-use Rattle.std.specs.Prelude.{◌≡◌, ℕ, List, ◌++◌, Option, Some, None}
-use Rattle.gsmtap.specs.File.{IsPacket, Packet, octets_of_packet}
+use Rattle.std.specs.Prelude.{◌≡◌, ℕ, List, ◌++◌, Option, Some, None, if◌then◌else◌}
+use Rattle.gsmtap.specs.File.{IsPacket, Packet, is_pcapng, octets_of_packet}
 use Rattle.gsmtap.specs.TapeOfCapture.{HasShortPacket, HasWrongPacket}
 use Rattle.gsmtap.specs.Track.{Known}
 use Rattle.gsmtap.specs.declared.fault.AirFault.{AirFault}
@@ -31,6 +31,7 @@ pub record BeginsWithPacket (order : OctetOrder) (octets inside rest : List ℕ)
 -- why octets are no packets that make a tape
 abbrev pub IsPacketFaultOf : Wanted → OctetOrder → Link → List ℕ → (packet : ℕ) → AirFaultKind → Type 0
 IsPacketFaultOf wanted order link octets packet kind.NoCapture = ⊥
+IsPacketFaultOf wanted order link octets packet kind.Pcapng = ⊥
 IsPacketFaultOf wanted order link octets packet (kind.OtherLink number) = ⊥
 IsPacketFaultOf wanted order link octets packet kind.Short = HasShortPacket wanted order link octets packet
 IsPacketFaultOf wanted order link octets packet kind.Differs =
@@ -45,8 +46,13 @@ IsPacketFault wanted order link octets fault = IsPacketFaultOf wanted order link
 -- a fault of a block, which is of one of two kinds
 abbrev pub IsBlockKind : AirFaultKind → Type 0
 IsBlockKind kind.NoCapture = ⊥
+IsBlockKind kind.Pcapng = ⊥
 IsBlockKind (kind.OtherLink number) = ⊥
 IsBlockKind kind.Short = ⊥
 IsBlockKind kind.Differs = Unit {0}
 IsBlockKind kind.StepsBack = Unit {0}
 IsBlockKind kind.Refused = ⊥
+
+-- what a header is whose magic number isn't known
+abbrev pub kind_of_unknown : List ℕ → AirFaultKind
+kind_of_unknown header = if is_pcapng header then kind.Pcapng else kind.NoCapture

@@ -13,6 +13,9 @@ pub enum AirFaultKind {
     /// The file doesn't begin with the header of a classic capture file.
     #[error("not a capture file")]
     NoCapture,
+    /// The file is of the newer format, pcapng, which Wireshark writes.
+    #[error("capture is pcapng: editcap -F pcap makes one that is read")]
+    Pcapng,
     /// The link type is this, and none of those that are known.
     #[error("unknown link type {0}: known are 0, 1, 101, 108, 113, 228 and 276")]
     OtherLink(u32),

@@ -1,7 +1,7 @@
 //! Capture files in the classic format of libpcap: their header, and the packet that comes next.
 
 ghost use Rattle.std.specs.Prelude.{◌≡◌, ◌<◌, ◌≤◌, length};
-ghost use Rattle.gsmtap.specs.File.{is_magic, link_number, link_numbered, number_in, octet_order_of};
+ghost use Rattle.gsmtap.specs.File.{is_magic, is_pcapng, link_number, link_numbered, number_in, octet_order_of};
 
 use byteorder::{BigEndian, ByteOrder, LittleEndian};
 
@@ -45,6 +45,14 @@ fn is_magic(number: u32) -> bool
     ensures { result ≡ is_magic number }
 {
     number == 0xA1B2_C3D4 || number == 0xA1B2_3C4D
+}
+
+/// Whether octets begin as a file of pcapng does.
+pub fn is_pcapng(octets: &[u8]) -> bool
+    requires { 4 ≤ length octets.now }
+    ensures { result ≡ is_pcapng octets.now }
+{
+    BigEndian::read_u32(octets) == 0x0A0D_0D0A
 }
 
 /// The order of the octets of a file's numbers, by its header.

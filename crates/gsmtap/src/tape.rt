@@ -6,11 +6,12 @@ ghost use Rattle.std.specs.Prelude.{[]};
 ghost use Rattle.handset.specs.Tape.{octets_of_blocks, tape_octets};
 ghost use Rattle.gsmtap.specs.File.{IsCutPacket};
 ghost use Rattle.gsmtap.specs.TapeOfCapture.{AreKnown, IsAirFault, IsTapeOfCapture, after_sent, blocks_in};
+ghost use Rattle.gsmtap.specs.TapeSteps.{kind_of_unknown};
 ghost use Rattle.gsmtap.specs.TapeSteps.{BeginsWithPacket, IsBlockKind, IsPacketFault, known_of, last_slot};
 ghost use Rattle.gsmtap.specs.Tap.{sent_in};
 
 use crate::fault::{AirFault, AirFaultKind};
-use crate::file::{Link, OctetOrder, link_number, link_numbered, number_in, order_of};
+use crate::file::{Link, OctetOrder, is_pcapng, link_number, link_numbered, number_in, order_of};
 use crate::tap::sent_in;
 use crate::track::Air;
 use cbch_blocks::idle;
@@ -60,7 +61,7 @@ pub fn tape_of_capture(alloc: Global, input: &[u8], wanted: &Wanted) -> Result<V
     }
     let (header, packets) = input.split_at(FILE_HEADER);
     let Some(order) = order_of(header) else {
-        return Err(fault_at(0, AirFaultKind::NoCapture));
+        return Err(fault_at(0, kind_of_unknown(header)));
     };
     let number = link_number(order, header);
     let Some(link) = link_numbered(number) else {
@@ -69,6 +70,18 @@ pub fn tape_of_capture(alloc: Global, input: &[u8], wanted: &Wanted) -> Result<V
     match read_packets(alloc, wanted, order, link, packets) {
         Ok(air) => Ok(tape_of(alloc, wanted, &air)?),
         Err(fault) => Err(fault),
+    }
+}
+
+/// What a header is whose magic number isn't known.
+fn kind_of_unknown(header: &[u8]) -> AirFaultKind
+    requires { length header.now ≡ 24 }
+    ensures { result ≡ kind_of_unknown header.now }
+{
+    if is_pcapng(header) {
+        AirFaultKind::Pcapng
+    } else {
+        AirFaultKind::NoCapture
     }
 }
 

@@ -264,6 +264,10 @@ tape 1 2 1 -> packet 2: steps back
 new
 hex d4c3b2a2 02000400 00000000 00000000 ffff0000 e4000000
 tape 1 2 1 -> not a capture file
+# a section header of pcapng
+new
+hex 0a0d0d0a 1c000000 4d3c2b1a 01000000 ffffffffffffffff 1c000000
+tape 1 2 1 -> capture is pcapng: editcap -F pcap makes one that is read
 new
 hex d4c3b2a1 02000400 00000000 00000000 ffff0000 e5000000
 tape 1 2 1 -> unknown link type 229: known are 0, 1, 101, 108, 113, 228 and 276
@@ -272,5 +276,5 @@ tape 1 2 1 -> unknown link type 229: known are 0, 1, 101, 108, 113, 228 and 276
 #[test]
 fn captures_of_others_are_read_or_the_packet_is_named(rt: HostRuntime) -> Result<(), Fail> {
     expect_rows(&rt, rt.alloc(), FOREIGN, 178)?;
-    expect_rows(&rt, rt.alloc(), FAULTS, 47)
+    expect_rows(&rt, rt.alloc(), FAULTS, 50)
 }

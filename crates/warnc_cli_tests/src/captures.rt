@@ -180,6 +180,8 @@ args tape --cell 1 --slots 2
 fails -> 2 warnc: no such cell or address: --cell is as 1-2, --from as 127.0.0.1
 args tape --cell 1-2-3 --slots 2
 fails -> 2 warnc: no such cell or address: --cell is as 1-2, --from as 127.0.0.1
+args tape --cell 1-1 --slots 2 --arfcn 1024
+usage -> 2 error:
 args tape --cell 1-1 --slots 2 --from 1.2.3
 fails -> 2 warnc: no such cell or address: --cell is as 1-2, --from as 127.0.0.1
 args tape --cell 1-1 --slots 2 --from 1.2.3.256
@@ -196,5 +198,5 @@ fn tapes_give_captures(rt: HostRuntime) -> Result<(), Fail> {
 
 #[test]
 fn captures_give_tapes(rt: HostRuntime) -> Result<(), Fail> {
-    expect_rows(&rt, TAPE, 86)
+    expect_rows(&rt, TAPE, 88)
 }
