@@ -55,8 +55,9 @@ path{vector-effect:non-scaling-stroke}
 @media(max-width:46em){
 body{margin:1em}
 .line{gap:.1em;grid-template-columns:minmax(0,1fr);margin:.5em 0}
-.line p{white-space:normal}
-.axis span{font-size:.85em}
+.line p{flex-wrap:wrap;gap:0 .3em}
+.line p.axis{flex-wrap:nowrap;font-size:.75em}
+.line bdi,.cause{flex-basis:100%}
 }
 @media print{
 :root{--lane:#fff}
