@@ -30,7 +30,7 @@ use Rattle.alert_book.proofs.FewRows.{rows_keep}
 use Rattle.alert_book.proofs.FewRows.{verb_new}
 use Rattle.alert_book.proofs.GroupLaws.{filter_group}
 use Rattle.alert_book.proofs.RightOrders.{IsRightActionBy, IsRightRow, either_right, fault_right, orders_with_row}
-use Rattle.alert_book.proofs.RightOrders.{verb_right}
+use Rattle.alert_book.proofs.RightOrders.{cells_column, verb_right}
 use Rattle.book_runs.specs.CellParts.{Keep, PagedOrder, kept_action, kept_order, kept_orders}
 use Rattle.book_runs.specs.WholeNetwork.{GroupsAreParts, IsWholeNetwork, WholeNetworksAreCounted, in_group}
 use Rattle.book_runs.specs.WholeNetwork.{row_of_network}
@@ -96,10 +96,13 @@ row_some row declared orders fields =
     (fault_right Good fault.TooManyRows)
     (either_right Good (not (are_texts fields)) _ _ (fault_right Good fault.Columns)
     (verb_right Good (verb_of (column fields 0)) 65536 row declared (cells_of_field declared) orders fields
-    (λ field cells is. record {
-      within = field_declared declared field cells is;
-      some = field_some declared field cells is;
+    (λ cells is. record {
+      within = field_declared declared (field_of fields) cells is;
+      some = field_some declared (field_of fields) cells is;
     })))
+  where
+    field_of : List (List ℕ) → List ℕ
+    field_of fields = column fields (cells_column (verb_of (column fields 0)))
 
 row_declares : (row : ℕ) (declared : List Cell) (orders : List Order) (fields : List (List ℕ))
     → DeclaresNew 65536 declared (row_of_network row declared orders fields)

@@ -28,7 +28,7 @@ use Rattle.alert_book.specs.Row.{verb_of}
 use Rattle.alert_book.proofs.FewRows.{rows_keep}
 use Rattle.alert_book.proofs.GroupLaws.{part_after, part_before, part_within}
 use Rattle.alert_book.proofs.RightOrders.{IsRightActionBy, IsRightRow, either_right, fault_right, orders_with_row}
-use Rattle.alert_book.proofs.RightOrders.{right_gives, verb_right}
+use Rattle.alert_book.proofs.RightOrders.{cells_column, right_gives, verb_right}
 
 all_kept : {X : Type 0} (p : X → Bool) (xs : List X) → list_all p (filter p xs) ≡ true
 all_kept p [] = refl
@@ -107,7 +107,7 @@ row_within group row declared orders fields =
     (fault_right Good fault.TooManyRows)
     (either_right Good (not (are_texts fields)) _ _ (fault_right Good fault.Columns)
     (verb_right Good (verb_of (column fields 0)) 65536 row declared (cells_in_group group declared) orders fields
-    (field_within group declared)))
+    (field_within group declared (column fields (cells_column (verb_of (column fields 0)))))))
 
 -- the orders of rows are for cells of the group
 abbrev AreWithinRows : ℕ → Rows → Type 0
