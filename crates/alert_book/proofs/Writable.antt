@@ -157,7 +157,8 @@ requests_writable live order (action.Stop cells) (Some paged) right pages = absu
 abbrev pub IsReady : Order × Option Paged → Type 0
 IsReady next = IsRightAction next.0.action × ArePagesOf (sending_of next.0.action) next.1
 
-pub orders_ready : (orders : List Order) (pages : List (Option Paged)) → All (λ order. IsRightAction order.action) orders →
+pub orders_ready : (orders : List Order) (pages : List (Option Paged))
+    → All (λ order. IsRightAction order.action) orders →
     HavePages orders pages → All IsReady (orders_with orders pages)
 orders_ready [] [] right have = All-nil IsReady
 orders_ready [] (paged ∷ pages) right have = absurd have

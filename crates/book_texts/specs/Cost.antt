@@ -1,6 +1,7 @@
 -- What a text costs: how many pages it takes, and what room its last one has. The alphabet and the pages are those of a
 -- text that is sent (3GPP TS 23.038, clauses 6.1.2.2, 6.2.1 and 6.2.3), but here a text may take any number of pages.
-use Rattle.std.specs.Prelude.{◌≡◌, ℕ, ◌+◌, ◌-◌, Bool, if◌then◌else◌, nat_le, not, is_some, List, [], ◌∷◌, length, Option}
+use Rattle.std.specs.Prelude.{◌≡◌, ℕ, ◌+◌, ◌-◌, Bool, if◌then◌else◌, nat_le, not, is_some, List, [], ◌∷◌, length}
+use Rattle.std.specs.Prelude.{Option}
 use Rattle.std.specs.Prelude.{find, position, sum_by}
 use Rattle.gsm_alphabet.specs.Alphabet.{code_of}
 use Rattle.cbs_page.specs.Text.{alphabet_for, capacity, cost_of, IsPagingOf}

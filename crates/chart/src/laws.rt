@@ -3,7 +3,8 @@
 ghost use Rattle.chart.specs.Escape.{EscapedIsPlain};
 ghost use Rattle.chart.specs.Laws.{HeightsAreOfLoads, MarksAreCompleted};
 
-/// States, as its contract, what texts, marks and loads are in a page. Does nothing: its body names the laws that carry it.
+/// States, as its contract, what texts, marks and loads are in a page. Does nothing: its body names the laws that carry
+/// it.
 pub fn chart_laws()
     // No text begins or ends a tag, or the value of an attribute.
     ensures escaped { EscapedIsPlain }

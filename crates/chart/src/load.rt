@@ -18,8 +18,8 @@ use crate::page::Page;
 use admission::SCALE;
 use std::alloc::{AllocError, Global};
 
-/// How high the picture of the loads is, which is the height of a full cell: a divisor of [`SCALE`], since Firefox leaves
-/// a path out whose numbers are as great as that.
+/// How high the picture of the loads is, which is the height of a full cell: a divisor of [`SCALE`], since Firefox
+/// leaves a path out whose numbers are as great as that.
 pub const LOAD_HEIGHT: u64 = 1008;
 
 /// How much load is drawn one step higher.
