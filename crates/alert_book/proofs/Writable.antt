@@ -132,6 +132,7 @@ targets_asked live number cells asked =
 abbrev pub CanBeWritten : Request → Type 0
 CanBeWritten request = is_writable request.message ≡ true
 
+-- so what an order asks, with its pages, can
 pub requests_writable : (live : ℕ → Cell → Option ℕ) (order : Order) (sends : Action) (paged : Option Paged) →
     IsRightAction sends → ArePagesOf (sending_of sends) paged → All CanBeWritten (requests_by live order sends paged)
 requests_writable live order (action.Write sending) None right pages = absurd pages
@@ -157,6 +158,7 @@ requests_writable live order (action.Stop cells) (Some paged) right pages = absu
 abbrev pub IsReady : Order × Option Paged → Type 0
 IsReady next = IsRightAction next.0.action × ArePagesOf (sending_of next.0.action) next.1
 
+-- orders that are right, with their pages, are
 pub orders_ready : (orders : List Order) (pages : List (Option Paged))
     → All (λ order. IsRightAction order.action) orders →
     HavePages orders pages → All IsReady (orders_with orders pages)

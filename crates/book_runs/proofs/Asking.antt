@@ -54,6 +54,7 @@ of_category : (category : Option Category) (cells named : List Cell) (channel : 
 of_category None cells named channel command asked order = absurd (cc)
 of_category (Some c) cells named channel command asked order = of_channel channel cells named command (asked c) order
 
+-- a command is given to the cells that its message names
 pub order_asks : (m : Message) (cells : List Cell) (command : Command) → order_of m ≡ Ok (cells, command)
     → cells ≡ cells_asked m
 order_asks (messages.Write id new old named channel category period broadcasts dcs contents) cells command order =

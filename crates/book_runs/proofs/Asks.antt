@@ -25,9 +25,11 @@ use Rattle.book_runs.specs.CellParts.{PagedOrder, asks_some, is_for_some}
 use Rattle.book_runs.proofs.KeptRequests.{Belief}
 use Rattle.book_runs.proofs.KeptSessions.{pending}
 
+-- a request asks some cell
 abbrev pub IsAsking : Request → Type 0
 IsAsking r = asks_some r ≡ true
 
+-- an order is for some cell
 abbrev pub IsForSome : PagedOrder → Type 0
 IsForSome o = is_for_some o ≡ true
 
@@ -91,18 +93,21 @@ asks_advanced : (replies : List Replied) (row : ℕ) (due : List Request) (left 
 asks_advanced replies row [] left asks = asks
 asks_advanced replies row (r ∷ due) left asks = asks
 
+-- a session whose requests and orders ask some cells does so after a reply
 pub asks_after : (reply : Option Message) (s : Standing) → AskSome s.due s.left → Asks (after_reply reply s)
 asks_after reply s asks =
     let replies : List Replied = replies_with s.sent (outcome_in s.sent reply) s.replies in
     let found : List Request × List PagedOrder = due_requests (version_in replies) s.due s.left in
     asks_advanced replies s.row found.0 found.1 (due_asks (version_in replies) s.due s.left asks)
 
+-- the request that it has sent asks some
 pub asks_first : (s : Standing) (request : Request) → s.sent ≡ Some request → Asks s
     → asks_some request ≡ true
 asks_first s request sent asks =
     All-head IsAsking request s.due
     (subst (λ (r : Option Request). All IsAsking (pending r s.due)) sent asks.due)
 
+-- and so do those that are due after it
 pub asks_later : (s : Standing) (request : Request) → s.sent ≡ Some request → Asks s → AskSome s.due s.left
 asks_later s request sent asks = record {
   due = All-tail IsAsking request s.due
@@ -120,6 +125,7 @@ orders_ask (o ∷ orders) (p ∷ pages) each =
     (All-head (λ (x : Order). network.has_cells x ≡ true) o orders each)
     (orders_ask orders pages (All-tail (λ (x : Order). network.has_cells x ≡ true) o orders each))
 
+-- a session begins so where each order is for some cell
 pub begun_asks : (book : Contents) (part parts : ℕ) → All (λ o. network.has_cells o ≡ true) book.orders
     → Asks (begun book part parts)
 begun_asks book part parts each =

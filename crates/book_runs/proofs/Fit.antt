@@ -93,6 +93,7 @@ restricted_few keep book few =
     let all = length-map (kept_orders keep pairs) (λ (o : PagedOrder). o.0) in
     omega (arith, few, one, two, more, all)
 
+-- the book of some of a book's cells is fit to be run at a desk
 pub parts_are_fit : PartsAreFit
 parts_are_fit from input keep book is = record {
   cells = kept_valid keep book.cells (all_cells_are_valid from input book is);

@@ -132,6 +132,7 @@ distinct_rest (c ∷ front) rest distinct =
 abbrev pub cells_in : List PartRun → List Cell
 cells_in parts = flat_map (λ part. part.cells) parts
 
+-- the records of parts, one after the other
 abbrev pub records_in : List PartRun → List Record
 records_in parts = flat_map (λ part. part.records) parts
 
@@ -229,9 +230,11 @@ no_run book slots cells orders = record {
   each = All-nil (IsRunOfBook slots []);
 }
 
+-- a book has a run with these records
 abbrev pub HasRun : Contents → (slots : ℕ) → List Record → Type 0
 HasRun book slots records = (all : List Exchange) × IsRun book slots all records
 
+-- runs of parts that have all cells of a book, one after the other, make a run of it
 pub in_a_row : (slots : ℕ) (parts : List PartRun) (book : Contents) → All IsForCells book.orders
     → All (IsWithin book.cells) book.orders → are_distinct book.cells ≡ true → book.cells ≡ cells_in parts
     → All (IsPartRun book slots) parts → HasRun book slots (records_in parts)
@@ -261,11 +264,13 @@ in_a_row slots (p ∷ parts) book some within distinct cells runs =
     ∙ merged_row keep p.cells (cells_in parts) p.records (records_in parts) mine others (one.cells ∙ own)
     (rest.1.cells ∙ left)) whole
 
+-- so it is with a book that was read
 pub parts_in_a_row : BooksAreNetworks → CellsAreValid → PartsInARow
 parts_in_a_row networks valid from input book slots parts is cells runs =
     in_a_row slots parts book (orders_for_cells networks from input book is) (orders_within networks from input book is)
     (and_parts (nat_le (length book.cells) 64) (are_distinct book.cells) (valid from input book is)).1 cells runs
 
+-- the tapes of parts, one after the other, are those of their records
 pub tapes_in_a_row : TapesInARow
 tapes_in_a_row [] = refl
 tapes_in_a_row (p ∷ parts) =

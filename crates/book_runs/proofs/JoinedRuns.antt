@@ -30,11 +30,13 @@ orders_of_group : (group : ℕ) (input : List ℕ) (book : Contents) → IsGroup
 orders_of_group group input book is =
     subst (All IsForCells) (sym is.orders) (filter_passes has_cells is.rows.orders)
 
+-- the orders of a book that was read are each for some cell
 pub orders_for_cells : BooksAreNetworks → (from : Origin) (input : List ℕ) (book : Contents)
     → IsBookFrom from input book → All IsForCells book.orders
 orders_for_cells networks origin.Book input book is = orders_of_group 0 input book (networks input book is).0
 orders_for_cells networks (origin.Group group) input book is = orders_of_group group input book is
 
+-- what is so of all that is made of things is so of what is made of each
 pub all_unmapped : {X Y : Type 0} (P : Y → Type 0) (f : X → Y) (xs : List X) → All P (map f xs) → All (λ x. P (f x)) xs
 all_unmapped P f [] each = All-nil (λ x. P (f x))
 all_unmapped P f (x ∷ xs) each =
@@ -59,6 +61,7 @@ whole_records keep slots cells all xs records exchanged share named each = λ k 
           ∙ ap (entries_for slots 0) (asked_same keep r.cell own cells all exchanged);
     }
 
+-- runs of some cells' book and of the others' make a run of a book each of whose orders is for some cell
 pub whole_run : (keep : Keep) (book : Contents) (slots : ℕ) (xs ys : List Exchange) (records rest : List Record)
     → All IsForCells book.orders → IsRun (restricted keep book) slots xs records
     → IsRun (restricted (leave keep) book) slots ys rest
@@ -82,6 +85,7 @@ whole_run keep book slots xs ys records rest orders one two =
       },
     )
 
+-- so it is with a book that was read
 pub parts_make_the_whole : BooksAreNetworks → PartsMakeTheWhole
 parts_make_the_whole networks from input keep book slots exchanges others records rest is one two =
     whole_run keep book slots exchanges others records rest (orders_for_cells networks from input book is) one two

@@ -130,6 +130,7 @@ category_means keep None asks channel asked cells command order = absurd (cc)
 category_means keep (Some known) asks channel asked cells command order =
     channel_means keep channel asked cells (asks known) command order
 
+-- what a message asks of some of its cells is the same command to these
 pub kept_means : (keep : Keep) (message : Message) (cells : List Cell) (command : Command)
     → order_of message ≡ Ok (cells, command) → order_of (kept_message keep message) ≡ Ok (filter keep cells, command)
 kept_means keep (messages.Write id new old asked channel category period broadcasts dcs contents) cells command order =

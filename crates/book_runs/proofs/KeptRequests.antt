@@ -149,6 +149,7 @@ kept_row keep live also agree order (action.Stop cells) (Some paged) some =
     kept_made keep live also agree order.number cells (stop_request order) (stop_request (kept_order keep order))
     (stop_makes keep order) versions
 
+-- cells of which there are none
 pub nothing : (cells : List Cell) → not (is_nothing cells) ≡ false → cells ≡ []
 nothing [] none = refl
 nothing (c ∷ cells) none = absurd (cc)
@@ -250,6 +251,7 @@ none_next live (o ∷ left) none = by_due (requests_of live o.0 o.1) (none_next 
     by_due [] rest none = rest none
     by_due (r ∷ due) rest none = absurd (cc)
 
+-- where no request is due, no order is left
 pub none_due : (live : Belief) (due : List Request) (left : List PagedOrder) → (due_requests live due left).0 ≡ []
     → (due_requests live due left).1 ≡ []
 none_due live [] left none = none_next live left none

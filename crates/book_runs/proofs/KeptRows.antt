@@ -35,10 +35,12 @@ use Rattle.alert_book.specs.Row.{stop_row_by, update_row_by, update_with, update
 use Rattle.book_runs.specs.CellParts.{Keep, kept_action, kept_order, kept_sending}
 use Rattle.book_runs.specs.WholeNetwork.{in_group, row_of_network}
 
+-- what a row means for some cells
 abbrev pub kept_row : Keep → Row → Row
 kept_row keep (rows.Declare cell) = rows.Declare cell
 kept_row keep (rows.Give order) = rows.Give (kept_order keep order)
 
+-- what rows mean for them: all cells are declared
 abbrev pub kept_rows : Keep → Rows → Rows
 kept_rows keep before = rows_with before.cells (map (kept_order keep) before.orders)
 
@@ -66,6 +68,7 @@ pub then_same : {A C D : Type 0} (r : Result A RowFault) (change : C → D) (nex
 then_same (Ok value) change next later so = so value
 then_same (Err kind) change next later so = refl
 
+-- of two results that are kept, one that is chosen is
 pub either_kept : {C D : Type 0} (test : Bool) (change : C → D) (a b : Result C RowFault) (c d : Result D RowFault) →
     right_by change a ≡ c → right_by change b ≡ d → right_by change (cond test a b) ≡ cond test c d
 either_kept true change a b c d first second = first
@@ -187,6 +190,7 @@ declares_kept keep declared fields =
     then_same (number 0 65535 (column fields 2)) (kept_row keep) _ _ (λ ci.
     either_kept (is_among declared (cell_with lac ci)) (kept_row keep) _ _ _ _ refl refl)))
 
+-- a row means for some cells what it means where its field has these alone
 pub verb_kept : (keep : Keep) (verb : Option Verb) (row : ℕ) (declared : List Cell) (f g : FieldCells)
     (orders : List Order) (fields : List (List ℕ)) → AreKept keep f g →
     right_by (kept_row keep) (row_after_verb_by verb (cell_row_within 65536 declared fields) row f orders fields)
@@ -297,6 +301,7 @@ judged_declared declared (Some listed) cells is = elim (cases_Bool (list_all (is
   ]
 ]
 
+-- a field comes to declared cells
 pub field_declared : (declared : List Cell) (field : List ℕ) (cells : List Cell) → cells_of_field declared field
     ≡ Ok cells
     → list_all (is_among declared) cells ≡ true
@@ -341,6 +346,7 @@ pub record Declares (before result : Rows) : Type 0 where
 same_rows : (a b : Rows) → (let r : Result Rows BookFault = Ok a in r) ≡ Ok b → a ≡ b
 same_rows a b is = cc
 
+-- rows declare cells after those that are there
 pub declares : (meaning : RowMeaning) (records : List (List (List ℕ))) (row : ℕ) (before result : Rows)
     → rows_read_by meaning row before records ≡ Ok result → Declares before result
 declares meaning [] row before result is = record {
@@ -364,6 +370,7 @@ declares meaning (fields ∷ records) row before result is =
     by_row (Ok (rows.Give order)) is rest =
         let later = rest (with_row before (rows.Give order)) is in record { more = later.more; is = later.is }
 
+-- what rows mean for some cells with one row more
 pub with_kept : (keep : Keep) (before : Rows) (meant : Row)
     → kept_rows keep (with_row before meant) ≡ with_row (kept_rows keep before) (kept_row keep meant)
 with_kept keep before (rows.Declare cell) = refl

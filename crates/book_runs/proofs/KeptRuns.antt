@@ -40,6 +40,7 @@ none_asked keep cell own cells x is none =
     ∙ ap (λ (l : List (Cell × Answer)). map (asked_with x) (own_of cell l))
     (none_mapped (λ (a : Cell × Answer). a.0) (kept_answers keep x.answers) named)
 
+-- one of these cells is asked the same by the exchanges that ask some of them
 pub asked_same : (keep : Keep) (cell : Cell) → keep cell ≡ true → (cells : List Cell) (exchanges : List Exchange)
     → All (IsExchange cells) exchanges → asked_of cell (kept_exchanges keep exchanges) ≡ asked_of cell exchanges
 asked_same keep cell own cells [] each = refl
@@ -69,6 +70,7 @@ kept_record keep slots cells exchanges r each own run = record {
   entries = run.entries ∙ ap (entries_for slots 0) (sym (asked_same keep r.cell own cells exchanges each));
 }
 
+-- what concerns some cells of a book's run is a run of their book
 pub cells_run_apart : CellsRunApart
 cells_run_apart keep book slots exchanges records run = record {
   session = turns_kept keep book.cells book 0 1 exchanges run.exchanged run.session;

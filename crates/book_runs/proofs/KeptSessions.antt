@@ -162,6 +162,7 @@ share_sent keep request s t sent some share =
     share.stands ∙ ap (λ (l : List Request). advanced t.replies share.row (due_requests (version_in t.replies) l
     (kept_orders keep s.left))) due
 
+-- after a reply to a request that asks some of these cells, their session has its share again
 pub share_goes : (keep : Keep) (cells : List Cell) (x : Exchange) (s t : Standing) → IsExchange cells x
     → s.sent ≡ Some x.turn.request → asks_some (kept_request keep x.turn.request) ≡ true → IsShareOf keep s t
     → IsShareOf keep (after_reply (Some x.turn.reply) s) (after_reply (Some (kept_exchange keep x).turn.reply) t)
@@ -195,6 +196,7 @@ share_goes keep cells x s t is sent some share =
     (due_requests (version_in (last ∷ s.replies)) s.due s.left))) (sym next)
     (goes_on keep (last ∷ s.replies) (also ∷ t.replies) s.row t.row s.due s.left agree))
 
+-- the turns of exchanges
 abbrev pub turns_in : List Exchange → List Turn
 turns_in exchanges = map (λ (x : Exchange). x.turn) exchanges
 
@@ -204,6 +206,7 @@ pub record GoesToEnd (t : Standing) (turns : List Turn) : Type 0 where
   pub gone : GoesTo t turns reached
   pub over : reached.sent ≡ None
 
+-- where the whole session is over, so is theirs
 pub over_both : (keep : Keep) (s t : Standing) → IsShareOf keep s t → s.sent ≡ None → t.sent ≡ None
 over_both keep s t share none =
     let ended = share.ended none in
@@ -215,6 +218,7 @@ over_both keep s t share none =
     ∙ ap (λ (l : List PagedOrder). advanced t.replies share.row (due_requests (version_in t.replies) []
     (kept_orders keep l))) ended.1)
 
+-- the turns that ask these cells lead their session to its end
 pub shared_turns : (keep : Keep) (cells : List Cell) (exchanges : List Exchange) (s t to : Standing)
     → IsShareOf keep s t → GoesTo s (turns_in exchanges) to → to.sent ≡ None → All (IsExchange cells) exchanges
     → GoesToEnd t (turns_in (kept_exchanges keep exchanges))
@@ -264,6 +268,7 @@ part_kept keep part parts orders =
     filter_swap (is_of_part part parts) is_for_some (map (kept_paged keep) orders)
     ∙ ap (filter is_for_some) (filter_mapped (is_of_part part parts) (kept_paged keep) orders)
 
+-- the orders of a part of these cells' book are those of the whole book's part, for these cells
 pub restricted_orders : (keep : Keep) (book : Contents) (part parts : ℕ)
     → orders_from (restricted keep book) part parts 0 ≡ kept_orders keep (orders_from book part parts 0)
 restricted_orders keep book part parts =
@@ -279,6 +284,7 @@ begun_share keep book part parts =
     (advanced [] 0 (due_requests (version_in []) [] left))) (sym (restricted_orders keep book part parts))
     (goes_on keep [] [] 0 0 [] (orders_from book part parts 0) (λ number cell own. refl))
 
+-- the turns of a book's session that ask these cells are those of the session of their book
 pub turns_kept : (keep : Keep) (cells : List Cell) (book : Contents) (part parts : ℕ) (exchanges : List Exchange)
     → All (IsExchange cells) exchanges → AreTurnsOf book part parts (turns_in exchanges)
     → AreTurnsOf (restricted keep book) part parts (turns_in (kept_exchanges keep exchanges))

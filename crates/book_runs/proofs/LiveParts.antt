@@ -46,6 +46,7 @@ kept_exchanged keep cells exchanges each =
     (All-weaker (IsExchange cells) (λ (x : Exchange). IsExchange (filter keep cells) (kept_exchange keep x))
     (λ x is. is_kept_exchange keep cells x is) exchanges each))
 
+-- what concerns some cells of a run with sessions is a run of their book with as many
 pub cells_live_apart : CellsLiveApart
 cells_live_apart keep book slots sessions records run = record {
   turns = λ part within.
@@ -184,6 +185,7 @@ whole_records keep slots cells all sessions records exchanged share named each =
       entries = by.entries;
     }
 
+-- runs of some cells' book and of the others' make a run of the whole book, with as many sessions
 pub live_parts_make_the_whole : BooksAreNetworks → LivePartsMakeTheWhole
 live_parts_make_the_whole networks from input keep book slots sessions others records rest is long one two =
     let parts : ℕ = length sessions in

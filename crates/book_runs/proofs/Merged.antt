@@ -23,6 +23,7 @@ pub record IsMerge {X : Type 0} (of : X → Cell) (keep : Keep) (cells : List Ce
   pub one : filter (λ x. keep (of x)) (merged keep cells xs ys) ≡ xs
   pub two : filter (λ x. leave keep (of x)) (merged keep cells xs ys) ≡ ys
 
+-- lists of some cells and of the others merge to one of all, of which they are the parts
 pub is_merge : {X : Type 0} (of : X → Cell) (keep : Keep) (cells : List Cell) (xs ys : List X)
     → map of xs ≡ filter keep cells → map of ys ≡ filter (leave keep) cells → IsMerge of keep cells xs ys
 is_merge of keep [] [] [] one two = record { all = refl; one = refl; two = refl }

@@ -165,6 +165,7 @@ whole_more row before fields (rows.Give order) whole is = record {
       (row_some row before.cells before.orders fields (rows.Give order) is);
 }
 
+-- a whole network's rows are for some of its cells each, and no cell is there twice
 pub whole_rows : (input : List ℕ) (whole : Contents) → IsWholeNetwork input whole
     → AreWhole (rows_with whole.cells whole.orders)
 whole_rows input whole is =
@@ -179,12 +180,14 @@ action_some declared (action.Write s) right = right.cells
 action_some declared (action.Update update s) right = right.cells
 action_some declared (action.Stop cells) right = right
 
+-- its orders are for its cells
 pub whole_within : (input : List ℕ) (whole : Contents) → IsWholeNetwork input whole
     → All (IsWithin whole.cells) whole.orders
 whole_within input whole is =
     All-weaker (λ (o : Order). IsRightActionBy (AreSome whole.cells) o.action) (IsWithin whole.cells)
     (λ o right. (action_some whole.cells o.action right).within) whole.orders (whole_rows input whole is).right
 
+-- each is for some
 pub whole_for_cells : (input : List ℕ) (whole : Contents) → IsWholeNetwork input whole
     → All IsForCells whole.orders
 whole_for_cells input whole is =
@@ -202,6 +205,7 @@ action_pages keep (action.Update update sending) (Some p) are = are
 action_pages keep (action.Stop cells) None are = are
 action_pages keep (action.Stop cells) (Some p) are = are
 
+-- orders for some cells have the pages that they have for all
 pub kept_pages : (keep : Keep) (orders : List Order) (pages : List (Option Paged)) → HavePages orders pages
     → HavePages (map (kept_order keep) orders) pages
 kept_pages keep [] [] have = have
@@ -217,6 +221,7 @@ pub record AreKeptWith (keep : Keep) (all : List Order) (pages : List (Option Pa
   pub paged : HavePages (map (λ (o : PagedOrder). o.0) (kept_orders keep (orders_with all pages)))
       (map (λ (o : PagedOrder). o.1) (kept_orders keep (orders_with all pages)))
 
+-- so have those of them that are for some
 pub kept_with_pages : (keep : Keep) (all : List Order) (pages : List (Option Paged)) → HavePages all pages
     → AreKeptWith keep all pages
 kept_with_pages keep [] [] have = record { orders = refl; paged = have }
@@ -238,6 +243,7 @@ kept_with_pages keep (o ∷ all) (p ∷ pages) have =
     )
     by_some false rest = (rest.orders, rest.paged)
 
+-- the book of a group is that of its cells, of the whole network's
 pub groups_are_parts : GroupsAreParts
 groups_are_parts group input whole is there =
     let rows : Rows = rows_with whole.cells whole.orders in
@@ -261,6 +267,7 @@ groups_are_parts group input whole is there =
       paged = kept.paged;
     }
 
+-- a network has as many groups as its cells fill
 pub whole_networks_are_counted : WholeNetworksAreCounted
 whole_networks_are_counted group input whole is =
     let rows : Rows = rows_with whole.cells whole.orders in

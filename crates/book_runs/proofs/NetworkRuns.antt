@@ -98,6 +98,7 @@ group_runs one input whole slots from (part ∷ parts) is count runs =
 enough : (n : ℕ) → n ≤ 64 * groups_of n
 enough n = omega arith
 
+-- runs of all groups' books are one run of the whole network's
 pub networks_have_one_run : BooksAreOne → NetworksHaveOneRun
 networks_have_one_run one input whole slots parts is count runs =
     let few = enough (length whole.cells) in

@@ -37,6 +37,7 @@ all_kept p (x ∷ xs) = elim (cases_Bool (p x)) [
   | inr other ↦ rw other (all_kept p xs)
 ]
 
+-- things that all pass a test pass each weaker one
 pub all_also : {X : Type 0} (p q : X → Bool) → ((x : X) → p x ≡ true → q x ≡ true) → (xs : List X)
     → list_all p xs ≡ true → list_all q xs ≡ true
 all_also p q so [] all = refl
@@ -132,6 +133,7 @@ cells_within own (action.Write s) right = right.cells
 cells_within own (action.Update update s) right = right.cells
 cells_within own (action.Stop cells) right = right
 
+-- an order is for some of these cells alone
 abbrev pub IsWithin : List Cell → Order → Type 0
 IsWithin own o = Within own (cells_of_action o.action)
 
@@ -151,6 +153,7 @@ group_within group input book is =
     subst (λ (l : List Order). All (IsWithin book.cells) l) (sym is.orders)
     (subst (λ (own : List Cell). All (IsWithin own) (filter has_cells is.rows.orders)) (sym is.cells) orders)
 
+-- the orders of a book are for the book's cells
 pub orders_within : BooksAreNetworks → (from : Origin) (input : List ℕ) (book : Contents)
     → IsBookFrom from input book → All (IsWithin book.cells) book.orders
 orders_within networks origin.Book input book is = group_within 0 input book (networks input book is).0

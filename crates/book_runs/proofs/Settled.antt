@@ -185,6 +185,7 @@ books_are_fit laws from input book is = record {
   writable = λ part parts turns reached goes. laws.writable from input book part parts turns reached is goes;
 }
 
+-- a desk of a book that was read has a run of it, too
 pub settled_sessions_are_runs : BookLaws → SettledSessionsAreRuns
 settled_sessions_are_runs laws from input book slots parts desk passes records is some same_cells same_slots settled
     are =

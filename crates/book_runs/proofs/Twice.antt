@@ -36,6 +36,7 @@ paged_twice keep more so o =
     ap (λ (a : Action). let p : PagedOrder = (order_with o.0.row o.0.at o.0.name o.0.number o.0.alert a, o.1) in p)
     (action_twice keep more so o.0.action)
 
+-- an action for some cells is for those of its cells that are among them
 pub kept_cells_of : (keep : Keep) (a : Action) → cells_of_action (kept_action keep a) ≡ filter keep (cells_of_action a)
 kept_cells_of keep (action.Write s) = refl
 kept_cells_of keep (action.Update update s) = refl
@@ -84,6 +85,7 @@ contents_of cells orders = record {
   pages = map (λ o. o.1) orders;
 }
 
+-- the book of some cells of some of a book's cells is theirs
 pub restricted_twice : (keep more : Keep) → AreWithin keep more → (book : Contents)
     → restricted keep (restricted more book) ≡ restricted keep book
 restricted_twice keep more so book =

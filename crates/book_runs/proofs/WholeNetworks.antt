@@ -115,6 +115,7 @@ pages_back keep (o ∷ orders) (p ∷ pages) have =
     by_action (action.Stop cells) None are = are
     by_action (action.Stop cells) (Some q) are = are
 
+-- octets that have a group's book are a whole network's
 pub groups_are_of_networks : GroupsAreOfNetworks
 groups_are_of_networks group input book is =
     let records : List (List (List ℕ)) = is.network.meant.records in

@@ -41,9 +41,11 @@ use Rattle.book_runs.specs.Live.{Interleaving}
 use Rattle.book_runs.specs.Run.{Exchange, IsExchange, asked_of, asked_with, entries_for, is_among}
 use Rattle.book_runs.specs.Sessions.{AreSessions, IsNoteOf, asks_of, is_of_command}
 
+-- the first cell
 abbrev pub one : Cell
 one = cell_with 1 1
 
+-- the second
 abbrev pub other : Cell
 other = cell_with 1 2
 
@@ -86,13 +88,16 @@ book p q r =
 abbrev pub write : (id serial : ℕ) (old : Option ℕ) (cells : List Cell) (dcs : Dcs) (contents : List Content) → Message
 write id serial old cells dcs contents = messages.Write id serial old cells None (Some 2) 4 0 dcs contents
 
+-- the command of such a message
 abbrev pub asks : (id serial : ℕ) (old : Option ℕ) (dcs : Dcs) (contents : List Content) → Command
 asks id serial old dcs contents = commands.Write id serial old Normal dcs 4 0 contents
 
+-- a request
 abbrev pub request : (row at number : ℕ) (version : Option ℕ) (message : Message) → Request
 request row at number version message =
     record { row = row; at = at; number = number; version = version; message = message }
 
+-- what came of a request: the command that it means, and these answers with their reply
 abbrev pub exchange : Request → Command → List (Cell × Answer) → Exchange
 exchange asked command given = record {
   turn = record { request = asked; reply = reply_message command given };
@@ -103,18 +108,22 @@ exchange asked command given = record {
 abbrev both_started : List (Cell × Answer)
 both_started = (one, answers.Started 0) ∷ (other, answers.Started 0) ∷ []
 
+-- the exchanges of the rows 3 to 6: a write in both cells
 abbrev pub row_3 : (p : Paged) → Exchange
 row_3 p = exchange (request 3 0 0 (Some 0) (write 4370 16 None (one ∷ other ∷ []) p.dcs p.pages.items))
     (asks 4370 16 None p.dcs p.pages.items) both_started
 
+-- a write of another alert in both
 abbrev pub row_4 : (q : Paged) → Exchange
 row_4 q = exchange (request 4 0 1 (Some 0) (write 4383 32 None (one ∷ other ∷ []) q.dcs q.pages.items))
     (asks 4383 32 None q.dcs q.pages.items) both_started
 
+-- an update of the first in one cell
 abbrev pub row_5 : (r : Paged) → Exchange
 row_5 r = exchange (request 5 4 0 (Some 1) (write 4370 17 (Some 16) (one ∷ []) r.dcs r.pages.items))
     (asks 4370 17 (Some 16) r.dcs r.pages.items) ((one, answers.Replaced 4 1) ∷ [])
 
+-- and a stop of the second in the other
 abbrev pub row_6 : Exchange
 row_6 = exchange (request 6 6 1 None (messages.Kill 4383 32 (other ∷ []) None)) (commands.Kill 4383 32)
     ((other, answers.Stopped 2) ∷ [])

@@ -84,6 +84,7 @@ one_lines pages (order ∷ orders) lines others one two =
     let rest = one_lines pages orders one.1 two.1 one.3 two.3 in
     one.4 ∙ ap (λ (line : List ℕ). line ++ one.1) first ∙ ap (λ (more : List ℕ). two.0 ++ more) rest ∙ sym two.4
 
+-- so octets have one table
 pub tables_are_one : TablesAreOne
 tables_are_one pages input output another one two =
     let rows = one_meaning row_of input one.rows two.rows one.read two.read in
@@ -91,5 +92,6 @@ tables_are_one pages input output another one two =
     (subst (λ (r : Rows). AreLinesOf pages r.orders one.lines) rows one.lines_are) two.lines_are in
     one.written ∙ ap (λ (l : List ℕ). header_line pages ++ l) lines ∙ sym two.written
 
+-- and none where a row has a fault
 pub tables_have_right_rows : TablesHaveRightRows
 tables_have_right_rows pages input output f table wrong = right_or_wrong row_of input table.rows f table.read wrong

@@ -88,6 +88,7 @@ whole_of of_networks slots groups input [] each some = absurd (omega (arith, som
 whole_of of_networks slots groups input (part ∷ parts) each some =
     of_networks 0 input each.0.run.book each.0.run.is_book
 
+-- the tapes of a network's groups are those of one run of the whole
 pub network_tapes : OneSessionIsARun → GroupsAreOfNetworks → WholeNetworksAreCounted → CountsAreOne
     → NetworksHaveOneRun
     → NetworkTapesAreOfOneRun
