@@ -80,7 +80,7 @@ payload_there channel place block long =
 
 block_there : (channel : Channel) (place : Place) (block : List ℕ) → length block ≡ 23 →
     block_of None (tap_header channel place ++ block) ≡ Some (record
-        { frame = frame_number channel place; block = block })
+    { frame = frame_number channel place; block = block })
 unfolding tap_header block_of
 block_there BesideSdcch4 place block long =
     rw long (ap (λ (f : ℕ). Some (record { frame = f; block = block }))
@@ -286,8 +286,10 @@ known_at slot done left = record { track = Some (record { first = 0; slot = slot
 slot_taken : (channel : Channel) (cell : Cell) (slot number : ℕ) (octets : List ℕ) (track : Option Track)
     (done : List (List ℕ)) (left : ℕ) → length octets ≡ 92 → length done ≡ 4 * slot →
     followed track (slot % 6656) ≡ Some (record { first = 0; slot = slot }) →
-    after_packets Internet anyone number (Ok (record { track = track; blocks = sofar done (suc (suc (suc (suc left))))
-        }))
+    after_packets Internet anyone number (Ok (record {
+      track = track;
+      blocks = sofar done (suc (suc (suc (suc left))));
+    }))
     (packets_in channel cell slot 0 (blocks_in_slot octets))
     ≡ Ok (known_at slot (done ++ blocks_in_slot octets) left)
 slot_taken channel cell slot number octets track done left long many leads =

@@ -93,7 +93,7 @@ block_of arfcn octets =
 unfoldable pub sent_in : Link → Sender → List ℕ → Option Sent
 sent_in link from octets =
     option_and_then (λ internet. option_and_then (λ datagram. option_and_then (block_of from.arfcn)
-        (payload_of datagram))
+    (payload_of datagram))
     (datagram_of from.address internet)) (internet_of link octets)
 
 -- whoever sends
