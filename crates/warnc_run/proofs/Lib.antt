@@ -4,4 +4,6 @@ pub mod Written
 pub mod Asked
 pub mod FirstFault
 pub mod OneOutput
+pub mod ReportColumns
+pub mod FirstShown
 pub mod GroupParts

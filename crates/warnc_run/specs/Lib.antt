@@ -8,3 +8,5 @@ pub mod Engine
 pub mod RunSteps
 pub mod NetworkSteps
 pub mod OneOutput
+pub mod ReportColumns
+pub mod FirstShown
