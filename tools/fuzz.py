@@ -122,6 +122,7 @@ DIFFERENCE = re.compile(
 CHECK_NAMES = ["row", "line", "column", "field", "value", "says"]
 TEXTS_NAMES = ["row", "name", "lang", "coding", "characters", "pages", "room", "first_ucs2", "place"]
 REPORT_ROW = re.compile(rb"\d+,\d+,\d+,[0-9a-f]{4},\d+,\d+,\d+,(?:yes|no|refused [0-9a-f]{2})")
+REPORT_MORE = re.compile(rb"(?:\d*,\d+,\d+,\d+|,,,),[A-Za-z ]*")
 
 
 # What is run, and what comes of it
@@ -372,10 +373,14 @@ def is_tapes(run, out):
     return True
 
 
-def is_report(out):
+def is_report(run, out):
+    """Whether an output is a report, full if the options ask for it."""
+    names, row = b"lac,ci,id,serial,start,end,completed,shown", REPORT_ROW
+    if "--full" in run.words:
+        names, row = names + b",first_shown,pages,period,share,cause", re.compile(
+            REPORT_ROW.pattern + b"," + REPORT_MORE.pattern)
     rows = out.split(b"\n")
-    return rows[0] == b"lac,ci,id,serial,start,end,completed,shown" and rows[-1] == b"" and len(rows) > 1 and all(
-        REPORT_ROW.fullmatch(row) for row in rows[1:-1])
+    return rows[0] == names and rows[-1] == b"" and len(rows) > 1 and all(map(row.fullmatch, rows[1:-1]))
 
 
 def table_in(out):
@@ -465,7 +470,7 @@ def is_output(run, out):
     """Whether an output has the form of the command's."""
     if run.wanted == "text":
         return bool(out)
-    forms = {"page": lambda: is_shown(run, out), "read": lambda: is_table(out), "report": lambda: is_report(out),
+    forms = {"page": lambda: is_shown(run, out), "read": lambda: is_table(out), "report": lambda: is_report(run, out),
              "chart": lambda: is_chart(out), "verify": lambda: differences_in(out) == 0,
              "check": lambda: faults_in(out) == 0, "texts": lambda: is_of_texts(run, out),
              "pcap": lambda: is_capture(out),
@@ -1161,6 +1166,8 @@ def book_options(chance, command, book):
         options["--sessions"] = threads_word(chance)
     if command == "chart" and chance.random() < 0.3:
         options["--cell"] = cell_word(chance)
+    if command == "report" and chance.random() < 0.3:
+        options["--full"] = None
     return options
 
 

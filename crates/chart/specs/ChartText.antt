@@ -1,5 +1,5 @@
--- The chart of a run: one page in HTML that stands alone (own). What is fixed in it are constants of the code, but for
--- the words of causes; what is said here is what stands between them, and in which order.
+-- The chart of a run: one page in HTML that stands alone (own). What is fixed in it are constants of the code; what is
+-- said here is what stands between them, and in which order.
 use Rattle.std.specs.Prelude.{ℕ, ◌-◌, ◌*◌, ◌/◌, ◌%◌, ◌==◌, ◌&&◌, Bool, true, if◌then◌else◌, Option, Some, None, List}
 use Rattle.std.specs.Prelude.{[], ◌∷◌, ◌++◌, codes}
 use Rattle.std.specs.Fmt.{decimal}
@@ -10,11 +10,11 @@ use Rattle.device_ends.specs.Moves.{AppendsFront}
 use Rattle.device_ends.specs.Stream.{Writes}
 use Rattle.device_ends.specs.declared.writing.Sink.{Sink}
 use Rattle.cbsp_wire.specs.declared.message.Cell.{Cell}
-use Rattle.cbsp_wire.specs.declared.cause.TheConstants as cause
 use Rattle.bsc_table.specs.Record.{Record, Accepted, accepted_named}
 use Rattle.handset.specs.Reception.{ShownMessage}
 use Rattle.handset.specs.Tape.{TapeReading, readings_of}
 use Rattle.handset.specs.declared.tape.Reading.{Reading}
+use Rattle.report.specs.Cause.{cause_words}
 use Rattle.report.specs.ReportText.{serial_text}
 use Rattle.report.specs.Rows.{cell_rows}
 use Rattle.report.specs.declared.row.Row.{Row}
@@ -33,23 +33,6 @@ use Rattle.chart.specs.Message.{category_words, marks_of, text_shown}
 -- the name of what a row is of: its identifier, and its serial number in hexadecimal
 unfoldable pub name_text : Row → List ℕ
 name_text row = decimal row.id ++ lines.SPACE.now ++ serial_text row.serial
-
--- a cause in words (3GPP TS 48.049, 8.2, Cause)
-abbrev pub cause_words : ℕ → List ℕ
-cause_words number =
-    if number == cause.PARAMETER_NOT_RECOGNISED then codes "parameter not recognised"
-    else if number == cause.PARAMETER_VALUE_INVALID then codes "parameter value invalid"
-    else if number == cause.MESSAGE_REFERENCE_NOT_IDENTIFIED then codes "message reference not identified"
-    else if number == cause.CELL_IDENTITY_NOT_VALID then codes "cell identity not valid"
-    else if number == cause.UNRECOGNISED_MESSAGE then codes "unrecognised message"
-    else if number == cause.MISSING_MANDATORY_ELEMENT then codes "missing mandatory element"
-    else if number == cause.BSC_CAPACITY_EXCEEDED then codes "BSC capacity exceeded"
-    else if number == cause.CELL_MEMORY_EXCEEDED then codes "cell memory exceeded"
-    else if number == cause.BSC_MEMORY_EXCEEDED then codes "BSC memory exceeded"
-    else if number == cause.CELL_BROADCAST_NOT_OPERATIONAL then codes "cell broadcast not operational"
-    else if number == cause.EXTENDED_CHANNEL_NOT_SUPPORTED then codes "extended channel not supported"
-    else if number == cause.MESSAGE_REFERENCE_ALREADY_USED then codes "message reference already used"
-    else codes "another cause"
 
 -- a cause in words, and its number in two hexadecimal digits
 unfoldable pub cause_text : ℕ → List ℕ

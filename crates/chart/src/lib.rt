@@ -17,6 +17,5 @@ pub mod message;
 mod page;
 pub mod time;
 
-pub use cause::cause_words;
 pub use chart::{chart_octets, part_octets, write_chart};
 pub use laws::chart_laws;

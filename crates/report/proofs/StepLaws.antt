@@ -1,5 +1,6 @@
 -- One step of each walk: over the messages that are shown, over the slots, and over the entries from the last one on.
-use Rattle.std.proofs.Common.{◌≡◌, ℕ, ◌+◌, ◌<◌, ◌≤◌, Bool, true, false, cond, Option, None, List, [], ◌∷◌, ◌++◌}
+use Rattle.std.proofs.Common.{◌≡◌, ℕ, ◌+◌, ◌<◌, ◌≤◌, Bool, true, false, cond, Option, Some, None, List, [], ◌∷◌}
+use Rattle.std.proofs.Common.{◌++◌}
 use Rattle.std.proofs.Common.{length, map, take, drop, drop-cons, get_or, set, eqb, count_by, suc, refl, sym, ◌∙◌}
 use Rattle.std.proofs.Common.{ap, inl, inr, arith, append_assoc, append-nil, eq-eqb, eqb-true}
 use Rattle.std.specs.Prelude.{◌&&◌, ◌||◌, not, if◌then◌else◌}
@@ -24,7 +25,7 @@ use Rattle.handset.specs.Reception.{ShownMessage}
 use Rattle.handset.specs.Tape.{TapeReading, reading_of, readings_of}
 use Rattle.report.specs.declared.row.Row.{Row}
 use Rattle.report.specs.Rows.{AreOfOneCells, cell_rows, is_shown, report_rows}
-use Rattle.report.specs.RowSteps.{Pair, has_name, is_pair, stop_at, stop_of_command}
+use Rattle.report.specs.RowSteps.{Pair, first_airing, has_name, is_pair, stop_at, stop_of_command}
 use Rattle.report.proofs.ListLaws.{flat_map-place}
 
 -- a set with one more pair, and the messages with one more
@@ -51,7 +52,7 @@ name-more names new shown i m id serial within item updated before =
     ∙ ap (list_any test) (sym one_more)
 
 -- one more slot
-counted : (test : Option (ℕ × ℕ) → Bool) (air : List (Option (ℕ × ℕ))) (i : ℕ) → i < length air →
+pub counted : (test : Option (ℕ × ℕ) → Bool) (air : List (Option (ℕ × ℕ))) (i : ℕ) → i < length air →
     (says : Bool) → test (get_or air i None) ≡ says →
     count_by test (take (i + 1) air) ≡ count_by test (take i air) + (if says then 1 else 0)
 counted test air i within true is = count_by_more_yes test air i None within is
@@ -65,6 +66,24 @@ times-more air i place pages used within is =
     let within_pairs : i < length (air_pairs air) = omega (arith, length-map air aired_pair) in
     counted (airs_page place pages) (air_pairs air) i within_pairs (airs_page place pages (aired_pair used))
     (ap (airs_page place pages) (get_or-map aired_pair air i None None within ∙ ap aired_pair is))
+
+-- the first slot that airs a page, with one slot more in front
+pub first-more : (air : List (Option Aired)) (slot next entry page : ℕ) (used : Option Aired) → slot + 1 ≡ next →
+    slot < length air → get_or air slot None ≡ used → first_airing entry page (drop slot (air_pairs air)) slot
+    ≡ (if airs_page entry page (aired_pair used) then Some slot
+    else first_airing entry page (drop next (air_pairs air)) next)
+first-more air slot next entry page used after within is =
+    let within_pairs : slot < length (air_pairs air) = omega (arith, length-map air aired_pair) in
+    let more : suc slot ≡ next = omega (arith, after) in
+    let here : get_or (air_pairs air) slot (aired_pair used) ≡ aired_pair used =
+    get_or-map aired_pair air slot None (aired_pair used) within ∙ ap aired_pair is in
+    ap (λ (uses : List (Option (ℕ × ℕ))). first_airing entry page uses slot)
+    (drop-cons (air_pairs air) slot (aired_pair used) within_pairs)
+    ∙ ap (λ (x : Option (ℕ × ℕ)). first_airing entry page (x ∷ drop (suc slot) (air_pairs air)) slot) here
+    ∙ ap (λ (n : ℕ). if airs_page entry page (aired_pair used) then Some slot
+    else first_airing entry page (drop (suc slot) (air_pairs air)) n) after
+    ∙ ap (λ (n : ℕ). if airs_page entry page (aired_pair used) then Some slot
+    else first_airing entry page (drop n (air_pairs air)) next) more
 
 -- the entries from a place on are the one there and those after it
 pub dropped : (log : List Entry) (n place : ℕ) (e : Entry) → n + 1 ≡ place → n < length log → e ≡ get_or log n e →

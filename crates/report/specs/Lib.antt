@@ -1,4 +1,6 @@
 pub mod Rows
+pub mod Cause
 pub mod ReportText
+pub mod Laws
 pub mod RowSteps
 pub mod TextSteps

@@ -1,9 +1,13 @@
 -- The text of a report, as CSV (own).
-use Rattle.std.specs.Prelude.{ℕ, ◌/◌, ◌%◌, Bool, true, false, List, [], ◌∷◌, ◌++◌, codes}
+use Rattle.std.specs.Prelude.{ℕ, ◌/◌, ◌%◌, Bool, true, false, Option, Some, None, List, [], ◌∷◌, ◌++◌, codes}
 use Rattle.std.specs.Fmt.{decimal}
 use Rattle.std.specs.List.{flat_map}
 use Rattle.csv.specs.Writing.{default_writer, row_text}
 use Rattle.hex.specs.Hex.{encode_lower}
+use Rattle.report.specs.Cause.{cause_words}
+use Rattle.report.specs.declared.row.Columns.{Columns}
+use Rattle.report.specs.declared.row.Columns.TheVariants as columns
+use Rattle.report.specs.declared.row.Demand.{Demand}
 use Rattle.report.specs.declared.row.Row.{Row}
 use Rattle.report.specs.declared.row.Showing.{Showing}
 use Rattle.report.specs.declared.row.Showing.TheVariants as shown_status
@@ -45,3 +49,59 @@ heading false = []
 
 abbrev pub part_text : (headed : Bool) → List Row → List ℕ
 part_text headed rows = heading headed ++ flat_map row_line rows
+
+-- a number is decimal; there is no octet where there is no number
+abbrev pub number_or_none : Option ℕ → List ℕ
+number_or_none None = []
+number_or_none (Some n) = decimal n
+
+-- what a write asks of the channel: its pages, its period and its share; nothing of a kill
+abbrev pub demand_pages : Option Demand → Option ℕ
+demand_pages None = None
+demand_pages (Some d) = Some d.pages
+
+abbrev pub demand_period : Option Demand → Option ℕ
+demand_period None = None
+demand_period (Some d) = Some d.period
+
+abbrev pub demand_share : Option Demand → Option ℕ
+demand_share None = None
+demand_share (Some d) = Some d.share
+
+-- the cause of a refusal in words; nothing where the order was accepted
+abbrev pub words_of_showing : Showing → List ℕ
+words_of_showing shown_status.Yes = []
+words_of_showing shown_status.No = []
+words_of_showing (shown_status.Refused cause) = cause_words cause
+
+-- the names of all columns, and the fields of a row: the first eight are those of a plain report
+abbrev pub full_names : List (List ℕ)
+full_names =
+    codes "lac" ∷ codes "ci" ∷ codes "id" ∷ codes "serial" ∷ codes "start" ∷ codes "end" ∷ codes "completed"
+    ∷ codes "shown" ∷ codes "first_shown" ∷ codes "pages" ∷ codes "period" ∷ codes "share" ∷ codes "cause" ∷ []
+
+abbrev pub full_fields : Row → List (List ℕ)
+full_fields r =
+    decimal r.lac ∷ decimal r.ci ∷ decimal r.id ∷ serial_text r.serial ∷ decimal r.start ∷ decimal r.end
+    ∷ decimal r.completed ∷ showing_text r.shown ∷ number_or_none r.first_shown
+    ∷ number_or_none (demand_pages r.demand) ∷ number_or_none (demand_period r.demand)
+    ∷ number_or_none (demand_share r.demand) ∷ words_of_showing r.shown ∷ []
+
+abbrev pub full_header_line : List ℕ
+full_header_line = line full_names
+
+abbrev pub full_line : Row → List ℕ
+full_line r = line (full_fields r)
+
+-- the text of a part of a full report, headed or not
+abbrev pub full_heading : Bool → List ℕ
+full_heading true = full_header_line
+full_heading false = []
+
+abbrev pub full_part_text : (headed : Bool) → List Row → List ℕ
+full_part_text headed rows = full_heading headed ++ flat_map full_line rows
+
+-- and of a part with these columns
+abbrev pub text_with : Columns → (headed : Bool) → List Row → List ℕ
+text_with columns.Plain headed rows = part_text headed rows
+text_with columns.Full headed rows = full_part_text headed rows

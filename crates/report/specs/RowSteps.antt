@@ -1,21 +1,21 @@
 -- Steps on the way to the rows of a cell (own). The contracts of private functions alone speak of them.
 use Rattle.std.specs.Prelude.{◌≡◌, ℕ, ◌+◌, ◌*◌, ◌==◌, ◌&&◌, Bool, if◌then◌else◌, min, Option, Some, None}
-use Rattle.std.specs.Prelude.{List, [], length, find, slice_index, slice_index_or, drop}
+use Rattle.std.specs.Prelude.{List, [], ◌∷◌, length, find, slice_index, slice_index_or, drop}
 use Rattle.std.specs.List.{flat_map, list_any, range_with_len, slice_get}
 use Rattle.std.specs.Option.{option_map, option_map_or, unwrap_or, option_to_list}
 use Rattle.std.specs.Map.{lookup}
 use Rattle.cbsp_wire.specs.declared.message.Cell.{Cell}
 use Rattle.scheduler.specs.Air.{Air}
-use Rattle.scheduler.specs.Pages.{times_aired}
+use Rattle.scheduler.specs.Pages.{airs_page, times_aired}
 use Rattle.bsc_table.specs.declared.command.Command.{Command}
 use Rattle.bsc_table.specs.declared.command.Command.TheVariants as commands
 use Rattle.bsc_table.specs.declared.entry.Answer.{Answer}
 use Rattle.bsc_table.specs.declared.entry.Answer.TheVariants as answers
 use Rattle.bsc_table.specs.declared.entry.Entry.{Entry}
-use Rattle.bsc_table.specs.Record.{is_stop_of}
+use Rattle.bsc_table.specs.Record.{is_stop_of, rank_of}
 use Rattle.handset.specs.Reception.{ShownMessage}
 use Rattle.report.specs.declared.row.Row.{Row}
-use Rattle.report.specs.Rows.{refusal_row, showing_of, is_shown}
+use Rattle.report.specs.Rows.{demand_of, refusal_row, showing_of, is_shown}
 
 -- how many pages a command's message has: none, unless it is a write
 abbrev pub page_count_of : Command → ℕ
@@ -30,6 +30,16 @@ pages_at log place = option_map_or (λ e. page_count_of e.command) (slice_get lo
 -- how often the slots of an air list air the last page of the entry at a place
 abbrev pub last_pages : List Entry → Air → (place : ℕ) → ℕ
 last_pages log air place = times_aired place (pages_at log place) air (length air)
+
+-- the first of the slots of an air list that airs a page of an entry, where they are numbered from this slot on
+abbrev pub first_airing : (entry page : ℕ) → Air → (slot : ℕ) → Option ℕ
+first_airing entry page [] slot = None
+first_airing entry page (used ∷ air) slot =
+    if airs_page entry page used then Some slot else first_airing entry page air (slot + 1)
+
+-- the first slot that airs the last page of the entry at a place
+abbrev pub first_last_page : List Entry → Air → (place : ℕ) → Option ℕ
+first_last_page log air place = first_airing place (pages_at log place) air 0
 
 -- a pair of an identifier and a serial number
 abbrev pub Pair : Type 0
@@ -73,9 +83,9 @@ end_slot slots start period broadcasts stop =
     unwrap_or stop (if broadcasts == 0 then slots else min (start + broadcasts * period) slots)
 
 -- the row of a write that was accepted, by its start
-abbrev pub started_row : Cell → (slots : ℕ) → List ShownMessage → (stop : Option ℕ) → (completed : ℕ) → Command → ℕ
-    → Option Row
-started_row cell slots shown stop completed
+abbrev pub started_row : Cell → (slots : ℕ) → List ShownMessage → (stop : Option ℕ) → (completed : ℕ)
+    → (first : Option ℕ) → Command → ℕ → Option Row
+started_row cell slots shown stop completed first
     (commands.Write id serial replaces category dcs period broadcasts contents) start =
     Some (record {
       lac = cell.lac;
@@ -86,43 +96,48 @@ started_row cell slots shown stop completed
       end = end_slot slots start period broadcasts stop;
       completed = completed;
       shown = showing_of (is_shown shown id serial);
+      first_shown = first;
+      demand = Some (demand_of (rank_of category) (length contents) period);
     })
-started_row cell slots shown stop completed command start = None
+started_row cell slots shown stop completed first command start = None
 
 -- the row of a refused command
 abbrev pub refused_row : Cell → (slot cause : ℕ) → Command → Option Row
 refused_row cell slot cause (commands.Write id serial replaces category dcs period broadcasts contents) =
-    Some (refusal_row cell id serial slot cause)
-refused_row cell slot cause (commands.Kill id serial) = Some (refusal_row cell id serial slot cause)
+    Some (refusal_row cell id serial slot cause (Some (demand_of (rank_of category) (length contents) period)))
+refused_row cell slot cause (commands.Kill id serial) = Some (refusal_row cell id serial slot cause None)
 refused_row cell slot cause (commands.Status id serial) = None
 
--- the row of an entry, by its answer, its message's stop and how many of its broadcasts were completed
-abbrev pub row_by : Cell → (slots : ℕ) → List ShownMessage → (stop : Option ℕ) → (completed : ℕ) → (slot : ℕ) → Command
-    → Answer → Option Row
-row_by cell slots shown stop completed slot command (answers.Started start) =
-    started_row cell slots shown stop completed command start
-row_by cell slots shown stop completed slot command (answers.Replaced start others) =
-    started_row cell slots shown stop completed command start
-row_by cell slots shown stop completed slot command (answers.Cause cause) = refused_row cell slot cause command
-row_by cell slots shown stop completed slot command answer = None
+-- the row of an entry, by its answer, its message's stop, how many of its broadcasts were completed, and in which slot
+-- first
+abbrev pub row_by : Cell → (slots : ℕ) → List ShownMessage → (stop : Option ℕ) → (completed : ℕ) → (first : Option ℕ)
+    → (slot : ℕ) → Command → Answer → Option Row
+row_by cell slots shown stop completed first slot command (answers.Started start) =
+    started_row cell slots shown stop completed first command start
+row_by cell slots shown stop completed first slot command (answers.Replaced start others) =
+    started_row cell slots shown stop completed first command start
+row_by cell slots shown stop completed first slot command (answers.Cause cause) = refused_row cell slot cause command
+row_by cell slots shown stop completed first slot command answer = None
 
--- the row of the entry at a place, by the stops and the completed broadcasts at the places
+-- the row of the entry at a place, by the stops, the completed broadcasts and the slots of the first ones at the places
 abbrev pub row_at : Cell → (slots : ℕ) → List ShownMessage → (stops : List (Option ℕ)) → (completed : List ℕ)
-    → (place : ℕ) → Option Entry → List Row
-row_at cell slots shown stops completed place None = []
-row_at cell slots shown stops completed place (Some e) =
+    → (firsts : List (Option ℕ)) → (place : ℕ) → Option Entry → List Row
+row_at cell slots shown stops completed firsts place None = []
+row_at cell slots shown stops completed firsts place (Some e) =
     option_to_list
-    (row_by cell slots shown (slice_index_or stops place None) (slice_index completed place) e.slot e.command e.answer)
+    (row_by cell slots shown (slice_index_or stops place None) (slice_index completed place)
+    (slice_index_or firsts place None) e.slot e.command e.answer)
 
 -- the rows of the entries of a log before a place, and of all
 abbrev pub rows_before : Cell → (slots : ℕ) → List ShownMessage → (stops : List (Option ℕ)) → (completed : List ℕ)
-    → (log : List Entry) → (place : ℕ) → List Row
-rows_before cell slots shown stops completed log place =
-    flat_map (λ at. row_at cell slots shown stops completed at (slice_get log at)) (range_with_len 0 place)
+    → (firsts : List (Option ℕ)) → (log : List Entry) → (place : ℕ) → List Row
+rows_before cell slots shown stops completed firsts log place =
+    flat_map (λ at. row_at cell slots shown stops completed firsts at (slice_get log at)) (range_with_len 0 place)
 
 abbrev pub rows_by : Cell → (slots : ℕ) → List ShownMessage → (stops : List (Option ℕ)) → (completed : List ℕ)
-    → (log : List Entry) → List Row
-rows_by cell slots shown stops completed log = rows_before cell slots shown stops completed log (length log)
+    → (firsts : List (Option ℕ)) → (log : List Entry) → List Row
+rows_by cell slots shown stops completed firsts log =
+    rows_before cell slots shown stops completed firsts log (length log)
 
 -- a set of pairs has a pair
 abbrev pub has_name : List Pair → (id serial : ℕ) → Bool

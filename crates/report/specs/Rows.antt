@@ -4,20 +4,24 @@
 -- write that was accepted has a row of its message; a write or a kill that was refused has a row with the cause. Kills
 -- that were accepted and statuses have none: what a kill did shows in the end of the message that it stopped.
 use Rattle.std.specs.Prelude.{◌≡◌, ℕ, ◌+◌, ◌*◌, ◌==◌, ◌&&◌, Bool, true, false, if◌then◌else◌, min, List, []}
-use Rattle.std.specs.Prelude.{◌∷◌, ◌++◌, map, filter}
-use Rattle.std.specs.List.{list_any}
+use Rattle.std.specs.Prelude.{◌∷◌, ◌++◌, map, filter, find, length, nat_le, Option, Some, None}
+use Rattle.std.specs.Int.{div_ceil}
+use Rattle.std.specs.List.{list_any, range_with_len}
 use Rattle.std.specs.Option.{unwrap_or}
 use Rattle.cbsp_wire.specs.declared.message.Cell.{Cell}
 use Rattle.scheduler.specs.Message.{ScheduledMessage}
 use Rattle.scheduler.specs.Completed.{completed}
+use Rattle.scheduler.specs.declared.plan.Rank.{Rank}
+use Rattle.scheduler.specs.declared.plan.Rank.TheVariants as ranks
 use Rattle.bsc_table.specs.declared.command.Command.{Command}
 use Rattle.bsc_table.specs.declared.command.Command.TheVariants as commands
 use Rattle.bsc_table.specs.declared.entry.Answer.{Answer}
 use Rattle.bsc_table.specs.declared.entry.Answer.TheVariants as answers
 use Rattle.bsc_table.specs.declared.entry.Entry.{Entry}
-use Rattle.bsc_table.specs.Record.{Record, Accepted, accepted_in}
+use Rattle.bsc_table.specs.Record.{Record, Accepted, accepted_in, rank_of}
 use Rattle.handset.specs.Reception.{ShownMessage}
 use Rattle.handset.specs.Tape.{TapeReading}
+use Rattle.report.specs.declared.row.Demand.{Demand}
 use Rattle.report.specs.declared.row.Row.{Row}
 use Rattle.report.specs.declared.row.Showing.{Showing}
 use Rattle.report.specs.declared.row.Showing.TheVariants as shown_status
@@ -40,6 +44,21 @@ abbrev pub showing_of : Bool → Showing
 showing_of true = shown_status.Yes
 showing_of false = shown_status.No
 
+-- the slot after which a broadcast of an accepted message is completed for the first time in the run
+abbrev pub first_shown : Record → Accepted → Option ℕ
+first_shown r a = find (λ slot. nat_le 1 (completed a.message r.air (slot + 1))) (range_with_len 0 r.slots)
+
+-- how many hundredths of a cell's slots a message takes that sends its pages once in each period, rounded up;
+-- background messages reserve none
+abbrev pub share_of : Rank → (pages period : ℕ) → ℕ
+share_of ranks.High pages period = div_ceil (pages * 100) period
+share_of ranks.Normal pages period = div_ceil (pages * 100) period
+share_of ranks.Background pages period = 0
+
+-- what a write asks of the channel
+abbrev pub demand_of : Rank → (pages period : ℕ) → Demand
+demand_of rank pages period = record { pages = pages; period = period; share = share_of rank pages period }
+
 -- the row of an accepted message: its completed broadcasts are counted at the end of the run
 abbrev pub message_row : Record → List ShownMessage → Accepted → Row
 message_row r shown a = record {
@@ -51,11 +70,13 @@ message_row r shown a = record {
   end = end_in r.slots a.message;
   completed = completed a.message r.air r.slots;
   shown = showing_of (is_shown shown a.id a.serial);
+  first_shown = first_shown r a;
+  demand = Some (demand_of a.message.rank a.message.pages a.message.period);
 }
 
 -- the row of a write or a kill that was refused: it begins and ends at the slot of the answer
-abbrev pub refusal_row : Cell → (id serial slot cause : ℕ) → Row
-refusal_row cell id serial slot cause = record {
+abbrev pub refusal_row : Cell → (id serial slot cause : ℕ) → Option Demand → Row
+refusal_row cell id serial slot cause demand = record {
   lac = cell.lac;
   ci = cell.ci;
   id = id;
@@ -64,13 +85,16 @@ refusal_row cell id serial slot cause = record {
   end = slot;
   completed = 0;
   shown = shown_status.Refused cause;
+  first_shown = None;
+  demand = demand;
 }
 
 -- the row of a command, by its answer, where that is a refusal
 abbrev pub refusal_rows : Cell → (slot : ℕ) → Answer → Command → List Row
 refusal_rows cell slot (answers.Cause cause) (commands.Write id serial replaces category dcs period broadcasts contents)
-    = refusal_row cell id serial slot cause ∷ []
-refusal_rows cell slot (answers.Cause cause) (commands.Kill id serial) = refusal_row cell id serial slot cause ∷ []
+    = refusal_row cell id serial slot cause (Some (demand_of (rank_of category) (length contents) period)) ∷ []
+refusal_rows cell slot (answers.Cause cause) (commands.Kill id serial) =
+    refusal_row cell id serial slot cause None ∷ []
 refusal_rows cell slot answer command = []
 
 -- the accepted message that the entry at this place of the log is, if it is one

@@ -1,9 +1,11 @@
-//! How often the last page of each message was aired: as often as a broadcast of it was completed.
+//! How often the last page of each message was aired, and when first: as often as a broadcast of it was completed, and
+//! when one was for the first time.
 
 ghost use Rattle.std.specs.Prelude.{◌≡◌, ◌+◌, ◌<◌, ◌≤◌, if◌then◌else◌, length, slice_index, EachIndex, IfOk, Some};
+ghost use Rattle.std.specs.Prelude.{ℕ, None, slice_index_or};
 ghost use Rattle.scheduler.specs.Pages.{airs_page};
 ghost use Rattle.bsc_table.specs.Book.{air_pairs};
-ghost use Rattle.report.specs.RowSteps.{last_pages, pages_at, page_count_of};
+ghost use Rattle.report.specs.RowSteps.{first_last_page, last_pages, pages_at, page_count_of};
 
 use bsc_table::{Aired, Command, Entry};
 use std::alloc::{AllocError, Global};
@@ -50,4 +52,41 @@ pub(crate) fn count_last_pages(
         }
     }
     Ok(counts)
+}
+
+/// Notes the slot of a page that was aired, if it is the last one of its message.
+fn note_page(firsts: &mut [Option<u16>], log: &[Entry], aired: Aired, slot: u16)
+    requires { length firsts.old ≡ length log.now }
+    ensures { (place : ℕ) → place < length log.now → slice_index_or firsts.new place None
+        ≡ (if airs_page place (pages_at log.now place) (Some (aired.entry, aired.page)) then Some slot
+        else slice_index_or firsts.old place None) }
+{
+    let place = usize::from(aired.entry);
+    if place < firsts.len() && usize::from(aired.page) == pages_of(&log[place].command) {
+        firsts[place] = Some(slot);
+    }
+}
+
+/// The first slot of a run that airs the last page of the message of each entry, by the entry's place in the log.
+pub(crate) fn first_last_pages(
+    alloc: Global,
+    log: &[Entry],
+    air: &[Option<Aired>],
+) -> Result<Vec<Option<u16>>, AllocError>
+    requires { length air.now ≤ 65535 }
+    ensures places { IfOk result (λ firsts. length firsts.items ≡ length log.now) }
+    ensures each { IfOk result (λ firsts. (place : ℕ) → place < length log.now
+        → slice_index_or firsts.items place None ≡ first_last_page log.now (air_pairs air.now) place) }
+{
+    let mut firsts = vec![in alloc; None; log.len()]?;
+    let mut slot = air.len();
+    // From the last slot on: so what is noted last is the first.
+    while slot > 0 {
+        slot -= 1;
+        let used = &air[slot];
+        if let Some(aired) = used {
+            note_page(firsts.as_mut_slice(), log, *aired, slot as u16);
+        }
+    }
+    Ok(firsts)
 }

@@ -5,10 +5,10 @@ ghost use Rattle.std.specs.Io.KnownBytes.{Appends};
 ghost use Rattle.device_ends.specs.Moves.{AppendsFront};
 ghost use Rattle.device_ends.specs.Sink.{sink_failed, writer_of};
 ghost use Rattle.device_ends.specs.Stream.{Writes};
-ghost use Rattle.report.specs.ReportText.{part_text, report_text};
+ghost use Rattle.report.specs.ReportText.{full_part_text, part_text, report_text, text_with};
 
 use crate::fault::ReportFault;
-use crate::row::Row;
+use crate::row::{Columns, Row};
 use crate::table::Table;
 use device_ends::{Failed, Sink, write_all};
 use std::alloc::{AllocError, Global};
@@ -29,6 +29,37 @@ pub fn text_of(alloc: Global, headed: bool, rows: &[Row]) -> Result<Vec<u8>, All
         place += table.push_cell(&rows[place..])?;
     }
     table.into_octets()
+}
+
+/// The text of a part of a full report, as [`text_of`] makes that of a plain one.
+fn full_text_of(alloc: Global, headed: bool, rows: &[Row]) -> Result<Vec<u8>, AllocError>
+    ensures { IfOk result (λ octets. octets.items ≡ full_part_text headed rows.now) }
+{
+    let mut table = Table::full(alloc, headed)?;
+    for row in rows {
+        table.push_full(row)?;
+    }
+    table.into_octets()
+}
+
+/// The text of a part of a report with these columns: of plain ones that of [`text_of`]; full ones have more after
+/// them, so that the text without those is the plain one ([`report_laws`](crate::report_laws)).
+///
+/// # Errors
+///
+/// Out of memory.
+pub fn text_with(
+    alloc: Global,
+    columns: Columns,
+    headed: bool,
+    rows: &[Row],
+) -> Result<Vec<u8>, AllocError>
+    ensures { IfOk result (λ octets. octets.items ≡ text_with columns headed rows.now) }
+{
+    match columns {
+        Columns::Plain => text_of(alloc, headed, rows),
+        Columns::Full => full_text_of(alloc, headed, rows),
+    }
 }
 
 /// Writes a report of these rows as CSV: a line of the columns' names, and a line for each row, in order. Nothing is

@@ -13,6 +13,18 @@ pub enum Showing {
     Refused(u8),
 }
 
+/// What a write asks of its cell's channel.
+#[derive(Clone, Copy, Debug, PartialEq, Eq)]
+pub struct Demand {
+    /// How many pages its message has, 1 to 15.
+    pub pages: u8,
+    /// The repetition period in slots, 1 to 1,024 (3GPP TS 48.049, 8.2, Repetition Period).
+    pub period: u16,
+    /// How many hundredths of the cell's slots its message takes, rounded up; 0 for a background message, which
+    /// reserves none.
+    pub share: u16,
+}
+
 /// A row of a report: an accepted message of a cell, or a write or a kill that the cell refused.
 #[derive(Clone, Copy, Debug, PartialEq, Eq)]
 pub struct Row {
@@ -34,4 +46,19 @@ pub struct Row {
     pub completed: u16,
     /// Whether the cell's blocks show it.
     pub shown: Showing,
+    /// The slot after which a broadcast of it is whole for the first time, so that a phone shows it; None if none is,
+    /// and of what was refused.
+    pub first_shown: Option<u16>,
+    /// What the write asks of the channel; None of a kill.
+    pub demand: Option<Demand>,
+}
+
+/// Which columns a report has.
+#[derive(Clone, Copy, Debug, PartialEq, Eq)]
+pub enum Columns {
+    /// The eight from the cell to whether the message is shown.
+    Plain,
+    /// After them the slot after which it is shown first, its pages, its period, its share of the channel, and the
+    /// cause of a refusal in words.
+    Full,
 }

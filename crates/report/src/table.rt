@@ -19,7 +19,7 @@ pub struct Table {
 }
 
 /// The text of a serial number.
-fn serial_text(serial: Serial) -> [u8; 4]
+pub(crate) fn serial_text(serial: Serial) -> [u8; 4]
     ensures { result ≡ serial_text serial }
 {
     let mut text = [0; 4];
@@ -28,7 +28,7 @@ fn serial_text(serial: Serial) -> [u8; 4]
 }
 
 /// The text of a row's last column, if the order was refused.
-fn refused_text(cause: u8) -> [u8; 10]
+pub(crate) fn refused_text(cause: u8) -> [u8; 10]
     ensures { result ≡ codes "refused " ++ encode_lower (cause ∷ []) }
 {
     let mut text = *b"refused 00";
@@ -73,7 +73,7 @@ impl Table {
     }
 
     /// No text.
-    fn empty(alloc: Global) -> Table
+    pub(crate) fn empty(alloc: Global) -> Table
         ensures { IsTable result [] }
     {
         Table {
@@ -155,7 +155,7 @@ impl Table {
     }
 
     /// Appends a line. A writer to memory fails only if out of memory.
-    fn push_line(&mut self, fields: &[&[u8]]) -> Result<(), AllocError>
+    pub(crate) fn push_line(&mut self, fields: &[&[u8]]) -> Result<(), AllocError>
         ensures { OnOk result ((octets : List ℕ) → IsTable self.old octets
             → IsTable self.new (octets ++ line (map (λ f. f.now) fields.now))) }
     {

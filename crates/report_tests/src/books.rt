@@ -12,7 +12,8 @@
 //!   writes the report and gives its first nine lines, each behind `|`.
 //! - `writer OCTETS CALLS` writes the report once more to a writer that takes so many octets a call and fails after so
 //!   many calls. It says how many octets of the report the writer took, and the faults of this and of one more call.
-//! - `cause NUMBER` says a cause, of two hexadecimal digits, in the words of a chart.
+//! - `full` makes the full report and gives its lines, each behind `|`; `full-part` the one without the names.
+//! - `cause NUMBER` says a cause, of two hexadecimal digits, in words.
 
 ghost use Rattle.std.specs.Prelude.{IfOk};
 ghost use Rattle.bsc_table.specs.Orders.{IsWellFormed};
@@ -21,11 +22,12 @@ use bsc_table::{Answer, Category, CellBook, CellRecord, Command};
 use cbch_blocks::tape_of;
 use cbs_page::{Content, Dcs, Serial};
 use cbsp_wire::{Cell, Contents};
-use chart::cause_words;
 use device_ends::memory::{MemoryReader, MemoryWriter};
 use device_ends::{Sink, Source};
 use handset::{Handset, Reading, Refused, TapeFault, read_tape};
-use report::{ReportFault, Row as ReportRow, rows, write_report};
+use report::{
+    Columns, ReportFault, Row as ReportRow, cause_words, rows, text_with, write_report,
+};
 use std::alloc::{AllocError, Global};
 use std::fmt::Write;
 use std::process::Abort;
@@ -321,6 +323,17 @@ impl Books {
         Ok(())
     }
 
+    /// `full` and `full-part` tell the full report, headed or not.
+    fn tell_full(&mut self, headed: bool) -> Result<(), Fail> {
+        let rows = self.rows()?;
+        let octets = text_with(self.alloc, Columns::Full, headed, &rows)?;
+        let text = String::from_utf8_lossy(self.alloc, &octets)?;
+        for line in text.split('\n') {
+            write!(self.told, "|{line}")?;
+        }
+        Ok(())
+    }
+
     /// `writer OCTETS CALLS` writes the report to a writer that fails.
     fn write(&mut self, words: &mut Words) -> Result<(), Fail> {
         let (octets, calls) = (words.number16()?, words.number16()?);
@@ -358,6 +371,8 @@ impl Books {
             "heard" => self.hear()?,
             "rows" | "row" => self.tell_rows(rest)?,
             "report" => self.report()?,
+            "full" => self.tell_full(true)?,
+            "full-part" => self.tell_full(false)?,
             "writer" => self.write(&mut Words::of(rest))?,
             "texts" => put_texts(&mut self.told)?,
             "cause" => self

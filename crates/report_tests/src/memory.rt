@@ -3,8 +3,8 @@
 use crate::books::{Books, expect_each};
 use crate::tables::TWO_CELLS;
 use device_ends::Sink;
-use report::{ReportFault, Row, rows, write_report};
-use std::alloc::Global;
+use report::{Columns, ReportFault, Row, rows, text_with, write_report};
+use std::alloc::{AllocError, Global};
 use std::process::Abort;
 use std::test::Fail;
 use test_support::Room;
@@ -93,17 +93,48 @@ fn refused_reports(alloc: Global, rows: &[Row], room: &mut Room) -> Result<u16, 
     Err(Fail::new("reports are refused to the end"))
 }
 
-/// How often the rows of two cells, and the report of these, are refused memory.
-fn refused_of_two_cells(alloc: Global, books: &mut Books) -> Result<(u16, u16), Fail> {
+/// How many octets the full report of rows has, in a room of so many blocks or with all memory.
+fn full_text_of(
+    alloc: Global,
+    rows: &[Row],
+    room: &mut Room,
+    blocks: Option<u16>,
+) -> Result<usize, AllocError> {
+    if let Some(blocks) = blocks {
+        room.leave(alloc, blocks);
+    }
+    let made = text_with(alloc, Columns::Full, true, rows);
+    room.end();
+    Ok(made?.len())
+}
+
+/// How often the full report of rows is refused memory. After each refusal it has its 250 octets with all memory.
+fn refused_full_reports(alloc: Global, rows: &[Row], room: &mut Room) -> Result<u16, Fail> {
+    for blocks in 0..Room::MOST {
+        match full_text_of(alloc, rows, room, Some(blocks)) {
+            Ok(250) => return Ok(blocks),
+            Err(AllocError) => {}
+            Ok(_) => return Err(Fail::new("another full report")),
+        }
+        if full_text_of(alloc, rows, room, None)? != 250 {
+            return Err(Fail::new("a full report with all memory"));
+        }
+    }
+    Err(Fail::new("full reports are refused to the end"))
+}
+
+/// How often the rows of two cells, the report of these, and their full report, are refused memory.
+fn refused_of_two_cells(alloc: Global, books: &mut Books) -> Result<(u16, u16, u16), Fail> {
     let _ = expect_each(books, TWO_CELLS)?;
     let mut room = Room::new(alloc)?;
     let refused = refused_rows(alloc, books, &mut room)?;
     let rows = rows(alloc, &books.runs, &books.readings)?;
     let reports = refused_reports(alloc, &rows, &mut room)?;
-    Ok((refused, reports))
+    let full = refused_full_reports(alloc, &rows, &mut room)?;
+    Ok((refused, reports, full))
 }
 
-/// Expects that the rows of two cells are refused memory so often at least, and the report of these so often.
+/// Expects that the rows of two cells are refused memory so often at least, and the reports of these so often.
 fn expect_refusals(
     rt: &impl Abort,
     alloc: Global,
@@ -113,15 +144,15 @@ fn expect_refusals(
     let mut books = Books::new(alloc);
     let refused = refused_of_two_cells(alloc, &mut books);
     drop(books);
-    let (refused, of_report) = refused?;
+    let (refused, of_report, of_full) = refused?;
     assert!(rt;
-        refused >= least && of_report >= least_of_report,
-        "{refused} and {of_report}"
+        refused >= least && of_report >= least_of_report && of_full >= least_of_report,
+        "{refused}, {of_report} and {of_full}"
     );
     Ok(())
 }
 
-// A trace of the process counts eight growths of the one call that are refused, and one of the other.
+// A trace of the process counts eight growths of the one call that are refused, and one of the others.
 
 #[test]
 fn refused_memory_is_reported(rt: HostRuntime) -> Result<(), Fail> {

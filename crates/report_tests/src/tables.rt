@@ -24,7 +24,8 @@ report -> whole|lac,ci,id,serial,start,end,completed,shown|1,1,4370,0010,0,1,1,y
     |1,2,4370,0010,0,1,1,yes|1,2,4371,0020,0,4,2,yes|1,2,4370,0011,2,4,1,yes|
 rows -> 5
 # serial number 17 is 0011
-row 4 -> Row { lac: 1, ci: 2, id: 4370, serial: Serial { number: 17 }, start: 2, end: 4, completed: 1, shown: Yes }
+row 4 -> Row { lac: 1, ci: 2, id: 4370, serial: Serial { number: 17 }, start: 2, end: 4, completed: 1, shown: Yes, \
+    first_shown: Some(3), demand: Some(Demand { pages: 1, period: 2, share: 50 }) }
 
 # the report has 163 octets
 writer 10 0 -> WriteFailed, then WriteFailed: 0
@@ -167,6 +168,65 @@ cell 1 3
 heard -> no more
 ";
 
+/// Full reports. When a handset shows the messages, the rows of `heard` say.
+const FULL: &str = "
+# no cells
+read
+full -> |lac,ci,id,serial,start,end,completed,shown,first_shown,pages,period,share,cause|
+full-part -> |
+
+# of two messages with the same due slot that of the lesser number comes first, so the last one comes in slot 3
+cell 1 4; write 4370 0010 - 1 2 0; play 1; write 4370 0011 0010 1 2 0 -> Started { slot: 0 }; 0..1; \
+    Replaced { slot: 1, completed: 1 }
+heard -> block 4 of slot 0: 4370 0010, block 4 of slot 1: 4370 0011, no more
+cell 2 4; write 4370 0010 - 1 2 0; write 4371 0020 - 1 2 0; play 1; write 4370 0011 0010 1 2 0 -> \
+    Started { slot: 0 }; Started { slot: 0 }; 0..1; Replaced { slot: 2, completed: 1 }
+heard -> block 4 of slot 0: 4370 0010, block 4 of slot 1: 4371 0020, block 4 of slot 3: 4370 0011, no more
+read
+full -> |lac,ci,id,serial,start,end,completed,shown,first_shown,pages,period,share,cause\
+    |1,1,4370,0010,0,1,1,yes,0,1,2,50,|1,1,4370,0011,1,4,2,yes,1,1,2,50,\
+    |1,2,4370,0010,0,1,1,yes,0,1,2,50,|1,2,4371,0020,0,4,2,yes,1,1,2,50,|1,2,4370,0011,2,4,1,yes,3,1,2,50,|
+full-part -> |1,1,4370,0010,0,1,1,yes,0,1,2,50,|1,1,4370,0011,1,4,2,yes,1,1,2,50,\
+    |1,2,4370,0010,0,1,1,yes,0,1,2,50,|1,2,4371,0020,0,4,2,yes,1,1,2,50,|1,2,4370,0011,2,4,1,yes,3,1,2,50,|
+forget
+
+# refused writes have their pages and their share, which is rounded up; refused kills have none
+cell 1 8; kill 4370 0010; write 4370 0010 - 1 3 0; write 4371 0010 - 1 4 0; write 4370 0020 - 1 4 0; play 3; \
+    kill 4370 0010; play 1; kill 4370 0010; write 4370 0010 - 2 3 0; play 4; kill 4371 0010 -> cause 02; \
+    Started { slot: 0 }; Started { slot: 0 }; Started { slot: 0 }; 0..3; Stopped { completed: 1 }; 3..4; \
+    cause 02; cause 0d; 4..8; cause 0a
+read
+full -> |lac,ci,id,serial,start,end,completed,shown,first_shown,pages,period,share,cause\
+    |1,1,4370,0010,0,0,0,refused 02,,,,,message reference not identified\
+    |1,1,4370,0010,0,3,1,yes,0,1,3,34,|1,1,4371,0010,0,8,2,yes,1,1,4,25,|1,1,4370,0020,0,8,2,yes,2,1,4,25,\
+    |1,1,4370,0010,4,4,0,refused 02,,,,,message reference not identified\
+    |1,1,4370,0010,4,4,0,refused 0d,,2,3,67,message reference already used\
+    |1,1,4371,0010,8,8,0,refused 0a,,,,,cell broadcast not operational|
+forget
+
+# a message of which no broadcast is whole is shown after no slot; one of two pages after the slot of its second page
+cell 1 8; write 4370 0001 - 2 4 0; write 4370 0002 - 2 4 0; play 1; write 4370 0003 0001 2 4 0; play 2; \
+    kill 4370 0003 -> Started { slot: 0 }; Started { slot: 0 }; 0..1; Replaced { slot: 4, completed: 0 }; 1..3; \
+    Stopped { completed: 0 }
+read
+full-part -> |1,1,4370,0001,0,1,0,no,,2,4,50,|1,1,4370,0002,0,8,2,yes,2,2,4,50,|1,1,4370,0003,4,3,0,no,,2,4,50,|
+forget
+
+# no room; background messages reserve nothing, and are shown late
+cell 1 8; write 4370 0010 - 1 1 0; write 4371 0021 - 2 1 0; background 4371 0020 - 2 4 0; play 3; kill 4370 0010 -> \
+    Started { slot: 0 }; cause 06; Started { slot: 0 }; 0..3; Stopped { completed: 3 }
+heard -> block 4 of slot 0: 4370 0010, block 4 of slot 5: 4371 0020, no more
+read
+full-part -> |1,1,4370,0010,0,3,3,yes,0,1,1,100,|1,1,4371,0021,0,0,0,refused 06,,2,1,200,BSC capacity exceeded\
+    |1,1,4371,0020,0,8,1,yes,5,2,4,0,|
+forget
+
+# the least share, and the most slots: the first broadcast of one whose period is the longest comes late
+cell 1 65535; write 4370 0010 - 1 1024 1 -> Started { slot: 0 }
+read
+full-part -> |1,1,4370,0010,0,1024,1,yes,0,1,1024,1,|
+";
+
 /// A full log, and the most slots.
 const LONG: &str = "
 cell 1 65535; fill 2048 60 -> 60 started, 4036 cause 02
@@ -208,6 +268,11 @@ fn rows_say_what_became_of_each_order_of_a_cell(rt: HostRuntime) -> Result<(), F
     expect_rows(&rt, rt.alloc(), ONE_CELL, 25)?;
     expect_rows(&rt, rt.alloc(), LONG, 4)?;
     expect_rows(&rt, rt.alloc(), HEARD, 19)
+}
+
+#[test]
+fn full_reports_have_more_columns(rt: HostRuntime) -> Result<(), Fail> {
+    expect_rows(&rt, rt.alloc(), FULL, 27)
 }
 
 #[test]

@@ -14,6 +14,7 @@ use Rattle.order_desk.specs.declared.fault.DeskFault.TheVariants as desk
 use Rattle.order_desk.specs.declared.settle.SettleFault.TheVariants as settle
 use Rattle.parallel_compile.specs.declared.fault.CompileFault.TheVariants as compile
 use Rattle.alert_book.specs.Network.{IsGroupBook}
+use Rattle.report.specs.declared.row.Columns.TheVariants as columns
 use Rattle.warnc_run.specs.Engine.{IsOutputFault}
 use Rattle.warnc_run.specs.Faults.{HasReadFrom, IsDeskFault, IsOfProduct, IsRunFault}
 use Rattle.warnc_run.specs.Groups.{IsGroupsFault}
@@ -140,7 +141,7 @@ pub no_records : (from : Origin) (slots : ℕ) (book : List ℕ) (last : Option 
     → status_of_run_fault f ≡ 1
     → IsNoRun from slots 1 book
 no_records from slots book last f why is =
-    no_run_here from slots 1 (λ input output. ⊥) book last None None product.Report f why.0 why.1 is
+    no_run_here from slots 1 (λ input output. ⊥) book last None None (product.Report columns.Plain) f why.0 why.1 is
 
 -- a group that has no part, for another reason than memory, has a book whose run ended early
 stopped_group : (slots parts group : ℕ) (book input : List ℕ) (f : RunFault)

@@ -11,6 +11,7 @@ use Rattle.device_ends.specs.Source.{source_failed}
 use Rattle.device_ends.specs.declared.reading.Source.{Source}
 use Rattle.device_ends.specs.declared.writing.Sink.{Sink}
 use Rattle.handset.specs.declared.tape.TapeFault.TheVariants as tape
+use Rattle.report.specs.declared.row.Columns.TheVariants as columns
 use Rattle.warnc_run.specs.declared.fault.RunFault.{RunFault}
 use Rattle.warnc_run.specs.declared.fault.RunFault.TheVariants as run
 use Rattle.warnc_run.specs.declared.product.Product.TheVariants as product
@@ -204,7 +205,7 @@ run_status : (from : Origin) (slots : ℕ) (first last : Option (List ℕ)) (f :
     → (f ≡ run.Book unread) ⊎ OneOrFour (status_of_run_fault f)
 run_status from slots first last f is = by_kind (run_kind f)
   where
-    no_writer : (f : RunFault) → IsOfProduct f product.Report → IsWriteFault f → ⊥
+    no_writer : (f : RunFault) → IsOfProduct f (product.Report columns.Plain) → IsWriteFault f → ⊥
     no_writer (run.Write failed) of write = of
     no_writer (run.Book f) of write = write
     no_writer (run.NoGroup groups) of write = write

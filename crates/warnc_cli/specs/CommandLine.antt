@@ -17,6 +17,8 @@ use Rattle.gsmtap.specs.declared.capture.Slots.TheVariants.{All, Used}
 use Rattle.gsmtap.specs.declared.packet.Channel.{Channel}
 use Rattle.gsmtap.specs.declared.tape.Wanted.{Wanted}
 use Rattle.gsmtap.specs.declared.packet.Channel.TheVariants.{BesideSdcch4, BesideSdcch8}
+use Rattle.report.specs.declared.row.Columns.{Columns}
+use Rattle.report.specs.declared.row.Columns.TheVariants.{Full, Plain}
 use Rattle.warnc_run.specs.declared.run.Books.{Books}
 use Rattle.warnc_run.specs.declared.run.Books.TheVariants as books
 use Rattle.warnc_run.specs.declared.product.Product.{Product}
@@ -179,12 +181,17 @@ abbrev pub GivesBooks : (words : List (List ℕ)) → Books → Type 0
 GivesBooks words books.EachGroup = is_given words (codes "--network") ≡ true
 GivesBooks words (books.One from) = (is_given words (codes "--network") ≡ false) × GivesOrigin words from
 
+-- which columns the words want in a report
+abbrev pub columns_given : (words : List (List ℕ)) → Columns
+columns_given words = if is_given words (codes "--full") then Full else Plain
+
 -- what the words want to be made of a run of so many sessions: `compile` and `live` make tapes
 abbrev pub GivesProduct : (words : List (List ℕ)) → Product → (sessions : ℕ) → Type 0
 GivesProduct words product.Tapes sessions =
     ((slice_get words 1 ≡ Some (codes "compile")) × (sessions ≡ 1))
     ⊎ ((slice_get words 1 ≡ Some (codes "live")) × GivesThreads words (codes "--sessions") sessions)
-GivesProduct words product.Report sessions = (slice_get words 1 ≡ Some (codes "report")) × (sessions ≡ 1)
+GivesProduct words (product.Report columns) sessions =
+    (slice_get words 1 ≡ Some (codes "report")) × (sessions ≡ 1) × (columns ≡ columns_given words)
 GivesProduct words (product.Chart wanted) sessions =
     (slice_get words 1 ≡ Some (codes "chart")) × (sessions ≡ 1) × GivesWanted words wanted
 

@@ -89,7 +89,7 @@ IsHeaded other = ⊤
 -- columns' names
 abbrev pub AlwaysWrites : Task → Type 0
 AlwaysWrites (task.Make run product.Tapes) = ⊥
-AlwaysWrites (task.Make run product.Report) = IsHeaded run.books
+AlwaysWrites (task.Make run (product.Report columns)) = IsHeaded run.books
 AlwaysWrites other = ⊤
 
 -- What is refused with status 1.

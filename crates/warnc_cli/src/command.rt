@@ -5,8 +5,8 @@ ghost use Rattle.std.specs.Prelude.{slice_get};
 ghost use Rattle.warnc_cli.specs.CommandLine.{asks_for_text, begins_with, is_given, is_text_word, GivesNumber};
 ghost use Rattle.warnc_cli.specs.CommandLine.{GivesChannel, GivesSlots, GivesThreads, GivesValue};
 ghost use Rattle.warnc_cli.specs.CommandLine.{GivesArfcn, GivesCell, GivesFrom, GivesWanted, IsAddress, IsCell};
-ghost use Rattle.warnc_cli.specs.CommandLine.{IsNumber};
-ghost use Rattle.warnc_cli.specs.CommandLine.{slots_given, GivesBooks, GivesOrigin, GivesPages, GivesProduct};
+ghost use Rattle.warnc_cli.specs.CommandLine.{columns_given, slots_given, GivesBooks, GivesOrigin, GivesPages};
+ghost use Rattle.warnc_cli.specs.CommandLine.{GivesProduct, IsNumber};
 ghost use Rattle.warnc_cli.specs.Tasks.{IsTaskOf};
 
 use alert_book::Origin;
@@ -14,6 +14,7 @@ use cbs_page::Serial;
 use cbsp_wire::Cell;
 use clap::{Arg, ArgAction, Command, Error, value_parser};
 use gsmtap::{Channel, Sender, Settings, Slots, Wanted};
+use report::Columns;
 use std::alloc::{AllocError, Global};
 use std::convert::AsStr;
 use warnc_run::{Books, Product, Run, Sessions, Workers};
@@ -110,7 +111,11 @@ fn task_in<'a, S: AsStr>(words: &'a [S]) -> Option<Task<'a>>
         }),
         "compile" => run_in(words, Product::Tapes, Sessions { number: 1 }),
         "live" => run_in(words, Product::Tapes, sessions_in(words)?),
-        "report" => run_in(words, Product::Report, Sessions { number: 1 }),
+        "report" => run_in(
+            words,
+            Product::Report(columns_in(words)),
+            Sessions { number: 1 },
+        ),
         "chart" => run_in(
             words,
             Product::Chart(wanted_in(words)?),
@@ -178,6 +183,17 @@ fn captured_slots<S: AsStr>(words: &[S]) -> Slots
         Slots::Used
     } else {
         Slots::All
+    }
+}
+
+/// The columns that the words want in a report.
+fn columns_in<S: AsStr>(words: &[S]) -> Columns
+    ensures { result ≡ columns_given (map S.text words.now) }
+{
+    if is_given(words, "--full") {
+        Columns::Full
+    } else {
+        Columns::Plain
     }
 }
 
@@ -477,6 +493,7 @@ fn report<'a>(alloc: Global) -> Result<Command<'a>, AllocError> {
         .arg(slots(alloc))?
         .arg(group(alloc))?
         .arg(network(alloc)?)?
+        .arg(full(alloc))?
         .arg(workers(alloc))
 }
 
@@ -718,6 +735,15 @@ fn update<'a>(alloc: Global) -> Arg<'a> {
 /// The option that leaves idle slots out of a capture.
 fn used<'a>(alloc: Global) -> Arg<'a> {
     flag(alloc, "used", "Leaves out slots in which no page is sent")
+}
+
+/// The option of all columns of a report.
+fn full<'a>(alloc: Global) -> Arg<'a> {
+    flag(
+        alloc,
+        "full",
+        "Adds columns: after which slot a phone shows it first,\npages, period, share of the channel, cause in words",
+    )
 }
 
 /// The option of the channel that a capture names.

@@ -178,6 +178,68 @@ in cell,1
 fails -> 1 warnc: row 1: columns
 ";
 
+const FULL: &str = "
+worked lac,ci,id,serial,start,end,completed,shown,first_shown,pages,period,share,cause
+worked 1,1,4370,0010,0,1,1,yes,0,1,2,50,
+worked 1,1,4370,0011,1,4,2,yes,1,1,2,50,
+worked 1,2,4370,0010,0,1,1,yes,0,1,2,50,
+worked 1,2,4371,0020,0,4,2,yes,1,1,2,50,
+worked 1,2,4370,0011,2,4,1,yes,3,1,2,50,
+# two alerts in two cells; the replacement waits in the second cell, and its first page comes after the other's second
+in cell,1,1
+in cell,1,2
+in write,0,a,4370,0,1,en,2,2,0,*,One
+in write,0,b,4371,0,2,en,2,2,0,1-2,Two
+in update,1,a,en,2,2,0,*,Three
+
+args report --full --slots 4
+run -> 0
+all -> worked
+args report --slots 4 --workers 3 --full
+run -> 0
+all -> worked
+reads 0 116 -> 3 warnc: read failed
+# 116 octets and the end are read, and nothing more
+reader 1 117
+run -> 0
+all -> worked
+writer 10 5
+run -> 3
+err -> warnc: write failed
+all -> 50 of 250
+args report --slots 4 --network --full
+run -> 0
+all -> worked
+args report --slots 4 --group 0 --full
+run -> 0
+all -> worked
+args report --slots 4 --group 1 --full
+fails -> 1 warnc: no such group: the network has 1
+
+# of two pages, the second alert is stopped after its first, so no phone shows it; the third finds no room yet; one is
+# stopped that is over
+in cell,1,1
+in write,0,a,1,0,1,en,2,2,2,*,A
+in write,0,b,2,0,2,ru,2,4,0,*,ЖЖЖЖЖЖЖЖЖЖЖЖЖЖЖЖЖЖЖЖЖЖЖЖЖЖЖЖЖЖЖЖЖЖЖЖЖЖЖЖЖЖ
+in stop,3,b,*
+in write,3,c,3,0,3,ru,2,4,0,*,ЖЖЖЖЖЖЖЖЖЖЖЖЖЖЖЖЖЖЖЖЖЖЖЖЖЖЖЖЖЖЖЖЖЖЖЖЖЖЖЖЖЖ
+in write,4,d,4,0,4,ru,2,4,0,*,ЖЖЖЖЖЖЖЖЖЖЖЖЖЖЖЖЖЖЖЖЖЖЖЖЖЖЖЖЖЖЖЖЖЖЖЖЖЖЖЖЖЖ
+in write,4,e,5,0,5,en,1,3,0,*,E
+in stop,5,a,*
+args report --slots 8 --full
+run -> 0
+out -> lac,ci,id,serial,start,end,completed,shown,first_shown,pages,period,share,cause
+out -> 1,1,1,0010,0,4,2,yes,0,1,2,50,
+out -> 1,1,2,0020,0,3,0,no,,2,4,50,
+out -> 1,1,3,0030,3,3,0,refused 06,,2,4,50,BSC capacity exceeded
+out -> 1,1,4,0040,4,8,1,yes,5,2,4,50,
+out -> 1,1,5,0050,4,8,2,yes,6,1,3,0,
+out -> 1,1,1,0010,5,5,0,refused 02,,,,,message reference not identified
+
+in cell,1
+fails -> 1 warnc: row 1: columns
+";
+
 #[test]
 fn books_give_tapes(rt: HostRuntime) -> Result<(), Fail> {
     expect_rows(&rt, COMPILE, 60)
@@ -186,4 +248,9 @@ fn books_give_tapes(rt: HostRuntime) -> Result<(), Fail> {
 #[test]
 fn books_give_reports(rt: HostRuntime) -> Result<(), Fail> {
     expect_rows(&rt, REPORT, 86)
+}
+
+#[test]
+fn books_give_full_reports(rt: HostRuntime) -> Result<(), Fail> {
+    expect_rows(&rt, FULL, 52)
 }

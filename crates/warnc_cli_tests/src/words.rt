@@ -62,6 +62,11 @@ args report --slots 4 --workers 65
 usage -> 2 error:
 args report --slots 4 --sessions 1
 usage -> 2 error:
+args report --slots 4 --full=1
+usage -> 2 error:
+# only `report` has more columns
+args chart --slots 4 --full
+usage -> 2 error:
 
 args groups --slots 4
 usage -> 2 error:
@@ -148,6 +153,6 @@ run -> 3
 
 #[test]
 fn other_words_are_refused_and_help_is_written(rt: HostRuntime) -> Result<(), Fail> {
-    expect_rows(&rt, USAGE, 84)?;
+    expect_rows(&rt, USAGE, 88)?;
     expect_rows(&rt, HELP, 40)
 }

@@ -4,5 +4,7 @@ pub mod Written
 pub mod Asked
 pub mod FirstFault
 pub mod OneOutput
+pub mod ReportColumns
+pub mod FirstShown
 pub mod GroupParts
 mod Whole

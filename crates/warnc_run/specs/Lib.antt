@@ -9,3 +9,5 @@ pub mod RunSteps
 pub mod NetworkSteps
 pub mod OneOutput
 pub mod Whole
+pub mod ReportColumns
+pub mod FirstShown

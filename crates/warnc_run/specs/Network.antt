@@ -28,7 +28,8 @@ pub record GroupRuns : Type 0 where
 -- what is made of a group: what is made of it by itself, but a chart of all groups is one page
 abbrev pub octets_of_group : Product → (slots groups group : ℕ) → List Record → List ℕ
 octets_of_group product.Tapes slots groups group records = octets_of product.Tapes (origin.Group group) slots records
-octets_of_group product.Report slots groups group records = octets_of product.Report (origin.Group group) slots records
+octets_of_group (product.Report columns) slots groups group records =
+    octets_of (product.Report columns) (origin.Group group) slots records
 octets_of_group (product.Chart wanted) slots groups group records =
     chart_part slots group (group + 1 == groups) wanted records (map reading_of_record records)
 

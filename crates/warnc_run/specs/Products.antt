@@ -17,8 +17,9 @@ use Rattle.cbsp_wire.specs.declared.message.Cell.{Cell}
 use Rattle.chart.specs.ChartText.{chart_text}
 use Rattle.handset.specs.Reception.{shown_in}
 use Rattle.handset.specs.Tape.{TapeReading}
-use Rattle.report.specs.ReportText.{part_text}
+use Rattle.report.specs.ReportText.{text_with}
 use Rattle.report.specs.Rows.{report_rows}
+use Rattle.report.specs.declared.row.Columns.{Columns}
 use Rattle.report.specs.declared.row.Row.{Row}
 use Rattle.warnc_run.specs.declared.product.Product.{Product}
 use Rattle.warnc_run.specs.declared.product.Product.TheVariants as product
@@ -55,7 +56,7 @@ is_headed (origin.Group group) = group == 0
 -- what is made of the records of the run of a book, or of a group by itself
 abbrev pub octets_of : Product → (from : Origin) (slots : ℕ) → List Record → List ℕ
 octets_of product.Tapes from slots records = flat_map tape_of_record records
-octets_of product.Report from slots records = part_text (is_headed from) (own_rows records)
+octets_of (product.Report columns) from slots records = text_with columns (is_headed from) (own_rows records)
 octets_of (product.Chart wanted) from slots records =
     chart_text slots wanted records (map reading_of_record records)
 
@@ -80,9 +81,9 @@ IsCompiledFrom from slots = IsLiveFrom from slots 1
 abbrev pub IsCompiled : (slots : ℕ) (input output : List ℕ) → Type 0
 IsCompiled slots = IsCompiledFrom origin.Book slots
 
--- what `warnc report` writes
-abbrev pub IsReportedFrom : (from : Origin) (slots : ℕ) (input output : List ℕ) → Type 0
-IsReportedFrom from slots = IsOutput product.Report from slots 1
+-- what `warnc report` writes, with these columns
+abbrev pub IsReportedFrom : (from : Origin) (slots : ℕ) → Columns → (input output : List ℕ) → Type 0
+IsReportedFrom from slots columns = IsOutput (product.Report columns) from slots 1
 
 -- what `warnc chart` writes, of the wanted cell alone if one is wanted
 abbrev pub IsChartedFrom : (from : Origin) (slots : ℕ) (wanted : Option Cell) (input output : List ℕ) → Type 0

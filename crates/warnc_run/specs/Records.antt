@@ -5,6 +5,7 @@ use Rattle.alert_book.specs.declared.network.Origin.{Origin}
 use Rattle.bsc_table.specs.Record.{Record}
 use Rattle.device_ends.specs.Stream.{Reads}
 use Rattle.device_ends.specs.declared.reading.Source.{Source}
+use Rattle.report.specs.declared.row.Columns.TheVariants as columns
 use Rattle.warnc_run.specs.Faults.{IsOfProduct, IsRunFault}
 use Rattle.warnc_run.specs.Products.{RunOf}
 use Rattle.warnc_run.specs.declared.fault.RunFault.{RunFault}
@@ -25,7 +26,7 @@ HasRecords left from slots first last records = Reads left (λ old new. HasRunBo
 -- why there are no records: a fault of the run as for a report
 abbrev pub IsRecordsFault : (from : Origin) (slots : ℕ) (first last : Option (List ℕ)) → RunFault → Type 0
 IsRecordsFault from slots first last f =
-    IsOfProduct f product.Report × IsRunFault from slots 1 (λ input output. ⊥) first last None None f
+    IsOfProduct f (product.Report columns.Plain) × IsRunFault from slots 1 (λ input output. ⊥) first last None None f
 
 -- the same of a reader before and after a call
 abbrev pub HasNoRecords : {R : Type 0} → (left : R → Option (List ℕ)) → (from : Origin) (slots : ℕ)

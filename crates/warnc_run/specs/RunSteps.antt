@@ -12,7 +12,7 @@ use Rattle.book_runs.specs.Live.{IsLiveRun}
 use Rattle.book_runs.specs.Run.{Exchange}
 use Rattle.chart.specs.ChartText.{chart_part, chart_text}
 use Rattle.parallel_compile.specs.declared.fault.CompileFault.TheVariants as compile
-use Rattle.report.specs.ReportText.{part_text}
+use Rattle.report.specs.ReportText.{text_with}
 use Rattle.warnc_run.specs.Faults.{IsOfBook}
 use Rattle.warnc_run.specs.Products.{own_rows, reading_of_record}
 use Rattle.warnc_run.specs.declared.fault.RunFault.{RunFault}
@@ -82,7 +82,7 @@ StopsAtTape book slots parts old new other = IsOfTapes book slots parts other
 
 -- the octets of a text that is made of the records of a run
 abbrev pub octets_of_text : Text → (slots : ℕ) → List Record → List ℕ
-octets_of_text (text.Report headed) slots records = part_text headed (own_rows records)
+octets_of_text (text.Report columns headed) slots records = text_with columns headed (own_rows records)
 octets_of_text (text.Chart wanted) slots records = chart_text slots wanted records (map reading_of_record records)
 octets_of_text (text.ChartPart group last wanted) slots records =
     chart_part slots group last wanted records (map reading_of_record records)

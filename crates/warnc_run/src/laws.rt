@@ -1,6 +1,8 @@
 //! Laws of what is written.
 
+ghost use Rattle.warnc_run.specs.FirstShown.{FirstShownIsThePhones};
 ghost use Rattle.warnc_run.specs.OneOutput.{OutputIsOne};
+ghost use Rattle.warnc_run.specs.ReportColumns.{PlainReportIsCut};
 ghost use Rattle.warnc_run.specs.Whole.{NetworkTapesAreOfOneRun};
 
 /// States, as its contract, that what is written of a run with one session is a function of the octets that were read
@@ -24,4 +26,22 @@ pub fn whole_laws()
     alert_book::network_laws();
     book_runs::networks_law();
     book_runs::session_laws();
+}
+
+/// States, as its contract, that the plain report of a book, or of a group, is its full report with the columns after
+/// the first eight left out. Does nothing: its body names the laws that carry it.
+pub fn report_column_laws()
+    ensures { PlainReportIsCut }
+{
+    book_runs::one_run_law();
+    book_runs::session_laws();
+    report::report_laws();
+}
+
+/// States, as its contract, that the slot after which a report says that a message is shown first is the first after
+/// whose blocks a handset shows it. Does nothing: its body names the law that carries it.
+pub fn first_shown_law()
+    ensures { FirstShownIsThePhones }
+{
+    composition::composition_laws();
 }

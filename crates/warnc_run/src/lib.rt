@@ -33,7 +33,7 @@ mod workers;
 
 pub use fault::RunFault;
 pub use groups::groups_stream;
-pub use laws::{output_laws, whole_laws};
+pub use laws::{first_shown_law, output_laws, report_column_laws, whole_laws};
 pub use live::{compile_stream, live_stream};
 pub use product::{Product, ProductFault, run_product};
 pub use records::run_book;

@@ -96,7 +96,7 @@ impl NetworkRun<'_> {
     {
         match self.made {
             Product::Tapes => unreachable!(),
-            Product::Report => Text::Report(group == 0),
+            Product::Report(columns) => Text::Report(columns, group == 0),
             Product::Chart(wanted) => Text::ChartPart(group, group + 1 == self.groups, wanted),
         }
     }
@@ -155,7 +155,7 @@ impl NetworkRun<'_> {
     {
         match self.made {
             Product::Tapes => self.tapes_part(rt, group),
-            Product::Report | Product::Chart(_) => self.text_part(rt, group),
+            Product::Report(_) | Product::Chart(_) => self.text_part(rt, group),
         }
     }
 
@@ -247,7 +247,7 @@ fn groups_at_once(made: Product, workers: Workers) -> u16
     let each = workers.number as u16;
     match made {
         Product::Tapes => each,
-        Product::Report | Product::Chart(_) => 8 * each,
+        Product::Report(_) | Product::Chart(_) => 8 * each,
     }
 }
 

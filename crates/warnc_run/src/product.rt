@@ -14,6 +14,7 @@ use alert_book::Origin;
 use cbsp_wire::Cell;
 use device_ends::{Sink, Source};
 use order_desk::Gate;
+use report::Columns;
 use std::alloc::AllocGlobal;
 use std::io::{Read, Write};
 use std::sync::Wait;
@@ -25,8 +26,8 @@ use thiserror::Error;
 pub enum Product {
     /// The tapes of its cells.
     Tapes,
-    /// The report of what became of each order in each cell, as CSV.
-    Report,
+    /// The report of what became of each order in each cell, with these columns, as CSV.
+    Report(Columns),
     /// The chart of its cells, or of this one alone, as a page in HTML.
     Chart(Option<Cell>),
 }
@@ -95,7 +96,7 @@ pub fn run_product<T: AllocGlobal + Threads + Wait + Sync, R: Read, W: Write, G:
         Books::EachGroup => write_network(rt, source, sink, run, made),
         Books::One(origin) => match made {
             Product::Tapes => write_tapes(rt, source, sink, origin, run, gate),
-            Product::Report | Product::Chart(_) => {
+            Product::Report(_) | Product::Chart(_) => {
                 write_text_from(rt, source, sink, origin, run, made, gate)
             }
         },

@@ -4,6 +4,7 @@ use crate::gate::{Crossing, Manner, Shortage};
 use alert_book::Origin;
 use device_ends::memory::{MemoryReader, MemoryWriter};
 use device_ends::{Sink, Source, write_all};
+use report::Columns;
 use std::alloc::Global;
 use std::io::Write;
 use std::sync::Wait;
@@ -34,10 +35,12 @@ impl Engine {
         match verb {
             "compile" => Engine::Compile,
             "records" => Engine::Records,
-            "report" => Engine::Product(Books::One(Origin::Book), Product::Report),
+            "report" => Engine::Product(Books::One(Origin::Book), Product::Report(Columns::Plain)),
+            "full" => Engine::Product(Books::One(Origin::Book), Product::Report(Columns::Full)),
             "chart" => Engine::Product(Books::One(Origin::Book), Product::Chart(None)),
             "network-tapes" => Engine::Product(Books::EachGroup, Product::Tapes),
-            "network-report" => Engine::Product(Books::EachGroup, Product::Report),
+            "network-report" => Engine::Product(Books::EachGroup, Product::Report(Columns::Plain)),
+            "network-full" => Engine::Product(Books::EachGroup, Product::Report(Columns::Full)),
             "network-chart" => Engine::Product(Books::EachGroup, Product::Chart(None)),
             _ => Engine::Live,
         }

@@ -12,8 +12,9 @@
 //!
 //! The calls:
 //!
-//! - `compile SLOTS WORKERS -> done`, or the fault; `live SLOTS SESSIONS WORKERS -> done`; `records`, `report`,
-//!   `chart`, `network-tapes`, `network-report` and `network-chart` with the numbers of `compile`;
+//! - `compile SLOTS WORKERS -> done`, or the fault; `live SLOTS SESSIONS WORKERS -> done`; `records`, `report`, `full`
+//!   (the full report), `chart`, `network-tapes`, `network-report`, `network-full` and `network-chart` with the numbers
+//!   of `compile`;
 //! - `meet SLOTS SESSIONS WORKERS -> done, in both cells at once`: threads wait for each other in two cells;
 //! - `starve SLOTS SESSIONS WORKERS`: so too; then one of them takes all memory, and gives it back when the call has
 //!   ended;
@@ -134,9 +135,11 @@ fn done<T: AllocGlobal + Threads + Wait + Sync>(
         | "starve"
         | "records"
         | "report"
+        | "full"
         | "chart"
         | "network-tapes"
         | "network-report"
+        | "network-full"
         | "network-chart" => called(rt, bench, verb, words),
         "all" | "aired" | "cells" | "shown" => read_back(rt.alloc(), bench, verb, words),
         _ => set(rt.alloc(), bench, verb, words),

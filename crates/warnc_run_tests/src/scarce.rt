@@ -100,6 +100,28 @@ chart 2 2 -> done
 all -> worked
 ";
 
+/// A full report, of a book and of a network of one group.
+const FULL: &str = "
+in cell,1,1
+in write,0,a,4370,0,1,en,2,2,0,1-1,@
+# lac,ci,id,serial,start,end,completed,shown,first_shown,pages,period,share,cause; 1,1,4370,0010,0,2,1,yes,0,1,2,50,
+worked 6c61632c63692c69642c73657269616c2c73746172742c656e642c636f6d706c657465642c73686f776e2c66697273745f73
+worked 686f776e2c70616765732c706572696f642c73686172652c63617573650a312c312c343337302c303031302c302c322c312c
+worked 7965732c302c312c322c35302c0a
+full 2 1 -> done
+all -> worked
+full 2 3 -> done
+all -> worked
+network-full 2 2 -> done
+all -> worked
+scarce 200 full 2 1 -> refused; done
+all -> worked
+scarce 200 network-full 2 1 -> refused; done
+all -> worked
+scarce-threads 200 full 2 2 -> refused; done
+all -> worked
+";
+
 /// The tapes, the report and the chart of a network of one group.
 const NETWORK: &str = "
 in cell,1,1
@@ -163,6 +185,11 @@ fn refused_memory_is_reported_by_live(rt: HostRuntime) -> Result<(), Fail> {
 #[test]
 fn refused_memory_is_reported_by_report_and_chart(rt: HostRuntime) -> Result<(), Fail> {
     expect_rows(&rt, REPORT)
+}
+
+#[test]
+fn refused_memory_is_reported_by_full_reports(rt: HostRuntime) -> Result<(), Fail> {
+    expect_rows(&rt, FULL)
 }
 
 #[test]

@@ -12,15 +12,15 @@ use Rattle.report.proofs.cell.CellContext.push_rows.Goals.{in-Some+in_ok-push, i
 -- the rows of a place, and of the one that the walk is at
 rows_at : (c : goal.Joined-row) (shown : List ShownMessage) (place : ℕ) → List Row
 rows_at c shown place =
-    row_at c.args.self.now.cell c.args.self.now.slots shown c.args.stops.now c.args.completed.now place
-    (slice_get c.args.log.now place)
+    row_at c.args.self.now.cell c.args.self.now.slots shown c.args.stops.now c.args.completed.now c.args.firsts.now
+    place (slice_get c.args.log.now place)
 
 here : (c : goal.Joined-row) (shown : List ShownMessage) → HasNames c.args.self.now.shown.now shown →
     rows_at c shown c.loop-place.place ≡ option_to_list c.row.result
 unfolding rows_at
 here c shown are =
     ap (row_at c.args.self.now.cell c.args.self.now.slots shown c.args.stops.now c.args.completed.now
-    c.loop-place.place)
+    c.args.firsts.now c.loop-place.place)
     (slice_get_read c.args.log.now (length c.args.log.now) c.loop-place.place c.index-log-place.result refl
     (omega arith) c.index-log-place.is)
     ∙ ap (λ (row : Option Row). option_to_list row) (sym (c.row.ensures shown are))

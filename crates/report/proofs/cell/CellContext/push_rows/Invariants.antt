@@ -6,4 +6,4 @@ use Rattle.report.proofs.cell.CellContext.push_rows.Given as goal
 abbrev pub invariant-loop-place : goal.invariant-loop-place
 invariant-loop-place l =
     (shown : List ShownMessage) → HasNames l.self.shown.now shown → l.rows.items
-    ≡ l.fn.rows.items ++ rows_before l.self.cell l.self.slots shown l.stops l.completed l.log l.place
+    ≡ l.fn.rows.items ++ rows_before l.self.cell l.self.slots shown l.stops l.completed l.firsts l.log l.place

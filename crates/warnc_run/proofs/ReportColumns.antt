@@ -1,0 +1,24 @@
+-- A book has one run with one session, so its two reports have the same rows.
+use Rattle.std.proofs.Common.{◌≡◌, ◌∙◌, List, ap}
+use Rattle.bsc_table.specs.Record.{Record}
+use Rattle.book_runs.specs.LiveLaws.{OneSessionIsARun}
+use Rattle.book_runs.specs.OneRun.{RunsAreOne}
+use Rattle.report.specs.Laws.{PlainIsFullCut, full_table}
+use Rattle.report.specs.ReportText.{part_text}
+use Rattle.warnc_run.specs.Products.{is_headed, own_rows}
+use Rattle.warnc_run.specs.ReportColumns.{PlainReportIsCut}
+use Rattle.warnc_run.proofs.OneOutput.{records_are_one}
+
+-- one is what is left of the other
+pub plain_is_cut : RunsAreOne → OneSessionIsARun → PlainIsFullCut → PlainReportIsCut
+plain_is_cut runs law cut from slots input full plain is_full is_plain =
+    let of_table = cut (is_headed from) (own_rows is_full.records) in
+    let same : is_plain.records ≡ is_full.records =
+    records_are_one runs law from slots input is_plain.records is_full.records is_plain.run is_full.run in
+    record {
+      table = full_table (is_headed from) (own_rows is_full.records);
+      full_is = is_full.written ∙ of_table.full;
+      plain_is = is_plain.written
+          ∙ ap (λ (records : List Record). part_text (is_headed from) (own_rows records)) same
+          ∙ of_table.plain;
+    }
