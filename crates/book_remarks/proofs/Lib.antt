@@ -1,0 +1,3 @@
+pub mod RunRecords
+pub mod Unremarked
+pub mod EngineLaws
