@@ -47,10 +47,11 @@ struct Told {
 
 /// The table of a check.
 #[derive(Drop)]
-struct Checked {
-    text: Vec<u8>,
+pub struct Checked {
+    /// The table, as CSV.
+    pub text: Vec<u8>,
     /// How many rows have a fault.
-    count: usize,
+    pub count: usize,
 }
 
 /// Where a row is.
@@ -133,7 +134,11 @@ fn read_octets<R: Read>(alloc: Global, source: &mut Source<R>) -> Result<Vec<u8>
 }
 
 /// The table of the faults of a book's rows.
-fn table_of(alloc: Global, octets: &[u8]) -> Result<Checked, AllocError>
+///
+/// # Errors
+///
+/// Out of memory.
+pub fn table_of(alloc: Global, octets: &[u8]) -> Result<Checked, AllocError>
     requires { length octets.now ≤ 16777216 }
     ensures { IfOk result (λ checked. IsChecked octets.now checked.count checked.text.items) }
 {

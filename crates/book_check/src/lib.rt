@@ -13,6 +13,6 @@ mod table;
 mod value;
 mod words;
 
-pub use check::check_stream;
+pub use check::{Checked, check_stream, table_of};
 pub use fault::CheckFault;
 pub use laws::check_laws;

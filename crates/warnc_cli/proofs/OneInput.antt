@@ -25,6 +25,7 @@ writes (task.Pcap settings) book input old new one wrote = wrote
 writes (task.Tape wanted) book input old new one wrote = wrote
 writes task.Groups book input old new one wrote = wrote
 writes task.Check book input old new one wrote = absurd one
+writes (task.Remark slots strict) book input old new one wrote = absurd one
 writes (task.Texts pages) book input old new one wrote = wrote
 writes (task.Make run made) book input old new one wrote = wrote
 
@@ -38,6 +39,7 @@ refuses (task.Pcap settings) book input one refused = refused
 refuses (task.Tape wanted) book input one refused = refused
 refuses task.Groups book input one refused = refused
 refuses task.Check book input one refused = absurd one
+refuses (task.Remark slots strict) book input one refused = absurd one
 refuses (task.Texts pages) book input one refused = refused
 refuses (task.Make run made) book input one refused = refused
 
@@ -51,6 +53,7 @@ groups (task.Pcap settings) book input old new wrote = wrote
 groups (task.Tape wanted) book input old new wrote = wrote
 groups task.Groups book input old new wrote = wrote
 groups task.Check book input old new wrote = wrote
+groups (task.Remark slots strict) book input old new wrote = wrote
 groups (task.Texts pages) book input old new wrote = wrote
 groups (task.Make run made) book input old new wrote = wrote
 
@@ -71,6 +74,7 @@ unseen (task.Pcap settings) book input old new one kept = (tt, kept)
 unseen (task.Tape wanted) book input old new one kept = (tt, kept)
 unseen task.Groups book input old new one kept = (tt, kept)
 unseen task.Check book input old new one kept = absurd one
+unseen (task.Remark slots strict) book input old new one kept = absurd one
 unseen (task.Texts pages) book input old new one kept = (tt, kept)
 unseen (task.Make run made) book input old new one kept = (tt, kept)
 

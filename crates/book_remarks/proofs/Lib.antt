@@ -1,0 +1,4 @@
+pub mod RunRecords
+pub mod Unremarked
+pub mod EngineLaws
+pub mod OneTable

@@ -1,0 +1,10 @@
+use Rattle.std.proofs.Common.{◌≡◌, ◌≤◌, ◌++◌, [], drop}
+use Rattle.book_remarks.specs.Answers.{marks_from}
+use Rattle.book_remarks.proofs.mark.marks_of.Given as goal
+
+abbrev pub invariant-loop-order : goal.invariant-loop-order
+invariant-loop-order l = record {
+  few : l.place ≤ l.order-index;
+  marks : l.marks.items ++ marks_from l.cell l.log l.place l.accepted.items (drop l.order-index l.orders)
+      ≡ marks_from l.cell l.log 0 [] l.orders;
+}

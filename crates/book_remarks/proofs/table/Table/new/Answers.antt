@@ -1,0 +1,5 @@
+use Rattle.std.proofs.Common.{[]}
+use Rattle.book_remarks.proofs.table.Table.new.Goals as goal
+
+pub returns : goal.returns
+returns c = c.in_ok-push_line.ensures [] c.empty-table.ensures

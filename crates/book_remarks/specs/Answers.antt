@@ -1,0 +1,121 @@
+-- What became of each order of a book in a cell of its run (own).
+--
+-- A cell's log has the entries of what the cell was asked, in the order of the rows, each row at most once. A `write`
+-- asks each cell that it names; an `update` or a `stop` asks those in which a version of its alert is live, and so none
+-- that refused the alert's `write`. So a row's entry, if it has one, is the next of the log, and is known by its
+-- command: a write of the row's identifier and serial number, or a kill of some version of the row's alert. A row that
+-- names the cell, and whose entry isn't the next, was left out there.
+use Rattle.std.specs.Prelude.{ℕ, ◌+◌, ◌*◌, ◌/◌, ◌==◌, ◌&&◌, ◌||◌, Bool, true, false, if◌then◌else◌, Option, Some}
+use Rattle.std.specs.Prelude.{None, List, [], ◌∷◌, ◌++◌}
+use Rattle.std.specs.List.{list_any, slice_get}
+use Rattle.cbsp_wire.specs.declared.message.Cell.{Cell}
+use Rattle.cbsp_wire.specs.CellLists.{contains}
+use Rattle.alert_book.specs.declared.book.order.Action.{Action}
+use Rattle.alert_book.specs.declared.book.order.Action.TheVariants as action
+use Rattle.alert_book.specs.declared.book.order.Alert.{Alert}
+use Rattle.alert_book.specs.declared.book.order.Order.{Order}
+use Rattle.alert_book.specs.Row.{is_write}
+use Rattle.alert_book.specs.Session.{serial_of}
+use Rattle.bsc_table.specs.declared.command.Command.{Command}
+use Rattle.bsc_table.specs.declared.command.Command.TheVariants as commands
+use Rattle.bsc_table.specs.declared.entry.Answer.{Answer}
+use Rattle.bsc_table.specs.declared.entry.Answer.TheVariants as answers
+use Rattle.bsc_table.specs.declared.entry.Entry.{Entry}
+use Rattle.bsc_table.specs.Record.{Record}
+use Rattle.book_remarks.specs.declared.mark.Mark.{Mark}
+use Rattle.book_remarks.specs.declared.mark.Mark.TheVariants as marks
+
+-- the cells that an order names
+abbrev pub cells_named : Action → List Cell
+cells_named (action.Write sending) = sending.cells
+cells_named (action.Update update sending) = sending.cells
+cells_named (action.Stop cells) = cells
+
+abbrev pub names : Order → Cell → Bool
+names order cell = contains (cells_named order.action) cell
+
+-- a command writes this version of an alert
+abbrev pub writes_version : Alert → (version : ℕ) → Command → Bool
+writes_version alert version (commands.Write id serial replaces category dcs period broadcasts contents) =
+    (id == alert.id) && (serial == serial_of alert version)
+writes_version alert version (commands.Kill id serial) = false
+writes_version alert version (commands.Status id serial) = false
+
+-- a command stops some version of an alert: its serial number has the alert's scope and code, whatever the update
+-- number in its last four bits is
+abbrev pub kills_alert : Alert → Command → Bool
+kills_alert alert (commands.Write id serial replaces category dcs period broadcasts contents) = false
+kills_alert alert (commands.Kill id serial) =
+    (id == alert.id) && (serial / 16 == alert.scope * 1024 + alert.code)
+kills_alert alert (commands.Status id serial) = false
+
+-- a command is one that an order has cells carry out
+abbrev pub is_ordered : Alert → Action → Command → Bool
+is_ordered alert (action.Write sending) command = writes_version alert 0 command
+is_ordered alert (action.Update update sending) command = writes_version alert update command
+is_ordered alert (action.Stop cells) command = kills_alert alert command
+
+-- the next entry of a log, if there is one, is an order's
+abbrev pub is_entry_of : Order → (next : Option Entry) → Bool
+is_entry_of order None = false
+is_entry_of order (Some e) = is_ordered order.alert order.action e.command
+
+-- an order may ask a cell that has accepted the first versions of these alerts
+abbrev pub may_ask : (accepted : List ℕ) → Order → Bool
+may_ask accepted order = is_write order || list_any (λ number. number == order.number) accepted
+
+-- an order asked a cell whose log goes on with this entry
+abbrev pub asks : Order → Cell → (accepted : List ℕ) → (next : Option Entry) → Bool
+asks order cell accepted next = names order cell && (may_ask accepted order && is_entry_of order next)
+
+-- what became of an order that asked, by its entry: a cell answers each command of a book by doing it or with a cause
+abbrev pub mark_by : (slot : ℕ) → Answer → Mark
+mark_by slot (answers.Started start) = marks.Done slot
+mark_by slot (answers.Replaced start completed) = marks.Done slot
+mark_by slot (answers.Stopped completed) = marks.Done slot
+mark_by slot (answers.Told completed state) = marks.Done slot
+mark_by slot answers.Unknown = marks.Done slot
+mark_by slot (answers.Cause cause) = marks.Refused cause
+mark_by slot answers.Refused = marks.Done slot
+
+abbrev pub mark_of_entry : Option Entry → Mark
+mark_of_entry None = marks.LeftOut
+mark_of_entry (Some e) = mark_by e.slot e.answer
+
+abbrev pub mark_of : Order → Cell → (accepted : List ℕ) → (next : Option Entry) → Mark
+mark_of order cell accepted next =
+    if names order cell then (if may_ask accepted order && is_entry_of order next then mark_of_entry next
+    else marks.LeftOut)
+    else marks.Elsewhere
+
+-- how many entries of a log an order has
+abbrev pub one_if : Bool → ℕ
+one_if asked = if asked then 1 else 0
+
+abbrev pub is_done : Mark → Bool
+is_done marks.Elsewhere = false
+is_done marks.LeftOut = false
+is_done (marks.Done slot) = true
+is_done (marks.Refused cause) = false
+
+-- the alerts of which a cell accepted the first version, after one more order of which this became there
+abbrev pub accepted_after : (accepted : List ℕ) → Order → Mark → List ℕ
+accepted_after accepted order mark =
+    if is_write order && is_done mark then accepted ++ order.number ∷ [] else accepted
+
+-- what became of orders in a cell, one after the other, where the entry of the first that asked is at this place of the
+-- log
+abbrev pub marks_from : Cell → (log : List Entry) → (place : ℕ) → (accepted : List ℕ) → List Order → List Mark
+marks_from cell log place accepted [] = []
+marks_from cell log place accepted (order ∷ orders) =
+    mark_of order cell accepted (slice_get log place)
+    ∷ marks_from cell log (place + one_if (asks order cell accepted (slice_get log place)))
+    (accepted_after accepted order (mark_of order cell accepted (slice_get log place))) orders
+
+-- a cell of the run, and what became there of each order of the book
+pub record Column : Type 0 where
+  pub cell : Cell
+  pub marks : List Mark
+
+abbrev pub column_of : List Order → Record → Column
+column_of orders r = record { cell = r.cell; marks = marks_from r.cell r.log 0 [] orders }

@@ -1,0 +1,7 @@
+pub mod Answers
+pub mod Remarks
+pub mod RemarksText
+pub mod TableSteps
+pub mod Remarked
+pub mod RemarkedSteps
+pub mod Laws

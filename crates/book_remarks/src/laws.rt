@@ -1,0 +1,17 @@
+//! Laws of remarks.
+
+ghost use Rattle.book_remarks.specs.Laws.{RemarkedAreClean, RemarksAreOne, UnremarkedAreKept};
+
+/// Where nothing is remarked, each cell did what each order that names it orders, and no later than at its slot. For a
+/// number of slots octets have one table of remarks, and if they have one, no row has a fault. It does nothing: its
+/// contract is the law, and its body names the laws that carry it.
+pub fn remark_laws()
+    ensures kept { UnremarkedAreKept }
+    ensures one { RemarksAreOne }
+    ensures clean { RemarkedAreClean }
+{
+    alert_book::book_laws();
+    book_check::check_laws();
+    book_runs::one_run_law();
+    book_runs::session_laws();
+}

@@ -1,0 +1,103 @@
+//! The text of remarks, in memory.
+
+ghost use Rattle.std.specs.Prelude.{◌≡◌, ◌++◌, ℕ, List, codes, IfOk, OnOk, string_bytes};
+ghost use Rattle.std.specs.List.{flat_map};
+ghost use Rattle.book_remarks.specs.TableSteps.{IsTable};
+ghost use Rattle.book_remarks.specs.RemarksText.{cell_text, cells_word, remark_line, remarks_text, says_text};
+ghost use Rattle.book_remarks.specs.RemarksText.{spaced_cell};
+
+use crate::remarks::Remark;
+use crate::says::Says;
+use crate::table::Table;
+use cbsp_wire::Cell;
+use chart::cause_words;
+use itoa::Buffer;
+use std::alloc::{AllocError, Global};
+
+/// A cell, as orders name it.
+fn cell_text(alloc: Global, cell: Cell) -> Result<String, AllocError>
+    ensures { IfOk result (λ text. string_bytes text ≡ cell_text cell) }
+{
+    let Cell { lac, ci } = cell;
+    format!(in alloc; "{lac}-{ci}")
+}
+
+/// A cell after a space.
+fn spaced_cell(alloc: Global, cell: Cell) -> Result<String, AllocError>
+    ensures { IfOk result (λ text. string_bytes text ≡ spaced_cell cell) }
+{
+    let Cell { lac, ci } = cell;
+    format!(in alloc; " {lac}-{ci}")
+}
+
+/// What is said of cells that weren't asked.
+fn leaves_out(alloc: Global, cells: &[Cell]) -> Result<String, AllocError>
+    ensures { IfOk result (λ text. string_bytes text ≡ codes "leaves out" ++ flat_map spaced_cell cells.now) }
+{
+    let mut text = String::from_str(alloc, "leaves out")?;
+    for cell in cells {
+        text.push_str(&spaced_cell(alloc, *cell)?)?;
+    }
+    Ok(text)
+}
+
+/// The word for so many cells.
+fn cells_word(count: usize) -> &'static str
+    ensures { result.now ≡ cells_word count }
+{
+    if count == 1 { "cell" } else { "cells" }
+}
+
+/// What is said of an order, in words.
+fn says_text(alloc: Global, says: &Says) -> Result<String, AllocError>
+    ensures { IfOk result (λ text. string_bytes text ≡ says_text says.now) }
+{
+    match says {
+        Says::OrdersNothing => String::from_str(alloc, "orders nothing"),
+        Says::LeavesOut(cells) => leaves_out(alloc, cells.list.as_slice()),
+        Says::DoneAt { slot } => format!(in alloc; "done at slot {slot}"),
+        Says::Refused { cells, cause } => {
+            let word = cells_word(*cells);
+            let why = cause_words(*cause);
+            format!(in alloc; "refused in {cells} {word}: {why}")
+        }
+        Says::PastTheEnd => String::from_str(alloc, "past the end"),
+        Says::SameAs { row } => {
+            format!(in alloc; "same identifier and serial number as row {row}")
+        }
+        Says::OnlySpaces => String::from_str(alloc, "only spaces"),
+    }
+}
+
+/// Appends the line of a remark.
+fn push_remark(alloc: Global, table: &mut Table, remark: &Remark) -> Result<(), AllocError>
+    ensures { OnOk result ((octets : List ℕ) → IsTable table.old octets
+        → IsTable table.new (octets ++ remark_line remark.now)) }
+{
+    match remark {
+        Remark::OfOrder { row, name, says } => {
+            let mut buffer = Buffer::new();
+            let said = says_text(alloc, says)?;
+            table.push_fields(buffer.format(*row), name.text.as_str(), "", &said)
+        }
+        Remark::NothingIn(cell) => {
+            let name = cell_text(alloc, *cell)?;
+            table.push_fields("", "", &name, "gets nothing")
+        }
+    }
+}
+
+/// The text of remarks, as CSV: a line of the columns' names, and a line for each.
+///
+/// # Errors
+///
+/// Out of memory.
+pub fn text_of(alloc: Global, remarks: &[Remark]) -> Result<Vec<u8>, AllocError>
+    ensures { IfOk result (λ octets. octets.items ≡ remarks_text remarks.now) }
+{
+    let mut table = Table::new(alloc)?;
+    for remark in remarks {
+        push_remark(alloc, &mut table, remark)?;
+    }
+    table.into_octets()
+}
