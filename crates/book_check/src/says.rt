@@ -5,6 +5,7 @@ ghost use Rattle.std.specs.Str.{chars};
 ghost use Rattle.csv.specs.Records.{fields_of};
 ghost use Rattle.alert_book.specs.Fields.{column};
 ghost use Rattle.book_check.specs.Words.{columns_words, count_words, pages_words, says_of_row};
+ghost use Rattle.book_texts.specs.Cost.{pages_needed};
 ghost use Rattle.book_check.specs.Words.{says_of_text};
 ghost use Rattle.book_check.specs.Words.{text_of, twice_words, undeclared_words};
 
