@@ -29,6 +29,7 @@ pub lax : (slots : ℕ) (strict : Bool) (count : ℕ) (input output : List ℕ) 
 lax slots strict count input output is remarked =
     subst (λ (b : Bool). IsRemarkedFor slots b input output) (sym is) (count, remarked)
 
+-- where there is none, it may be strict or not
 pub unremarked : (slots : ℕ) (strict : Bool) (input output : List ℕ) → IsRemarked slots input 0 output
     → IsRemarkedFor slots strict input output
 unremarked slots false input output remarked = (0, remarked)
@@ -51,6 +52,7 @@ of_input : (P : List ℕ → Type 0) (left : Option (List ℕ)) (octets : List �
 of_input P None octets same is = tt
 of_input P (Some input) octets same is = subst P (sym same) is
 
+-- nor are there any of a run that ended early
 pub of_stop : (slots : ℕ) (strict : Bool) (left old new : Option (List ℕ)) (octets : List ℕ) (why : RemarkFault)
     → IfSome left (λ input. input ≡ octets)
     → IsStop slots octets why

@@ -11,6 +11,7 @@ use Rattle.book_remarks.specs.Laws.{RemarkedAreClean, RemarksAreOne}
 use Rattle.book_remarks.specs.Remarks.{remarks_in}
 use Rattle.book_remarks.specs.RemarksText.{remarks_text}
 
+-- one table, of as many remarks
 pub remarks_are_one : RowsAreOne → RunsAreOne → OneSessionIsARun → RemarksAreOne
 remarks_are_one rows_one runs law slots input output another count other one two =
     let rows : one.rows ≡ two.rows = rows_one input one.rows two.rows one.read two.read in
@@ -19,6 +20,7 @@ remarks_are_one rows_one runs law slots input output another count other one two
     ap (λ (r : Rows). remarks_in r.orders one.records) rows ∙ ap (remarks_in two.rows.orders) records in
     (sym one.counted ∙ ap length all ∙ two.counted, one.written ∙ ap remarks_text all ∙ sym two.written)
 
+-- and none of the faults of rows
 pub remarked_are_clean : BooksAreClean → RemarkedAreClean
 remarked_are_clean clean slots input output told count faults remarked checked =
     clean input told faults remarked.run.book remarked.run.is_book checked

@@ -1,0 +1,130 @@
+//! Books, and what is remarked of each and of its run of 24 slots: by hand, as docs/formats.md says.
+
+use crate::remarks_table::expect_rows;
+use std::test::Fail;
+
+/// One mistake each, in two cells.
+const MISTAKES: &str = "
+before cell,1,1|cell,1,2|write,0,fire,4370,0,1,en,2,4,0,*,Stay in!|
+run  -> none
+run stop,8,fire,*| -> none
+run update,8,fire,en,2,4,0,*,Out!|stop,12,fire,*| -> none
+strict  -> none
+
+# Nothing is live in the cells: after a stop, in another cell, of an alert that was refused.
+run stop,8,fire,*|update,12,fire,en,2,4,0,*,Out!| -> 5,fire,,orders nothing
+run stop,8,fire,*|stop,8,fire,1-2| -> 5,fire,,orders nothing
+before cell,1,1|cell,1,2|write,0,fire,4370,0,1,en,2,4,0,1-1,Stay in!|write,0,x,4371,0,9,en,2,8,0,1-2,X|
+run stop,8,fire,1-2| -> 5,fire,,orders nothing
+run update,8,fire,en,2,4,0,1-2,Out!| -> 5,fire,,orders nothing
+
+# Or it is in some of them alone.
+run stop,8,fire,*| -> 5,fire,,leaves out 1-2
+run update,8,fire,en,2,4,0,1-2 1-1,Out!| -> 5,fire,,leaves out 1-2
+run stop,8,fire,1-1| -> none
+
+# A name that CSV quotes, and a cell that gets nothing.
+before cell,1,1|cell,1,2|write,0,\"a, b\",4370,0,1,en,2,4,0,1-1,Stay in!|
+run stop,8,\"a, b\",*| -> 4,\"a, b\",,leaves out 1-2|,,1-2,gets nothing
+run cell,7,65535| -> ,,1-2,gets nothing|,,7-65535,gets nothing
+
+# Slots that fall are done late: at the slot of the order before in the cell.
+before cell,1,1|cell,1,2|write,20,fire,4370,0,1,en,2,4,0,*,Stay in!|
+run write,4,storm,4371,0,2,en,2,4,0,*,Go| -> 4,storm,,done at slot 20
+run write,4,storm,4371,0,2,en,2,4,0,*,Go|stop,12,fire,1-1| -> 4,storm,,done at slot 20|5,fire,,done at slot 20
+run write,20,storm,4371,0,2,en,2,4,0,*,Go| -> none
+before cell,1,1|cell,1,2|write,20,fire,4370,0,1,en,2,4,0,1-1,Stay in!|
+run write,4,storm,4371,0,2,en,2,4,0,1-2,Go| -> none
+run write,4,storm,4371,0,2,en,2,4,0,*,Go| -> 4,storm,,done at slot 20
+
+# The run has slots 0 to 23.
+before cell,1,1|cell,1,2|write,0,fire,4370,0,1,en,2,4,0,*,Stay in!|
+run write,23,flood,4371,0,3,en,2,4,0,*,Go| -> none
+run write,24,flood,4371,0,3,en,2,4,0,*,Go| -> 4,flood,,past the end
+run stop,24,fire,*| -> 4,fire,,past the end
+run write,30,flood,4371,0,3,en,2,4,0,1-1,Go|stop,2,fire,*| -> 4,flood,,past the end|5,fire,,past the end
+slots 25
+run write,24,flood,4371,0,3,en,2,4,0,*,Go| -> none
+slots 24
+
+# Texts of nothing but spaces.
+run write,2,b,4371,0,3,en,2,4,0,*, | -> 4,b,,only spaces
+run update,2,fire,en,2,4,0,*,\" | \"| -> 4,fire,,only spaces
+run update,2,fire,en,2,4,0,*, .| -> none
+";
+
+/// Refused orders, with the causes of 3GPP TS 48.049, 8.2.
+const REFUSED: &str = "
+# One page in two slots takes half of a cell.
+before cell,1,1|cell,1,2|write,0,a,4370,0,1,en,2,2,0,*,A|write,0,b,4371,0,2,en,2,2,0,1-1,B|
+run write,0,c,4372,0,3,en,2,2,0,1-1,C| -> 5,c,,refused in 1 cell: BSC capacity exceeded
+run write,0,c,4372,0,3,en,2,2,0,*,C| -> 5,c,,refused in 1 cell: BSC capacity exceeded
+run write,0,c,4372,0,3,en,2,1,0,*,C| -> 5,c,,refused in 2 cells: BSC capacity exceeded
+run write,0,c,4372,0,3,en,1,1,0,*,C| -> none
+
+# What was refused isn't live: so its stop orders nothing, and where it was accepted it is stopped.
+run write,0,c,4372,0,3,en,2,1,0,*,C|stop,4,c,*| -> 5,c,,refused in 2 cells: BSC capacity exceeded|\
+    6,c,,orders nothing
+run write,0,c,4372,0,3,en,2,2,0,*,C|stop,4,c,*| -> 5,c,,refused in 1 cell: BSC capacity exceeded|6,c,,leaves out 1-1
+
+# One broadcast in four slots is over at slot 4: an update finds no message, and then none is live.
+before cell,1,1|write,0,a,4370,0,1,en,2,4,1,*,A|
+run stop,3,a,*| -> none
+run stop,4,a,*| -> 3,a,,refused in 1 cell: message reference not identified
+run update,4,a,en,2,4,0,*,B|stop,5,a,*| -> 3,a,,refused in 1 cell: message reference not identified|4,a,,orders nothing
+
+# Two alerts of one identifier and serial number: the second is refused where the first was accepted.
+before cell,1,1|cell,1,2|write,0,a,4370,0,1,en,2,4,0,*,A|
+run write,8,b,4370,0,1,en,2,4,0,*,B| -> 4,b,,refused in 2 cells: message reference already used|\
+    4,b,,same identifier and serial number as row 3
+run write,8,b,4370,1,1,en,2,4,0,*,B|write,8,c,4370,1,1,en,2,4,0,*,C|write,8,d,4370,0,1,en,2,4,0,1-1,D| -> \
+    5,c,,refused in 2 cells: message reference already used|5,c,,same identifier and serial number as row 4|\
+    6,d,,refused in 1 cell: message reference already used|6,d,,same identifier and serial number as row 3
+run write,8,b,4370,0,1,en,2,4,0,*,B|stop,9,b,*|stop,10,a,*| -> 4,b,,refused in 2 cells: message reference already used|\
+    4,b,,same identifier and serial number as row 3|5,b,,orders nothing
+before cell,1,1|cell,1,2|write,0,a,4370,0,1,en,2,4,0,1-1,A|
+run write,8,b,4370,0,1,en,2,4,0,1-2,B| -> 4,b,,same identifier and serial number as row 3
+
+# Two causes, and cells that are left out beside them.
+before cell,1,1|cell,1,2|write,0,a,4370,0,1,en,2,2,0,1-1,A|write,0,b,4371,0,2,en,2,2,0,1-1,B|
+run write,0,c,4371,0,2,en,2,2,0,*,C| -> 5,c,,refused in 1 cell: message reference already used|\
+    5,c,,same identifier and serial number as row 4
+";
+
+/// Books with faults, and none at all.
+const FAULTS: &str = "
+run cell,1| -> Faults(1) row,line,column,field,value,says|1,1,1,VERB,cell,\"2 columns, cell has 3\"
+line sell|sell| -> faults: 2
+run  -> none
+run cell,1,1| -> ,,1-1,gets nothing
+strict cell,1,1| -> Remarks(1) ,,1-1,gets nothing
+line cell,1,1| -> remarks: 1
+before cell,1,1|write,0,fire,4370,0,1,en,2,4,0,*,Stay in!|
+strict  -> none
+strict stop,8,fire,*|stop,8,fire,*|stop,30,fire,*| -> Remarks(2) 4,fire,,orders nothing|5,fire,,orders nothing
+
+# Ends that fail, with 10 octets at a time: a table of 19 octets has two pieces.
+most 10
+reads 0 -> ReadFailed, true, 0
+reads 3 -> ReadFailed, true, 0
+writes 0 -> WriteFailed, true, 0
+writes 1 -> WriteFailed, true, 10
+writes 2 -> none
+writes 2 stop,30,fire,*| -> WriteFailed, true, 20
+writes 3 sell| -> WriteFailed, true, 30
+";
+
+#[test]
+fn mistakes_are_remarked(rt: HostRuntime) -> Result<(), Fail> {
+    expect_rows(&rt, MISTAKES, 26)
+}
+
+#[test]
+fn refusals_are_remarked(rt: HostRuntime) -> Result<(), Fail> {
+    expect_rows(&rt, REFUSED, 14)
+}
+
+#[test]
+fn faults_and_failed_ends_are_told(rt: HostRuntime) -> Result<(), Fail> {
+    expect_rows(&rt, FAULTS, 15)
+}

@@ -1,0 +1,88 @@
+//! Books that are remarked short of memory: growths are refused one after the other.
+
+use book_remarks::{RemarkFault, remark_stream};
+use device_ends::memory::MemoryReader;
+use device_ends::{Sink, Source};
+use std::alloc::AllocGlobal;
+use std::sync::Wait;
+use std::test::Fail;
+use std::thread::Threads;
+use test_support::Room;
+
+/// How many octets are written at most.
+const SIZE: usize = 1000;
+
+/// A book of which several things are remarked.
+const BOOK: &[u8] =
+    b"cell,1,1\ncell,1,2\nwrite,0,a,4370,0,1,en,2,2,0,1-1,A\nwrite,0,b,4371,0,2,en,2,1,0,1-1,B\n\
+    stop,0,a,*\nstop,0,b,*\n";
+
+/// What is remarked of it.
+const REMARKS: &str = "row,name,cell,says\n\
+4,b,,refused in 1 cell: BSC capacity exceeded\n\
+5,a,,leaves out 1-2\n\
+6,b,,orders nothing\n\
+,,1-2,gets nothing\n";
+
+/// What comes of the book, whose output takes no memory: the fault, and how many octets are out.
+fn outcome_of<T: AllocGlobal + Threads + Wait + Sync>(
+    rt: &T,
+    output: &mut [u8],
+) -> (Option<RemarkFault>, usize) {
+    let mut reader = MemoryReader::new(BOOK, 100, None);
+    let size = output.len();
+    let mut left = output;
+    let fault = remark_stream(
+        rt,
+        &mut Source::new(&mut reader),
+        &mut Sink::new(&mut left),
+        8,
+        true,
+    );
+    (fault.err(), size.saturating_sub(left.len()))
+}
+
+/// Whether the remarks are told, in a room of that many blocks or with all memory, or it is refused memory.
+fn is_told<T: AllocGlobal + Threads + Wait + Sync>(
+    rt: &T,
+    room: &mut Room,
+    blocks: Option<u16>,
+) -> Result<bool, Fail> {
+    let mut output = [0; SIZE];
+    if let Some(blocks) = blocks {
+        room.leave(rt.alloc(), blocks);
+    }
+    let (fault, count) = outcome_of(rt, &mut output);
+    room.end();
+    match fault {
+        Some(RemarkFault::Remarks(4)) if &output[..count.min(SIZE)] == REMARKS.as_bytes() => {
+            Ok(true)
+        }
+        Some(RemarkFault::Refused) if count == 0 => Ok(false),
+        _ => Err(Fail::new("another fault, or another table")),
+    }
+}
+
+/// How often a book is refused memory until its remarks are told, in rooms of more and more memory. After each refusal
+/// they are told with all memory.
+fn refusals<T: AllocGlobal + Threads + Wait + Sync>(rt: &T, room: &mut Room) -> Result<u16, Fail> {
+    for blocks in 0..Room::MOST {
+        if is_told(rt, room, Some(blocks))? {
+            return Ok(blocks);
+        }
+        if !is_told(rt, room, None)? {
+            return Err(Fail::new("no memory, with all memory"));
+        }
+    }
+    Err(Fail::new("no remarks are told"))
+}
+
+#[test]
+fn refused_memory_is_reported(rt: HostRuntime) -> Result<(), Fail> {
+    let mut room = Room::new(rt.alloc())?;
+    let refused = refusals(&rt, &mut room);
+    drop(room);
+    let refused = refused?;
+    assert!(rt; refused >= 100, "{refused}");
+    Ok(())
+}
