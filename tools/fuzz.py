@@ -113,12 +113,13 @@ FAULTS = {"page": TEXT_FAULT + "|text is not UTF-8|text is too long", "read": TA
           "tape": "not a capture file|unknown link type"
                   r"|packet [1-9]\d*: (?:capture is short|block differs|steps back)",
           "verify": rf"{ROW_FAULT}|{TAPE_FAULT}|differences: [1-9]\d*", **dict.fromkeys(OF_BOOKS, ROW_FAULT),
-          "check": r"row 0: too many rows|faults: [1-9]\d*", "texts": ROW_FAULT}
+          "check": r"row 0: too many rows|(?:faults|remarks): [1-9]\d*", "texts": ROW_FAULT}
 DIFFERENCE = re.compile(
     rb"\d+,\d+,(?:,,,(?:no tape|other slots|second tape|unknown cell)"
     rb"|\d+,[0-9a-f]{4},\d+,(?:page (?:[1-9]|1[0-5]) reads otherwise"
     rb"|before its start|after its stop|after its last broadcast|broadcast \d+ not whole|not ordered))")
 CHECK_NAMES = ["row", "line", "column", "field", "value", "says"]
+REMARK_NAMES = ["row", "name", "cell", "says"]
 TEXTS_NAMES = ["row", "name", "lang", "coding", "characters", "pages", "room", "first_ucs2", "place"]
 REPORT_ROW = re.compile(rb"\d+,\d+,\d+,[0-9a-f]{4},\d+,\d+,\d+,(?:yes|no|refused [0-9a-f]{2})")
 
@@ -398,6 +399,23 @@ def faults_in(out):
     return len(numbers) if is_right and numbers == sorted(set(numbers), key=int) else None
 
 
+def remarks_in(out):
+    """Returns how many remarks an output of `check --slots` has, or None if it is none."""
+    rows = table_in(out)
+    is_right = rows[:1] == [REMARK_NAMES] and out.endswith(b"\n") and all(
+        len(row) == 4 and row[3] and (row[0].isdigit() and row[1] and not row[2] or
+                                      row[:2] == ["", ""] and re.fullmatch(r"\d+-\d+", row[2])) for row in rows[1:])
+    return len(rows) - 1 if is_right else None
+
+
+def is_of_check(run, out):
+    """Whether an output is that of `check` without a fault: with a run the remarks, of which none is there if it is
+    strict."""
+    if run.number("--slots", None) is None:
+        return faults_in(out) == 0
+    return remarks_in(out) == 0 or "--strict" not in run.words and remarks_in(out) is not None
+
+
 def is_of_texts(run, out):
     """Whether an output is that of `texts`: a row for each text, with the column of the cut if it is asked for."""
     rows = table_in(out)
@@ -466,7 +484,7 @@ def is_output(run, out):
         return bool(out)
     forms = {"page": lambda: is_shown(run, out), "read": lambda: is_table(out), "report": lambda: is_report(out),
              "chart": lambda: is_chart(out), "verify": lambda: differences_in(out) == 0,
-             "check": lambda: faults_in(out) == 0, "texts": lambda: is_of_texts(run, out),
+             "check": lambda: is_of_check(run, out), "texts": lambda: is_of_texts(run, out),
              "pcap": lambda: is_capture(out),
              "tape": lambda: is_tapes(run, out) or len(out) == gsm.size_of_tape(run.number("--slots", 0))}
     return forms.get(run.command(), lambda: is_tapes(run, out))()
@@ -506,10 +524,11 @@ def output_fault(run, ran):
         right = count and (not is_seen or ran.err == b"warnc: differences: %d\n" % count)
         return None if right else "the rows of differences have another form or number"
     if ran.status == 1 and run.command() == "check" and ran.out:
-        count = faults_in(ran.out) if run.writer == "pipe" else 1
+        faults, remarks = faults_in(ran.out), remarks_in(ran.out) if "--strict" in run.words else None
         is_seen = run.faults == "pipe" and run.writer == "pipe"
-        right = count and (not is_seen or ran.err == b"warnc: faults: %d\n" % count)
-        return None if right else "the rows of faults have another form or number"
+        wanted = b"warnc: faults: %d\n" % faults if faults else b"warnc: remarks: %d\n" % remarks if remarks else None
+        right = run.writer != "pipe" or wanted and (not is_seen or ran.err == wanted)
+        return None if right else "the rows of faults or remarks have another form or number"
     if (ran.status in (1, 2, 4) or run.reader in ("folder", "shut")) and ran.out:
         return "there is an output with status {0}"
     return None
@@ -1185,13 +1204,25 @@ def tape_options(chance, command):
     return options
 
 
+def rows_options(chance, command, data):
+    """Returns the options of `check` and `texts`."""
+    if chance.random() < 0.5:
+        return {}
+    if command == "texts":
+        return {"--pages": str(chance.randint(1, 15))}
+    options = {"--slots": book_options(chance, "report", data)["--slots"]}
+    if chance.random() < 0.5:
+        options["--strict"] = None
+    return options
+
+
 def good_options(chance, command, data):
     if command == "page":
         return page_options(chance)
     if command == "tape":
         return capture_options(chance)
     if command in COMMANDS_OF["rows"]:
-        return {"--pages": str(chance.randint(1, 15))} if command == "texts" and chance.random() < 0.5 else {}
+        return rows_options(chance, command, data)
     return tape_options(chance, command) if command in ("read", "pcap") else book_options(chance, command, data)
 
 

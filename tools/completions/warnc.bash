@@ -10,7 +10,7 @@ _warnc() {
         before=${COMP_WORDS[COMP_CWORD - 2]}
     fi
     # after an option without a value comes another option
-    case $before in --network | --used) before= ;; esac
+    case $before in --strict | --network | --used) before= ;; esac
     if [ "$COMP_CWORD" -eq 1 ]; then
         words="check texts compile report chart read verify page live pcap tape groups help -h --help -V --version"
     else
@@ -30,7 +30,7 @@ _warnc() {
             ;;
         *)
             case ${COMP_WORDS[1]} in
-            check) words="-h --help" ;;
+            check) words="--slots --strict -h --help" ;;
             texts) words="--pages -h --help" ;;
             compile) words="--slots --group --network --workers -h --help" ;;
             report) words="--slots --group --network --workers -h --help" ;;

@@ -8,3 +8,4 @@ pub mod NotVerified
 pub mod Products
 pub mod Words
 pub mod OneInput
+pub mod RemarkedRuns

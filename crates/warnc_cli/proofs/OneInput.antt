@@ -23,6 +23,7 @@ writes (task.Pcap settings) book input old new one wrote = wrote
 writes (task.Tape wanted) book input old new one wrote = wrote
 writes task.Groups book input old new one wrote = wrote
 writes task.Check book input old new one wrote = wrote
+writes (task.Remark slots strict) book input old new one wrote = wrote
 writes (task.Texts pages) book input old new one wrote = wrote
 writes (task.Make run made) book input old new one wrote = wrote
 
@@ -36,6 +37,7 @@ refuses (task.Pcap settings) book input one refused = refused
 refuses (task.Tape wanted) book input one refused = refused
 refuses task.Groups book input one refused = refused
 refuses task.Check book input one refused = refused
+refuses (task.Remark slots strict) book input one refused = refused
 refuses (task.Texts pages) book input one refused = refused
 refuses (task.Make run made) book input one refused = refused
 
@@ -49,6 +51,7 @@ groups (task.Pcap settings) book input old new wrote = wrote
 groups (task.Tape wanted) book input old new wrote = wrote
 groups task.Groups book input old new wrote = wrote
 groups task.Check book input old new wrote = wrote
+groups (task.Remark slots strict) book input old new wrote = wrote
 groups (task.Texts pages) book input old new wrote = wrote
 groups (task.Make run made) book input old new wrote = wrote
 

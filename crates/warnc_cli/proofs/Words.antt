@@ -24,6 +24,7 @@ of_one_input words (task.Pcap settings) asked other = tt
 of_one_input words (task.Tape wanted) asked other = tt
 of_one_input words task.Groups asked other = tt
 of_one_input words task.Check asked other = tt
+of_one_input words (task.Remark slots strict) asked other = tt
 of_one_input words (task.Texts pages) asked other = tt
 of_one_input words (task.Make run made) asked other = tt
 
@@ -40,7 +41,11 @@ may_write words (task.Verify from slots file workers) status asked (inr (inr dif
     inr (inr (inl (differ, inl asked.command)))
 may_write words task.Check status asked (inl done) = inl done
 may_write words task.Check status asked (inr (inl device)) = inr (inl device)
-may_write words task.Check status asked (inr (inr faults)) = inr (inr (inl (faults, inr asked)))
+may_write words task.Check status asked (inr (inr faults)) = inr (inr (inl (faults, inr asked.command)))
+may_write words (task.Remark slots strict) status asked (inl done) = inl done
+may_write words (task.Remark slots strict) status asked (inr (inl device)) = inr (inl device)
+may_write words (task.Remark slots strict) status asked (inr (inr faults)) =
+    inr (inr (inl (faults, inr asked.command)))
 may_write words (task.Page language id serial) status asked (inl done) = inl done
 may_write words (task.Page language id serial) status asked (inr device) = inr (inl device)
 may_write words task.Read status asked (inl done) = inl done
@@ -90,4 +95,5 @@ writes_some words (task.Pcap settings) asked compile live report = tt
 writes_some words (task.Tape wanted) asked compile live report = tt
 writes_some words task.Groups asked compile live report = tt
 writes_some words task.Check asked compile live report = tt
+writes_some words (task.Remark slots strict) asked compile live report = tt
 writes_some words (task.Texts pages) asked compile live report = tt

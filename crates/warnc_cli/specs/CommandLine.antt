@@ -61,9 +61,10 @@ pub record AsksForPage (words : List (List ℕ)) (language : List ℕ) (id seria
 abbrev pub AsksForRead : (words : List (List ℕ)) → Type 0
 AsksForRead words = slice_get words 1 ≡ Some (codes "read")
 
--- the words ask for `check`
-abbrev pub AsksForCheck : (words : List (List ℕ)) → Type 0
-AsksForCheck words = slice_get words 1 ≡ Some (codes "check")
+-- the words ask for `check` of the rows alone
+pub record AsksForCheck (words : List (List ℕ)) : Type 0 where
+  pub command : slice_get words 1 ≡ Some (codes "check")
+  pub rows_alone : is_given words (codes "--slots") ≡ false
 
 -- the words give the number of pages for which texts are cut, or none
 abbrev pub GivesPages : (words : List (List ℕ)) → Option ℕ → Type 0
@@ -101,6 +102,12 @@ pub record GivesSlots (words : List (List ℕ)) (slots : ℕ) : Type 0 where
   pub given : GivesNumber words (codes "--slots") slots
   pub some : 1 ≤ slots
   pub most : slots ≤ 65535
+
+-- the words ask for `check` of the rows and of a run of so many slots, which is strict or not
+pub record AsksForRemarks (words : List (List ℕ)) (slots : ℕ) (strict : Bool) : Type 0 where
+  pub command : slice_get words 1 ≡ Some (codes "check")
+  pub slots_given : GivesSlots words slots
+  pub strict_given : strict ≡ is_given words (codes "--strict")
 
 -- the words give the option of this name a number, 1 to 64; it is 1 where no word begins with the option's name
 pub record GivesThreads (words : List (List ℕ)) (name : List ℕ) (number : ℕ) : Type 0 where

@@ -1,6 +1,6 @@
 -- Steps of a run (own): what the status of a command says, once it is over. The contracts of private functions alone
 -- speak of it.
-use Rattle.std.specs.Prelude.{◌≡◌, ◌≢◌, ⊤, ℕ, ◌≤◌, ◌⊎◌, false, List, Option, IfSome, None}
+use Rattle.std.specs.Prelude.{◌≡◌, ◌≢◌, ⊤, ℕ, ◌≤◌, ◌⊎◌, Bool, false, List, Option, IfSome, None}
 use Rattle.std.specs.Io.KnownBytes.{Keeps}
 use Rattle.device_ends.specs.Moves.{WritesOutput}
 use Rattle.device_ends.specs.Sink.{sink_failed, writer_of}
@@ -21,6 +21,7 @@ MayHaveWritten (task.Make run made) status =
     (status ≡ 0) ⊎ ((status ≡ 3) ⊎ (((status ≡ 1) ⊎ (status ≡ 4)) × (run.books ≡ books.EachGroup)))
 MayHaveWritten (task.Verify from slots file workers) status = (status ≡ 0) ⊎ ((status ≡ 3) ⊎ (status ≡ 1))
 MayHaveWritten task.Check status = (status ≡ 0) ⊎ ((status ≡ 3) ⊎ (status ≡ 1))
+MayHaveWritten (task.Remark slots strict) status = (status ≡ 0) ⊎ ((status ≡ 3) ⊎ (status ≡ 1))
 MayHaveWritten other status = (status ≡ 0) ⊎ (status ≡ 3)
 
 -- a task reads no book beside its input
@@ -53,6 +54,13 @@ abbrev pub WroteFaultsBy : {R W : Type 0} → (status : ℕ) (left : R → Optio
     (held : W → Option (List ℕ)) → (first : Source R) → (old new : Sink W) → Type 0
 WroteFaultsBy status left held first old new = (status ≡ 1) ⊎ (status ≡ 4) → Writes held Keeps old new
     ⊎ ((status ≡ 1) × WritesDifferences task.Check None (left (reader_of first)) (held (writer_of old))
+    (held (writer_of new)))
+
+-- and of what `check --slots` wrote: nothing, or with 1 the faults or the remarks
+abbrev pub WroteRemarksBy : {R W : Type 0} → (slots : ℕ) (strict : Bool) (status : ℕ) (left : R → Option (List ℕ))
+    (held : W → Option (List ℕ)) → (first : Source R) → (old new : Sink W) → Type 0
+WroteRemarksBy slots strict status left held first old new = (status ≡ 1) ⊎ (status ≡ 4) → Writes held Keeps old new
+    ⊎ ((status ≡ 1) × WritesDifferences (task.Remark slots strict) None (left (reader_of first)) (held (writer_of old))
     (held (writer_of new)))
 
 -- what the status of a task of one input says of both ends

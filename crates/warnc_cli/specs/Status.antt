@@ -5,6 +5,8 @@ use Rattle.alert_book.specs.declared.fault.BookFaultKind.{BookFaultKind}
 use Rattle.alert_book.specs.declared.fault.BookFaultKind.TheVariants as kinds
 use Rattle.book_check.specs.declared.fault.CheckFault.{CheckFault}
 use Rattle.book_check.specs.declared.fault.CheckFault.TheVariants as check
+use Rattle.book_remarks.specs.declared.fault.RemarkFault.{RemarkFault}
+use Rattle.book_remarks.specs.declared.fault.RemarkFault.TheVariants as remark
 use Rattle.book_texts.specs.declared.texts.TextsFault.{TextsFault}
 use Rattle.book_texts.specs.declared.texts.TextsFault.TheVariants as texts
 use Rattle.cbs_page.specs.declared.paging.TextFault.TheVariants as text
@@ -79,6 +81,16 @@ status_of_check_fault check.TooLong = 1
 status_of_check_fault check.ReadFailed = 3
 status_of_check_fault check.Refused = 4
 status_of_check_fault check.WriteFailed = 3
+
+-- that of `check --slots`, 1 if there are faults, or remarks where there are to be none
+abbrev pub status_of_remark_fault : RemarkFault → ℕ
+status_of_remark_fault (remark.Faults count) = 1
+status_of_remark_fault remark.TooLong = 1
+status_of_remark_fault remark.ReadFailed = 3
+status_of_remark_fault (remark.Run f) = 1
+status_of_remark_fault (remark.Remarks count) = 1
+status_of_remark_fault remark.Refused = 4
+status_of_remark_fault remark.WriteFailed = 3
 
 abbrev pub status_of_texts_fault : TextsFault → ℕ
 status_of_texts_fault texts.ReadFailed = 3

@@ -1,5 +1,5 @@
 -- What a command writes and refuses: by the task that the words ask for. Own.
-use Rattle.std.specs.Prelude.{◌≡◌, ⊤, ℕ, ◌<◌, ◌≤◌, ◌⊎◌, List, length, Option, IfSome}
+use Rattle.std.specs.Prelude.{◌≡◌, ⊤, ℕ, ◌<◌, ◌≤◌, ◌⊎◌, Bool, true, List, length, Option, IfSome}
 use Rattle.std.specs.Io.KnownBytes.{Appends}
 use Rattle.alert_book.specs.declared.fault.BookFault.{BookFault}
 use Rattle.alert_book.specs.declared.fault.BookFaultKind.{BookFaultKind}
@@ -9,6 +9,7 @@ use Rattle.alert_book.specs.Book.{Contents, IsRowFault, IsWrong, max_book}
 use Rattle.alert_book.specs.Network.{HasGroups, IsGroupBook, IsWrongNetwork, max_network}
 use Rattle.alert_book.specs.Origin.{IsBookFrom}
 use Rattle.book_check.specs.Checked.{HasFaults, IsClean}
+use Rattle.book_remarks.specs.Remarked.{HasRemarks, IsRemarkedFor, IsStopped}
 use Rattle.book_texts.specs.TextsOutput.{IsTextsOutput}
 use Rattle.device_ends.specs.Moves.{WritesOutput}
 use Rattle.gsmtap.specs.Capture.{IsCapture}
@@ -30,7 +31,7 @@ use Rattle.warnc_run.specs.Groups.{IsGroupCount}
 use Rattle.warnc_run.specs.Network.{AreFirstParts}
 use Rattle.warnc_verify.specs.Verified.{Differs, HasDifferences, HasRun, IsVerified}
 use Rattle.warnc_cli.specs.CommandLine.{AsksForGroups, AsksForPage, AsksForPcap, AsksForRead, AsksForRun, AsksForTape}
-use Rattle.warnc_cli.specs.CommandLine.{AsksForCheck, AsksForTexts, AsksForVerify}
+use Rattle.warnc_cli.specs.CommandLine.{AsksForCheck, AsksForRemarks, AsksForTexts, AsksForVerify}
 use Rattle.warnc_cli.specs.Status.{status_of_book_fault, status_of_page_fault}
 use Rattle.warnc_cli.specs.declared.command.Task.{Task}
 use Rattle.warnc_cli.specs.declared.command.Task.TheVariants as task
@@ -43,6 +44,7 @@ IsTaskOf words (task.Pcap settings) = AsksForPcap words settings
 IsTaskOf words (task.Tape wanted) = AsksForTape words wanted
 IsTaskOf words task.Groups = AsksForGroups words
 IsTaskOf words task.Check = AsksForCheck words
+IsTaskOf words (task.Remark slots strict) = AsksForRemarks words slots strict
 IsTaskOf words (task.Texts pages) = AsksForTexts words pages
 IsTaskOf words (task.Make run made) = AsksForRun words run made
 IsTaskOf words (task.Verify from slots file workers) = AsksForVerify words from slots file.now workers.number
@@ -57,6 +59,7 @@ Means (task.Pcap settings) = IsCapture settings
 Means (task.Tape wanted) = IsTapeOfCapture wanted
 Means task.Groups = IsGroupCount
 Means task.Check = IsClean
+Means (task.Remark slots strict) = IsRemarkedFor slots strict
 Means (task.Texts pages) = IsTextsOutput pages
 Means (task.Make run made) = IsMadeBy run made
 Means (task.Verify from slots file workers) = λ input output. ⊥
@@ -115,6 +118,11 @@ IsNoBook input = (max_book < length input)
 abbrev pub IsNotClean : (input : List ℕ) → Type 0
 IsNotClean input = (max_book < length input) ⊎ ((count : ℕ) × (output : List ℕ) × HasFaults count input output)
 
+-- the input is refused: it isn't clean; or its run ends early; or it is strict, and there is a remark
+abbrev pub IsRemarkable : (slots : ℕ) (strict : Bool) (input : List ℕ) → Type 0
+IsRemarkable slots strict input = IsNotClean input ⊎ (((f : RunFault) × IsStopped slots input f)
+    ⊎ ((strict ≡ true) × ((count : ℕ) × (output : List ℕ) × HasRemarks slots count input output)))
+
 -- the input is refused: it has more octets than a book may have, or a row that is none of a book
 abbrev pub IsNoRows : (input : List ℕ) → Type 0
 IsNoRows input = (max_book < length input) ⊎ ((f : BookFault) × IsRowFault input f)
@@ -160,6 +168,7 @@ RefusesOne (task.Pcap settings) = IsNoTapes
 RefusesOne (task.Tape wanted) = IsNoAir wanted
 RefusesOne task.Groups = IsNoNetwork 0
 RefusesOne task.Check = IsNotClean
+RefusesOne (task.Remark slots strict) = IsRemarkable slots strict
 RefusesOne (task.Texts pages) = IsNoRows
 RefusesOne (task.Make run made) = IsNoRunOf run.books run.slots run.sessions.number
 RefusesOne (task.Verify from slots file workers) = λ input. ⊥
@@ -178,10 +187,14 @@ WritesFirstGroups (task.Make run made) book input old new =
     (count : ℕ) × WritesOutput (AreFirstParts made run.slots run.sessions.number count) input old new
 WritesFirstGroups other book input old new = ⊥
 
--- the table of the differences was written, of which there is one at least, or that of the rows with a fault
+-- the table of the differences was written, of which there is one at least, or that of the rows with a fault, or that
+-- of the remarks
 abbrev pub WritesDifferences : Task → (book input old new : Option (List ℕ)) → Type 0
 WritesDifferences (task.Verify from slots file workers) book input old new =
     WritesOutputOfBoth (HasDifferences from slots) book input old new
 WritesDifferences task.Check book input old new =
     (count : ℕ) × WritesOutput (HasFaults count) input old new
+WritesDifferences (task.Remark slots strict) book input old new =
+    ((count : ℕ) × WritesOutput (HasFaults count) input old new)
+    ⊎ ((count : ℕ) × WritesOutput (HasRemarks slots count) input old new)
 WritesDifferences other book input old new = ⊥

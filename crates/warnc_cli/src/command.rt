@@ -40,8 +40,15 @@ pub enum Task<'a> {
     Tape(Wanted),
     /// `groups`.
     Groups,
-    /// `check`.
+    /// `check` of the rows alone.
     Check,
+    /// `check` of the rows and of a run.
+    Remark {
+        /// How many slots each cell's run has, at least 1.
+        slots: u16,
+        /// Whether there are to be no remarks.
+        strict: bool,
+    },
     /// `texts`.
     Texts {
         /// For how many pages each text is cut.
@@ -100,7 +107,7 @@ fn task_in<'a, S: AsStr>(words: &'a [S]) -> Option<Task<'a>>
             from: from_in(words)?,
         })),
         "groups" => Some(Task::Groups),
-        "check" => Some(Task::Check),
+        "check" => check_in(words),
         "texts" => Some(Task::Texts {
             pages: pages_in(words)?,
         }),
@@ -135,6 +142,20 @@ fn run_in<'a, S: AsStr>(words: &'a [S], made: Product, sessions: Sessions) -> Op
             workers: workers_in(words)?,
         },
         made,
+    })
+}
+
+/// The `check` that the words ask for.
+fn check_in<'a, S: AsStr>(words: &'a [S]) -> Option<Task<'a>>
+    requires { slice_get (map S.text words.now) 1 ≡ Some (codes "check") }
+    ensures { IfSome result (IsTaskOf (map S.text words.now)) }
+{
+    if !is_given(words, "--slots") {
+        return Some(Task::Check);
+    }
+    Some(Task::Remark {
+        slots: slots_in(words)?,
+        strict: is_given(words, "--strict"),
     })
 }
 
@@ -427,7 +448,7 @@ fn warnc<'a>(alloc: Global) -> Result<Command<'a>, AllocError> {
         .version(VERSION)
         .subcommand_required(true)
         .arg_required_else_help(true)
-        .subcommand(check(alloc))?
+        .subcommand(check(alloc)?)?
         .subcommand(texts(alloc)?)?
         .subcommand(compile(alloc)?)?
         .subcommand(report(alloc)?)?
@@ -500,12 +521,14 @@ fn verify<'a>(alloc: Global) -> Result<Command<'a>, AllocError> {
 }
 
 /// The command line of `check`.
-fn check<'a>(alloc: Global) -> Command<'a> {
+fn check<'a>(alloc: Global) -> Result<Command<'a>, AllocError> {
     Command::new(alloc, "check")
         .about(
             "Reads a book of alerts, as CSV, and writes every row that has a fault,\nits column, and what is wanted there, as CSV",
         )
-        .after_help("Example: warnc check < book.csv")
+        .after_help("Example: warnc check --slots 4096 < book.csv")
+        .arg(checked_slots(alloc))?
+        .arg(strict(alloc)?)
 }
 
 /// The command line of `texts`.
@@ -640,6 +663,27 @@ fn charted_cell<'a>(alloc: Global) -> Arg<'a> {
         "LAC-CI",
         "Draws this cell alone, as 1-2; all if it isn't given",
     )
+}
+
+/// The option of the number of slots of a run that is checked.
+fn checked_slots<'a>(alloc: Global) -> Arg<'a> {
+    optional(
+        alloc,
+        "slots",
+        "SLOTS",
+        "Runs a book without a fault for so many slots, too,\n1 to 65535, and writes what is remarked of the run",
+    )
+    .value_parser(value_parser!(u16).range(1..=65535))
+}
+
+/// The option by which there are to be no remarks.
+fn strict<'a>(alloc: Global) -> Result<Arg<'a>, AllocError> {
+    flag(
+        alloc,
+        "strict",
+        "Ends with 1 if there is a remark, as with a fault",
+    )
+    .requires_arg("slots")
 }
 
 /// The option of the file of a book.

@@ -8,7 +8,8 @@ ghost use Rattle.device_ends.specs.Stream.{Writes};
 ghost use Rattle.warnc_cli.specs.Run.{AnyHasFailed, ByInputs, MayWrite, RefusesInput, WritesSome};
 ghost use Rattle.warnc_cli.specs.Run.{WritesSomeUnlessTapes, WroteOfRefused, WroteWhatIsAsked, WroteWithoutMemory};
 ghost use Rattle.warnc_cli.specs.RunSteps.{HasRun, IsDoneBy, IsRefusedBy, IsRunBetween, IsStatusOfSink};
-ghost use Rattle.warnc_cli.specs.RunSteps.{IsVerifyRunBetween, WroteFaultsBy, WroteFrontBy, WroteSomeBy};
+ghost use Rattle.warnc_cli.specs.RunSteps.{IsVerifyRunBetween, WroteFaultsBy, WroteFrontBy, WroteRemarksBy};
+ghost use Rattle.warnc_cli.specs.RunSteps.{WroteSomeBy};
 ghost use Rattle.warnc_cli.specs.Tasks.{IsNotVerified, WritesOutputOfBoth};
 ghost use Rattle.warnc_verify.specs.Verified.{HasDifferences, IsVerified};
 
@@ -17,6 +18,7 @@ use crate::status::{DEVICE, DONE, MEMORY, REFUSED_INPUT, USAGE, failed, failed_w
 use crate::unreadable::Unreadable;
 use alert_book::Origin;
 use book_check::check_stream;
+use book_remarks::remark_stream;
 use book_texts::texts_stream;
 use cbs_page::Serial;
 use clap::Error;
@@ -155,6 +157,7 @@ fn run_task<T: AllocGlobal + Threads + Wait + Sync, B: Read, R: Read, W: Write, 
         Task::Tape(wanted) => run_tape(alloc, wanted, source, sink, faults),
         Task::Groups => run_groups(rt, source, sink, faults),
         Task::Check => run_check(alloc, source, sink, faults),
+        Task::Remark { slots, strict } => run_remark(rt, slots, strict, source, sink, faults),
         Task::Texts { pages } => run_texts(alloc, pages, source, sink, faults),
         Task::Make { run, made } => run_books(rt, run, made, source, sink, faults),
         Task::Verify {
@@ -282,6 +285,27 @@ fn run_check<R: Read, W: Write, F: Write>(
     ensures ends { IsRunBetween Task.Check result W.contents source.new sink.old sink.new }
 {
     match check_stream(alloc, source, sink) {
+        Ok(()) => DONE,
+        Err(fault) => failed(&fault, faults),
+    }
+}
+
+/// Runs `check --slots`, and returns the status.
+fn run_remark<T: AllocGlobal + Threads + Wait + Sync, R: Read, W: Write, F: Write>(
+    rt: &T,
+    slots: u16,
+    strict: bool,
+    source: &mut Source<R>,
+    sink: &mut Sink<W>,
+    faults: &mut F,
+) -> u8
+    ensures done { IsDoneBy (Task.Remark slots strict) result R.remaining W.contents source.old sink.old sink.new }
+    ensures wrote { WroteSomeBy (Task.Remark slots strict) result W.contents sink.old sink.new }
+    ensures refused { IsRefusedBy (Task.Remark slots strict) result R.remaining source.old }
+    ensures told { WroteRemarksBy slots strict result R.remaining W.contents source.old sink.old sink.new }
+    ensures ends { IsRunBetween (Task.Remark slots strict) result W.contents source.new sink.old sink.new }
+{
+    match remark_stream(rt, source, sink, slots, strict) {
         Ok(()) => DONE,
         Err(fault) => failed(&fault, faults),
     }

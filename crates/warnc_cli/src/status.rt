@@ -3,12 +3,14 @@
 ghost use Rattle.std.specs.Prelude.{◌≡◌, ℕ};
 ghost use Rattle.warnc_cli.specs.Status.{status_of_book_fault, status_of_check_fault, status_of_page_fault};
 ghost use Rattle.warnc_cli.specs.Status.{status_of_pcap_fault};
-ghost use Rattle.warnc_cli.specs.Status.{status_of_product_fault, status_of_read_fault, status_of_run_fault};
+ghost use Rattle.warnc_cli.specs.Status.{status_of_product_fault, status_of_read_fault, status_of_remark_fault};
+ghost use Rattle.warnc_cli.specs.Status.{status_of_run_fault};
 ghost use Rattle.warnc_cli.specs.Status.{status_of_tape_fault, status_of_tapes_fault, status_of_texts_fault};
 ghost use Rattle.warnc_cli.specs.Status.{status_of_verify_fault};
 
 use alert_book::{BookFault, BookFaultKind};
 use book_check::CheckFault;
+use book_remarks::RemarkFault;
 use book_texts::TextsFault;
 use cbs_page::TextFault;
 use handset::TapeFault;
@@ -134,6 +136,19 @@ impl Fault for CheckFault {
             CheckFault::Faults(_) | CheckFault::TooLong => REFUSED_INPUT,
             CheckFault::ReadFailed | CheckFault::WriteFailed => DEVICE,
             CheckFault::Refused => MEMORY,
+        }
+    }
+}
+
+impl Fault for RemarkFault {
+    ghost status_of = { status_of_remark_fault };
+
+    fn status(&self) -> u8 {
+        match *self {
+            RemarkFault::Faults(_) | RemarkFault::TooLong => REFUSED_INPUT,
+            RemarkFault::Run(_) | RemarkFault::Remarks(_) => REFUSED_INPUT,
+            RemarkFault::ReadFailed | RemarkFault::WriteFailed => DEVICE,
+            RemarkFault::Refused => MEMORY,
         }
     }
 }

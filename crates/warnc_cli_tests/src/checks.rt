@@ -27,9 +27,46 @@ writer 10 3
 run -> 3
 err -> warnc: write failed
 all -> 30 of 117
-args check --slots 2
+args check --strict
 usage -> 2 error:
 args check book.csv
+usage -> 2 error:
+";
+
+const REMARKS: &str = "
+args check --slots 24
+in cell,1,1
+in write,0,a,4370,0,1,en,2,2,0,*,One
+in stop,30,a,*
+run -> 0
+out -> row,name,cell,says
+out -> 3,a,,past the end
+args check --slots=24 --strict
+run -> 1
+out -> row,name,cell,says
+out -> 3,a,,past the end
+err -> warnc: remarks: 1
+args check --strict --slots 31
+run -> 0
+out -> row,name,cell,says
+reads 0 55 -> 3 warnc: read failed
+args check --slots 24
+worked row,name,cell,says
+worked 3,a,,past the end
+writer 10 3
+run -> 3
+err -> warnc: write failed
+all -> 30 of 37
+in cell,1
+in stop,0,b,*
+run -> 1
+out -> row,line,column,field,value,says
+out -> 1,1,1,VERB,cell,\"2 columns, cell has 3\"
+out -> 2,2,3,NAME,b,no earlier row writes this name
+err -> warnc: faults: 2
+args check --slots 0
+usage -> 2 error:
+args check --slots 24 --workers 2
 usage -> 2 error:
 ";
 
@@ -69,6 +106,11 @@ usage -> 2 error:
 #[test]
 fn books_are_checked(rt: HostRuntime) -> Result<(), Fail> {
     expect_rows(&rt, CHECK, 26)
+}
+
+#[test]
+fn runs_are_remarked(rt: HostRuntime) -> Result<(), Fail> {
+    expect_rows(&rt, REMARKS, 34)
 }
 
 #[test]

@@ -1,0 +1,247 @@
+-- What `check --slots` writes and refuses, and what its statuses say of the ends.
+use Rattle.std.proofs.Common.{◌≡◌, ◌≢◌, ◌⊎◌, ◌↔◌, ℕ, ◌≤◌, List, Option, None, Some, IfSome, Ok, Err, Result, IsErrOf}
+use Rattle.std.proofs.Common.{IsTrue, Bool}
+use Rattle.std.proofs.Common.{true, false, ap, arith, inl, inr, refl, rules, subst, sym, ◌<◌, ◌++◌, length}
+use Rattle.std.proofs.KnownBytes.{Keeps-refl}
+use Rattle.std.specs.Io.KnownBytes.{Keeps}
+use Rattle.device_ends.specs.Moves.{WritesOutput}
+use Rattle.device_ends.specs.Sink.{sink_failed, writer_of}
+use Rattle.device_ends.specs.Source.{reader_of, source_failed}
+use Rattle.device_ends.specs.declared.reading.Source.{Source}
+use Rattle.device_ends.specs.declared.writing.Sink.{Sink}
+use Rattle.book_check.specs.Checked.{HasFaults}
+use Rattle.book_remarks.specs.Remarked.{HasRemarks, HasTold, HasWritten, IsRemarkFault, IsRemarkedFor}
+use Rattle.book_remarks.specs.RemarksText.{header_line}
+use Rattle.book_remarks.specs.declared.fault.RemarkFault.{RemarkFault}
+use Rattle.book_remarks.specs.declared.fault.RemarkFault.TheVariants as fault
+use Rattle.warnc_cli.specs.Run.{AnyHasFailed, OneHasFailed, WritesSome}
+use Rattle.warnc_cli.specs.RunSteps.{HasRun, IsDoneBy, IsRefusedBy, IsRunBetween, WroteRemarksBy, WroteSomeBy}
+use Rattle.warnc_cli.specs.Status.{status_of_remark_fault}
+use Rattle.warnc_cli.specs.Tasks.{IsRemarkable, WritesDifferences, WritesFirstGroups}
+use Rattle.warnc_cli.specs.declared.command.Task.TheVariants as task
+
+some_octets : (lines : List ℕ) → 0 < length (header_line ++ lines)
+some_octets lines = omega arith
+
+-- the table of remarks has the names of its columns
+pub some_remarks : (slots : ℕ) (strict : Bool) (left old new : Option (List ℕ))
+    → WritesOutput (IsRemarkedFor slots strict) left old new
+    → WritesSome old new
+some_remarks slots false left old new written =
+    let remarked = written.of_some.2.1 in (
+      written.of_some.1,
+      subst (λ (octets : List ℕ). 0 < length octets) (sym remarked.written) (some_octets _),
+      written.of_some.3,
+    )
+some_remarks slots true left old new written =
+    let remarked = written.of_some.2 in (
+      written.of_some.1,
+      subst (λ (octets : List ℕ). 0 < length octets) (sym remarked.written) (some_octets _),
+      written.of_some.3,
+    )
+
+-- a fault of `check --slots` with status 1 says why the input is refused
+pub refused_remark : (slots : ℕ) (strict : Bool) (left old new : Option (List ℕ)) (why : RemarkFault)
+    → IsRemarkFault slots strict left old new why
+    → status_of_remark_fault why ≡ 1
+    → IfSome left (IsRemarkable slots strict)
+refused_remark slots strict None old new why told is = tt
+refused_remark slots strict (Some input) old new (fault.Faults count) told is =
+    inl (inr (count, told.of_input.0, told.of_input.1))
+refused_remark slots strict (Some input) old new fault.TooLong told is = inl (inl told)
+refused_remark slots strict (Some input) old new fault.ReadFailed told is = absurd (omega (arith, is))
+refused_remark slots strict (Some input) old new (fault.Run f) told is = inr (inl (f, told))
+refused_remark slots strict (Some input) old new (fault.Remarks count) told is =
+    inr (inr (told.0, (count, told.1.of_input.0, told.1.of_input.1)))
+refused_remark slots strict (Some input) old new fault.Refused told is = absurd (omega (arith, is))
+refused_remark slots strict (Some input) old new fault.WriteFailed told is = absurd (omega (arith, is))
+
+-- with status 1 the faults or the remarks were written, or nothing was, as with 4
+pub kept_or_remarked : (Kept : Type 0) (slots : ℕ) (strict : Bool) (left old new : Option (List ℕ)) (why : RemarkFault)
+    → IsRemarkFault slots strict left old new why
+    → ((HasWritten why → ⊥) → Kept)
+    → (status_of_remark_fault why ≡ 1) ⊎ (status_of_remark_fault why ≡ 4)
+    → Kept ⊎ ((status_of_remark_fault why ≡ 1)
+    × (((count : ℕ) × WritesOutput (HasFaults count) left old new)
+    ⊎ ((count : ℕ) × WritesOutput (HasRemarks slots count) left old new)))
+kept_or_remarked Kept slots strict left old new (fault.Faults count) told kept is = inr (refl, inl (count, told))
+kept_or_remarked Kept slots strict left old new fault.TooLong told kept is = inl (kept (λ w. w))
+kept_or_remarked Kept slots strict left old new fault.ReadFailed told kept (inl is) = absurd (omega (arith, is))
+kept_or_remarked Kept slots strict left old new fault.ReadFailed told kept (inr is) = absurd (omega (arith, is))
+kept_or_remarked Kept slots strict left old new (fault.Run f) told kept is = inl (kept (λ w. w))
+kept_or_remarked Kept slots strict left old new (fault.Remarks count) told kept is =
+    inr (refl, inr (count, told.1))
+kept_or_remarked Kept slots strict left old new fault.Refused told kept is = inl (kept (λ w. w))
+kept_or_remarked Kept slots strict left old new fault.WriteFailed told kept (inl is) = absurd (omega (arith, is))
+kept_or_remarked Kept slots strict left old new fault.WriteFailed told kept (inr is) = absurd (omega (arith, is))
+
+-- what the engine says of the ends with a fault
+pub record AreRemarkEnds {R W : Type 0} (why : RemarkFault) (last : Source R) (old new : Sink W) : Type 0 where
+  pub read_failed : IsErrOf {T = Unit {0}} (Err why) fault.ReadFailed ↔ IsTrue (source_failed last)
+  pub write_failed : IsErrOf {T = Unit {0}} (Err why) fault.WriteFailed → sink_failed new ≡ true
+  pub told : HasTold why → sink_failed new ≡ false
+  pub untouched : (HasWritten why → ⊥) → new ≡ old
+
+-- the status that a result's fault has
+abbrev status_in : Result (Unit {0}) RemarkFault → ℕ
+status_in (Ok done) = 0
+status_in (Err why) = status_of_remark_fault why
+
+-- a fault of another status than 3 leaves the source sound
+source_sound : {R W : Type 0} (why : RemarkFault) (last : Source R) (old new : Sink W) → AreRemarkEnds why last old new
+    → status_of_remark_fault why ≢ 3
+    → source_failed last ≡ true
+    → ⊥
+source_sound why last old new ends other failed = other (ap status_in (ends.read_failed.1 failed))
+
+-- nothing was written
+quiet : {R W : Type 0} (slots : ℕ) (strict : Bool) (why : RemarkFault) (held : W → Option (List ℕ))
+    (last : Source R) (old new : Sink W)
+    → AreRemarkEnds why last old new
+    → (status_of_remark_fault why ≡ 1) ⊎ (status_of_remark_fault why ≡ 4)
+    → (HasWritten why → ⊥)
+    → IsRunBetween (task.Remark slots strict) (status_of_remark_fault why) held last old new
+quiet {W = W} slots strict why held last old new ends one_or_four unwritten =
+    let same : new ≡ old = ends.untouched unwritten in
+    record {
+      statuses = bound one_or_four;
+      understood = two one_or_four;
+      nothing_written = λ _. subst (λ (s : Sink W). Keeps (held (writer_of old)) (held (writer_of s))) (sym same)
+          (Keeps-refl _);
+      untouched = λ _. same;
+      device = λ is. absurd (three one_or_four is);
+      failed = λ sink failed. absurd (neither same sink failed);
+    }
+  where
+    bound : (status_of_remark_fault why ≡ 1) ⊎ (status_of_remark_fault why ≡ 4) → status_of_remark_fault why ≤ 4
+    bound (inl is) = omega (arith, is)
+    bound (inr is) = omega (arith, is)
+
+    two : (status_of_remark_fault why ≡ 1) ⊎ (status_of_remark_fault why ≡ 4) → status_of_remark_fault why ≢ 2
+    two (inl is) so = omega (arith, is, so)
+    two (inr is) so = omega (arith, is, so)
+
+    three : (status_of_remark_fault why ≡ 1) ⊎ (status_of_remark_fault why ≡ 4) → status_of_remark_fault why ≢ 3
+    three (inl is) so = omega (arith, is, so)
+    three (inr is) so = omega (arith, is, so)
+
+    neither : new ≡ old → sink_failed old ≡ false → OneHasFailed last new → ⊥
+    neither same sink (inl failed) = source_sound why last old new ends (three one_or_four) failed
+    neither same sink (inr failed) =
+        let now : sink_failed old ≡ true = subst (λ (s : Sink W). sink_failed s ≡ true) same failed in
+        search (rules, now, sink)
+
+-- an end failed
+failing : {R W : Type 0} (slots : ℕ) (strict : Bool) (held : W → Option (List ℕ)) (last : Source R) (old new : Sink W)
+    → OneHasFailed last new
+    → IsRunBetween (task.Remark slots strict) 3 held last old new
+failing slots strict held last old new failed = record {
+  statuses = omega arith;
+  understood = λ two. omega (arith, two);
+  nothing_written = λ no. absurd (no (inr (inl refl)));
+  untouched = λ no. absurd (no (inr (inl refl)));
+  device = λ _. failed;
+  failed = λ _ _. refl;
+}
+
+-- the faults were written, or the remarks
+written : {R W : Type 0} (slots : ℕ) (strict : Bool) (why : RemarkFault) (held : W → Option (List ℕ)) (last : Source R)
+    (old new : Sink W)
+    → AreRemarkEnds why last old new
+    → HasTold why
+    → status_of_remark_fault why ≢ 3
+    → IsRunBetween (task.Remark slots strict) 1 held last old new
+written slots strict why held last old new ends all other = record {
+  statuses = omega arith;
+  understood = λ two. omega (arith, two);
+  nothing_written = λ no. absurd (no (inr (inr refl)));
+  untouched = λ no. absurd (no (inr (inr refl)));
+  device = λ three. absurd (omega (arith, three));
+  failed = λ _ failed. absurd (neither failed);
+}
+  where
+    neither : OneHasFailed last new → ⊥
+    neither (inl failed) = source_sound why last old new ends other failed
+    neither (inr failed) =
+        let sound = ends.told all in
+        search (rules, failed, sound)
+
+-- what the engine says of the ends with a fault is what the fault's status says of them
+told : {R W : Type 0} (slots : ℕ) (strict : Bool) (why : RemarkFault) (held : W → Option (List ℕ))
+    (last : Source R) (old new : Sink W)
+    → AreRemarkEnds why last old new
+    → IsRunBetween (task.Remark slots strict) (status_of_remark_fault why) held last old new
+told slots strict (fault.Faults count) held last old new ends =
+    written slots strict (fault.Faults count) held last old new ends tt (λ three. omega (arith, three))
+told slots strict fault.TooLong held last old new ends =
+    quiet slots strict fault.TooLong held last old new ends (inl refl) (λ w. w)
+told slots strict fault.ReadFailed held last old new ends =
+    failing slots strict held last old new (inl (ends.read_failed.0 refl))
+told slots strict (fault.Run f) held last old new ends =
+    quiet slots strict (fault.Run f) held last old new ends (inl refl) (λ w. w)
+told slots strict (fault.Remarks count) held last old new ends =
+    written slots strict (fault.Remarks count) held last old new ends tt (λ three. omega (arith, three))
+told slots strict fault.Refused held last old new ends =
+    quiet slots strict fault.Refused held last old new ends (inr refl) (λ w. w)
+told slots strict fault.WriteFailed held last old new ends =
+    failing slots strict held last old new (inr (ends.write_failed refl))
+
+-- the same of a status that is the fault's
+pub remark_between : {R W : Type 0} (slots : ℕ) (strict : Bool) (why : RemarkFault) (status : ℕ)
+    (held : W → Option (List ℕ)) (last : Source R) (old new : Sink W)
+    → status ≡ status_of_remark_fault why
+    → AreRemarkEnds why last old new
+    → IsRunBetween (task.Remark slots strict) status held last old new
+remark_between slots strict why status held last old new same ends =
+    subst (λ (s : ℕ). IsRunBetween (task.Remark slots strict) s held last old new) (sym same)
+    (told slots strict why held last old new ends)
+
+-- so this is said of any task
+pub of_remark : {B R W : Type 0} (slots : ℕ) (strict : Bool) (status : ℕ) (book_left : B → Option (List ℕ))
+    (left : R → Option (List ℕ)) (held : W → Option (List ℕ)) (book : Source B) (first last : Source R)
+    (old new : Sink W)
+    → IsDoneBy (task.Remark slots strict) status left held first old new
+    → WroteSomeBy (task.Remark slots strict) status held old new
+    → IsRefusedBy (task.Remark slots strict) status left first
+    → WroteRemarksBy slots strict status left held first old new
+    → IsRunBetween (task.Remark slots strict) status held last old new
+    → HasRun (task.Remark slots strict) status book_left left held book book first last old new
+of_remark slots strict status book_left left held book first last old new done wrote refused told ends = record {
+  statuses = ends.statuses;
+  understood = ends.understood;
+  done = done;
+  wrote = wrote;
+  refused = refused;
+  nothing_written = ends.nothing_written;
+  untouched = ends.untouched;
+  of_refused = λ is. faults (told (inl is));
+  of_memory = λ is. nothing is (told (inr is));
+  device = λ is. inr (ends.device is);
+  failed = λ sound input sink failed. by_end sound sink failed;
+  no_book = λ none. refl;
+}
+  where
+    faults : Keeps (held (writer_of old)) (held (writer_of new))
+        ⊎ ((status ≡ 1) × WritesDifferences (task.Remark slots strict) None (left (reader_of first))
+        (held (writer_of old)) (held (writer_of new)))
+        → Keeps (held (writer_of old)) (held (writer_of new))
+        ⊎ (WritesDifferences (task.Remark slots strict) (book_left (reader_of book)) (left (reader_of first))
+        (held (writer_of old)) (held (writer_of new))
+        ⊎ WritesFirstGroups (task.Remark slots strict) (book_left (reader_of book)) (left (reader_of first))
+        (held (writer_of old)) (held (writer_of new)))
+    faults (inl kept) = inl kept
+    faults (inr written) = inr (inl written.1)
+
+    nothing : status ≡ 4
+        → Keeps (held (writer_of old)) (held (writer_of new))
+        ⊎ ((status ≡ 1) × WritesDifferences (task.Remark slots strict) None (left (reader_of first))
+        (held (writer_of old)) (held (writer_of new)))
+        → Keeps (held (writer_of old)) (held (writer_of new))
+        ⊎ WritesFirstGroups (task.Remark slots strict) (book_left (reader_of book)) (left (reader_of first))
+        (held (writer_of old)) (held (writer_of new))
+    nothing is (inl kept) = inl kept
+    nothing is (inr written) = absurd (omega (arith, is, written.0))
+
+    by_end : source_failed book ≡ false → sink_failed old ≡ false → AnyHasFailed book last new → status ≡ 3
+    by_end sound sink (inl failed) = absurd (search (rules, sound, failed))
+    by_end sound sink (inr failed) = ends.failed sink failed

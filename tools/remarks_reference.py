@@ -1,0 +1,160 @@
+#!/usr/bin/env python3
+"""Remarks on books and their runs as docs/formats.md says: a second program against which `warnc check --slots` is
+compared. Which writes and updates a cell accepted, and with which cause one refused an order, it takes from `warnc
+report`; which order asked which cell, and at which slot, it finds by itself, as a session goes on by the replies.
+
+Usage: remarks_reference.py PROGRAM [RUNS]    random books of few slots and cells, with orders that go back in time or
+                                              stop what isn't live, cells that are declared late, and identifiers and
+                                              codes that come twice; the tables, lines and statuses of both programs
+                                              have to be the same. PROGRAM is a built `warnc`
+"""
+import csv
+import io
+import random
+import subprocess
+import sys
+
+import books
+from random_runs import judged
+
+TEXTS = ("Stay in!", " ", "Go up to the roof " * 8, "\n \n", "Вода поднимается, идите наверх. " * 3, "a", "x" * 186)
+NAMES = ("", ",", '"', " é")
+PAST, UNKNOWN = 0x0A, 0x02
+# 3GPP TS 48.049, 8.2
+CAUSES = {
+    0x02: "message reference not identified", 0x06: "BSC capacity exceeded", 0x07: "cell memory exceeded",
+    0x0D: "message reference already used",
+}
+
+
+def random_book(rng):
+    """Returns the rows of a book: cells, which are pairs, and orders. Lists of cells have early ones alone."""
+    cells = [(rng.randrange(1, 4), it) for it in rng.sample(range(1, 9), rng.randrange(1, 5))]
+    slots = [rng.randrange(0, 30) for _ in range(rng.randrange(1, 14))]
+    if rng.random() < 0.7:
+        slots.sort()
+    names = [f"n{it}{rng.choice(NAMES)}" for it in range(len(slots))]
+    few = rng.random() < 0.3
+    late = 1 if len(cells) > 1 and rng.random() < 0.3 else 0
+    early = cells[late:]
+    orders = books.random_orders(
+        rng, slots,
+        lambda number: books.Alert(names[number], 4370 + (rng.randrange(2) if few else number), 1,
+                                   rng.randrange(2 if few else 1024)),
+        lambda: books.Sending("en", rng.choice((0, 1, 2, 2)), rng.randrange(1, 9), rng.choice((0, 0, 1, 2, 3)),
+                              rng.choice(TEXTS)),
+        lambda: None if rng.random() < 0.4 else rng.sample(early, rng.randrange(1, len(early) + 1)))
+    rows = [*early, *orders]
+    for cell in cells[:late]:
+        rows.insert(rng.randrange(len(early), len(rows) + 1), cell)
+    return rows
+
+
+class Walk:
+    """The session's way through a cell: its clock, the rows of the report that are left, and for each name the update
+    number of its version that is live there."""
+
+    def __init__(self, slots, reported):
+        self.slots, self.reported, self.clock, self.live = slots, reported, 0, {}
+
+    def answer(self, order):
+        """Returns the slot at which the cell did what was ordered, and the cause with which it refused it, one of which
+        is None; or None if it wasn't asked."""
+        name = order.alert.name
+        live = self.live.get(name)
+        if order.verb != "write" and live is None:
+            return None
+        self.clock = slot = min(self.slots, max(self.clock, order.at))
+        cause = self.cause_of_stop(order, live) if order.verb == "stop" else self.cause_of_next()
+        if cause is None:
+            self.live[name] = None if order.verb == "stop" else order.alert.update
+            return slot, None
+        if cause == UNKNOWN:
+            self.live[name] = None
+        return None, cause
+
+    def cause_of_next(self):
+        shown = self.reported.pop(0)["shown"]
+        return int(shown.split()[1], 16) if shown.startswith("refused") else None
+
+    def cause_of_stop(self, order, live):
+        """A stop has a row in the report only where it was refused: at the run's end, or since no such message was
+        live, which no write without a message to replace is refused for."""
+        if self.clock == self.slots:
+            return self.cause_of_next()
+        row = self.reported[0] if self.reported else None
+        serial = order.alert.scope << 14 | order.alert.code << 4 | live
+        if row and (int(row["id"]), int(row["serial"], 16)) == (order.alert.identifier, serial) \
+                and row["shown"] == f"refused {UNKNOWN:02x}":
+            return self.cause_of_next()
+        return None
+
+
+def says_of(order, answers, earlier):
+    """Yields what is said of an order: `answers` has that of each cell that it names, in the order of the book."""
+    asked = {cell: it for cell, it in answers.items() if it is not None}
+    omitted = [f"{lac}-{ci}" for (lac, ci), it in answers.items() if it is None]
+    if not asked:
+        yield "orders nothing"
+    elif omitted:
+        yield " ".join(["leaves out", *omitted])
+    done = max((slot for slot, cause in asked.values() if cause is None), default=0)
+    if done > order.at:
+        yield f"done at slot {done}"
+    causes = [cause for _, cause in asked.values() if cause is not None]
+    for cause in dict.fromkeys(it for it in causes if it != PAST):
+        count = causes.count(cause)
+        yield f"refused in {count} cell{'s' if count > 1 else ''}: {CAUSES[cause]}"
+    if PAST in causes:
+        yield "past the end"
+    if order.verb == "write":
+        key = order.alert.identifier, order.alert.scope, order.alert.code
+        yield from [f"same identifier and serial number as row {row}" for it, row in earlier if it == key][:1]
+    if order.sending and not order.sending.text.strip(" \n"):
+        yield "only spaces"
+
+
+def table_of(rows, report, slots):
+    """Returns the lines of the table, and how many remarks it has."""
+    cells = [it for it in rows if isinstance(it, tuple)]
+    reported = {cell: [] for cell in cells}
+    for it in csv.DictReader(io.StringIO(report, newline="")):
+        reported[int(it["lac"]), int(it["ci"])].append(it)
+    silent = [cell for cell in cells if all(it["shown"].startswith("refused") for it in reported[cell])]
+    walks = {cell: Walk(slots, reported[cell]) for cell in cells}
+    lines, declared, earlier = [], [], []
+    for row, it in enumerate(rows, 1):
+        if isinstance(it, tuple):
+            declared.append(it)
+            continue
+        named = [cell for cell in declared if it.cells is None or cell in it.cells]
+        answers = {cell: walks[cell].answer(it) for cell in named}
+        lines += [books.line([row, it.alert.name, "", says]) for says in says_of(it, answers, earlier)]
+        if it.verb == "write":
+            earlier.append(((it.alert.identifier, it.alert.scope, it.alert.code), row))
+    lines += [books.line(["", "", f"{lac}-{ci}", "gets nothing"]) for lac, ci in silent]
+    return books.line("row name cell says".split()) + "".join(lines), len(lines)
+
+
+def run(program, words, octets):
+    return subprocess.run([program, *words], input=octets, stdout=subprocess.PIPE, stderr=subprocess.PIPE, check=False)
+
+
+def differs(program, seed):
+    """Whether both programs write different tables in this run."""
+    rng = random.Random(seed)
+    rows = random_book(rng)
+    octets = "".join(books.cell_line(it) if isinstance(it, tuple) else it.line() for it in rows).encode()
+    slots, strict = rng.randrange(1, 40), rng.random() < 0.3
+    report = run(program, ["report", "--slots", str(slots)], octets)
+    table, count = table_of(rows, report.stdout.decode(), slots)
+    said = run(program, ["check", "--slots", str(slots), *(["--strict"] if strict else [])], octets)
+    status, faults = (1, f"warnc: remarks: {count}\n") if strict and count else (0, "")
+    if (said.stdout.decode(), said.stderr.decode(), said.returncode) == (table, faults, status):
+        return False
+    print(f"run {seed}, {slots} slots:\n{octets.decode()}{table}{said.stdout.decode()}{said.stderr.decode()}")
+    return True
+
+
+if __name__ == "__main__":
+    sys.exit(judged("remarks_reference", __doc__, sys.argv[1:], differs, 1500))
