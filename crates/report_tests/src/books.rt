@@ -25,9 +25,7 @@ use cbsp_wire::{Cell, Contents};
 use device_ends::memory::{MemoryReader, MemoryWriter};
 use device_ends::{Sink, Source};
 use handset::{Handset, Reading, Refused, TapeFault, read_tape};
-use report::{
-    Columns, ReportFault, Row as ReportRow, cause_words, rows, text_with, write_report,
-};
+use report::{Columns, ReportFault, Row as ReportRow, cause_words, rows, text_with, write_report};
 use std::alloc::{AllocError, Global};
 use std::fmt::Write;
 use std::process::Abort;
