@@ -122,7 +122,7 @@ def installs(folder):
     words = [os.path.join(TOP, "install.sh"), "--prefix", os.path.join(folder, "prefix")]
     put = ran(words)
     there = {os.path.relpath(os.path.join(place, it), folder) for place, _, files in os.walk(folder) for it in files}
-    wanted = {"bin/warnc", "bin/warnc-cap", "share/warnc/warnc_cap/command.py", "share/man/man1/warnc.1",
+    wanted = {"bin/warnc", "bin/warnc-cap", "share/warnc/warnc.html", "share/warnc/warnc_cap/command.py", "share/man/man1/warnc.1",
               "share/man/man5/warnc-book.5", "share/bash-completion/completions/warnc",
               "share/zsh/site-functions/_warnc", "share/fish/vendor_completions.d/warnc.fish"}
     good = put.returncode == 0 and {f"prefix/{it}" for it in wanted} <= there
