@@ -1,13 +1,14 @@
 #!/usr/bin/env python3
-"""Tries dist/warnc.html in a headless Chromium, against the program itself.
+"""Tries dist/warnc.html in a headless Chromium, and in Firefox if that is there, against the program itself.
 
 Usage: test.py PROGRAM [BOOKS]      so many random books are tried, 200 if it isn't given. PROGRAM is the warnc of which
-                                    the page is. Where Chromium isn't there nothing is tried, which is said
+                                    the page is. Where neither browser is there nothing is tried, which is said
        test.py --pictures FOLDER    writes pictures of the panes: wide and narrow, by day and by night
        test.py --times PROGRAM      measures how long answers take
        test.py --help               prints this
 
-CHROMIUM names the browser; else the first of chromium, chromium-browser and google-chrome is taken.
+CHROMIUM and FIREFOX name the browsers; else chromium, chromium-browser or google-chrome, and firefox or firefox-esr
+are taken.
 """
 import base64
 import json
@@ -28,7 +29,7 @@ import gsm  # noqa: E402
 import mistakes  # noqa: E402
 import release  # noqa: E402
 import texts_reference  # noqa: E402
-from devtools import ALT, CONTROL, SHIFT, Page  # noqa: E402
+from devtools import ALT, CONTROL, SHIFT, Chromium  # noqa: E402
 
 READY = "times.book && !under && times.text && !isAsking"
 HOSTILE = (
@@ -434,7 +435,7 @@ def nothing_is_wider_than_the_window(page, _program, _):
 
 def nothing_is_asked_for(page, _program, _):
     """No request was made but for the page, its policy forbids them, and nothing was complained of."""
-    asked, said = page.requests(), page.complaints()
+    asked, said = page.asked(), page.complaints()
     wrong = [] if len(asked) == 1 and asked[0].startswith("file://") else [f"asked for {asked}"]
     tried = page.run("""try { await fetch('http://127.0.0.1:9/'); return 'answered'; }
         catch (fault) { return fault.name; }""")
@@ -462,10 +463,10 @@ def big_book():
     return "".join(rows)
 
 
-def test(program, count):
-    """Runs all tests, and returns how many found something wrong."""
+def test(kind, program, count):
+    """Runs all tests in a browser, and returns how many found something wrong."""
     failed = 0
-    with Page(browser.PAGE, "lang=en&pane=text") as page:
+    with kind(browser.PAGE, "lang=en&pane=text") as page:
         page.until(READY)
         for one, share in TESTS:
             began = time.monotonic()
@@ -476,8 +477,8 @@ def test(program, count):
             failed += bool(wrong)
             print("".join(f"browser/test.py: {one.__name__}: {it[:600]}\n" for it in wrong[:5]), end="")
             verdict, seconds = "FAILED" if wrong else "passed", time.monotonic() - began
-            print(f"browser/test.py: {verdict}: {said} ({seconds:.1f} s)", flush=True)
-    print(f"browser/test.py: {len(TESTS) - failed} passed, {failed} failed")
+            print(f"browser/test.py: {kind.__name__}: {verdict}: {said} ({seconds:.1f} s)", flush=True)
+    print(f"browser/test.py: {kind.__name__}: {len(TESTS) - failed} passed, {failed} failed")
     return failed
 
 
@@ -485,18 +486,18 @@ def middle(numbers):
     return f"{statistics.median(numbers):.1f} ms (most {max(numbers):.1f})"
 
 
-def measure(program):
-    """Prints how long the page's answers take."""
+def measure(kind, program):
+    """Prints how long the page's answers take in a browser."""
     firsts, books_first = [], []
     for _ in range(7):
-        with Page(browser.PAGE, "lang=en&pane=text") as page:
+        with kind(browser.PAGE, "lang=en&pane=text") as page:
             page.until(READY)
             first = page.run("return [times.first, times.firstBook]")
             firsts.append(first[0])
             books_first.append(first[1])
-    print(f"size of the page: {os.path.getsize(browser.PAGE):,} octets")
+    print(f"{kind.__name__}, a page of {os.path.getsize(browser.PAGE):,} octets:")
     print(f"first answer after the script starts: {middle(firsts)}, first run of the flood: {middle(books_first)}")
-    with Page(browser.PAGE, "lang=en&pane=text") as page:
+    with kind(browser.PAGE, "lang=en&pane=text") as page:
         page.until(READY)
         page.run("""state.row = 0; draft.text = 'abcdefgh '.repeat(155); refreshText(); $('t-text').focus();
             window.keys = []; $('t-text').addEventListener('input', () => { const began = performance.now();
@@ -560,7 +561,7 @@ def take_pictures(folder):
     """Writes pictures of the panes."""
     os.makedirs(folder, exist_ok=True)
     for name, width, height, dark, code in PICTURES:
-        with Page(browser.PAGE, f"lang=en&pane={name.split('-')[0]}", width, height, dark) as page:
+        with Chromium(browser.PAGE, f"lang=en&pane={name.split('-')[0]}", width, height, dark) as page:
             page.until(READY)
             if name.endswith("print"):
                 page.look(False, "print")
@@ -577,8 +578,10 @@ def main(words):
     if not is_named and not is_plain:
         print(__doc__, end="")
         return 2
-    if devtools.found() is None:
-        print("browser/test.py: Chromium isn't installed: SKIPPED the tests of the page")
+    kinds = devtools.installed()
+    if Chromium not in kinds:
+        print("browser/test.py: Chromium isn't installed: SKIPPED the page there")
+    if not kinds:
         return 0
     if words[0] == "--pictures":
         take_pictures(words[1])
@@ -589,9 +592,11 @@ def main(words):
         print(f"browser/test.py: {why or 'dist/warnc.html is of another program'}: SKIPPED the tests of the page")
         return 0
     if is_named:
-        measure(program)
+        for kind in kinds:
+            measure(kind, program)
         return 0
-    return 1 if test(program, int(words[1]) if words[1:] else 200) else 0
+    failed = sum(test(kind, program, int(words[1]) if words[1:] else 200) for kind in kinds)
+    return 1 if failed else 0
 
 
 if __name__ == "__main__":

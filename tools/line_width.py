@@ -1,5 +1,6 @@
 #!/usr/bin/env python3
-"""Lists the lines over 120 columns in src/, specs/, proofs/, each README.md, docs/, browser/ and scripts of Python and sh.
+"""Lists the lines over 120 columns in src/, specs/, proofs/, each README.md, docs/, browser/ and scripts of Python and
+sh.
 
 Rows of a document's tables, lines of src/ with a string, and documents' and scripts' lines without a space are passed
 over.

@@ -10,8 +10,8 @@ It fails if dist/ isn't of this tree, or if the two programs differ.
 
 A line of the manifest is a key and a value. `sources` is the sum of crates.txt, HANDLES, and all files of src/, specs/
 and proofs/ of the crates that `crates` names: that of the lines that sha256sum prints of them, sorted. `program` is the
-sum of the program, and `manifest` that of the lines above it; tools/browser.py says what those of the page are. All sums
-are SHA-256.
+sum of the program, and `manifest` that of the lines above it; tools/browser.py says what those of the page are. All
+sums are SHA-256.
 """
 import hashlib
 import os
