@@ -342,7 +342,6 @@ async function begin() {
     }
     Desk.module = module;
     bookDesk.ask("start", { module });
-    await askText();
     wanted++;
     work();
     const version = await textDesk.ask("run", { text: "", commands: [["--version"]] });

@@ -170,8 +170,7 @@ function replaceText(to) { // by the browser's own editing, so that its undo kno
     takeText();
 }
 
-async function askText() { // the latest text wins
-    if (!Desk.module) return;
+async function askText() { // the latest text wins; the first is asked before the program has started
     asksAgain = isAsking;
     if (isAsking) return;
     isAsking = true;
@@ -186,7 +185,7 @@ async function askText() { // the latest text wins
     showSpeed();
     isAsking = false;
     if (result.fault) {
-        tell(result.fault);
+        if (Desk.module) tell(result.fault);
         return;
     }
     if (learn(result.letters)) markText();

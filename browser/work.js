@@ -63,7 +63,7 @@ const jobs = {
     },
 };
 
-onmessage = async ({ data }) => {
+async function work(data) {
     let result;
     try {
         result = await jobs[data.job](data, (stage) => postMessage({ number: data.number, stage }));
@@ -71,4 +71,6 @@ onmessage = async ({ data }) => {
         result = { fault: String((fault && fault.message) || fault) };
     }
     postMessage({ number: data.number, result });
-};
+}
+let last = Promise.resolve();
+onmessage = ({ data }) => { last = last.then(() => work(data)); };
