@@ -93,9 +93,11 @@ class Socket:
 
     def put(self, text):
         octets, mask = text.encode(), os.urandom(4)
-        size = struct.pack(">BBQ", 0x81, 0xFF, len(octets))
+        size, big = len(octets), len(octets) > 0xFFFF
+        head = struct.pack(">BBQ" if big else ">BBH" if size > 125 else ">BB", 0x81,
+                           0x80 | (127 if big else 126 if size > 125 else size), *[size] * (size > 125))
         masked = bytes(it ^ mask[k % 4] for k, it in enumerate(octets))
-        self.of.sendall(size + mask + masked)
+        self.of.sendall(head + mask + masked)
 
     def have(self, count, until):
         """Waits for so many octets; returns whether they came up to a time."""

@@ -153,7 +153,7 @@ function markText() {
     const others = found.filter((one) => one.to === null), sum = (list) => list.reduce((of, one) => of + one.count, 0);
     mended = all.length ? withMends(text, all) : text;
     $("t-force").hidden = !found.length;
-    $("t-all").hidden = !all.length;
+    $("t-all").hidden = sum(all) < 2;
     $("t-all").textContent = say("replaceAll", sum(all));
     $("t-all").onclick = () => replaceText(withMends($("t-text").value, all));
     const isOne = sum(found) === 1;

@@ -56,6 +56,8 @@ RETARGETED = (
     (r'^target triple = .*$', f'target triple = "{TARGET}"', True),
     (r'"target-cpu"="[^"]*"',
      f'"no-builtin-bcmp" "no-builtin-memcmp" "no-builtin-strlen" "target-cpu"="{PROCESSOR}"', True),
+    # the instruction with which a thread waits for another, where there is none
+    (r'^ *(call|declare) void @llvm\.x86\.sse2\.pause\(\).*$', "", False),
     (r'"target-features"="[^"]*" ?', "", False),
     (r'"probe-stack"="[^"]*" ?', "", False),
     (r'"stack-probe-size"="[^"]*" ?', "", False),
