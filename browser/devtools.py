@@ -138,6 +138,7 @@ class Page:
     """A browser with one page, in a profile of its own."""
 
     NAMES = FLAGS = ()
+    SETTINGS = ""
     WAY = None
 
     @classmethod
@@ -147,6 +148,8 @@ class Page:
 
     def __init__(self, path, address="", width=1280, height=900, dark=False):
         self.home = tempfile.mkdtemp(prefix="warnc-page-")
+        with open(os.path.join(self.home, "user.js"), "w", encoding="ascii") as it:
+            it.write(self.SETTINGS)
         self.way = self.WAY([self.found(), *(it.format(self.home) for it in self.FLAGS), "about:blank"])
         self.count, self.events, self.path = 0, [], os.path.realpath(path)
         self.begin()
@@ -307,6 +310,8 @@ class Firefox(Page):
     NAMES = ("firefox", "firefox-esr")
     FLAGS = ("--headless", "--no-remote", "--profile", "{}", "--remote-debugging-port", "0")
     WAY = Socket
+    # it takes its window for the one in front, as keys ask for
+    SETTINGS = 'user_pref("focusmanager.testmode", true);\n'
     # what WebDriver calls keys that write nothing
     KEYS = {"Enter": "\ue007", "Tab": "\ue004", "Escape": "\ue00c", "PageUp": "\ue00e", "PageDown": "\ue00f",
             "End": "\ue010", "Home": "\ue011", "ArrowLeft": "\ue012", "ArrowUp": "\ue013", "ArrowRight": "\ue014",

@@ -334,6 +334,7 @@ async function begin() {
     state.text = takeKept() ?? $("flood").textContent;
     state.book = readBook(state.text);
     setWords();
+    if (state.pane !== "text") refreshText();
     tell(say("starting"));
     const { module, fault } = await started;
     if (fault) {

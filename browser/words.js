@@ -79,7 +79,7 @@ const WORDS = {
     category0: ["high", "hoch"], category1: ["background", "Hintergrund"], category2: ["normal", "normal"],
     untilStop: ["until stop", "bis Stopp"], allCells: ["all {0}", "alle {0}"], nCells: ["{0} cells", "{0} Zellen"],
     cost1: ["1 page", "1 Seite"], costs: ["{0} pages", "{0} Seiten"],
-    costsFor: ["UCS-2 because of {0}", "UCS-2 wegen {0}"],
+    costsFor: ["UCS-2: {0}", "UCS-2: {0}"],
     shownIn: ["shown in {0}", "gezeigt in {0}"], doneIn: ["stopped in {0}", "gestoppt in {0}"],
     hiddenIn: ["never shown in {0}", "nie gezeigt in {0}"], refusedIn: ["refused in {0}", "abgelehnt in {0}"],
     nothingIn: ["no effect in {0}", "ohne Wirkung in {0}"],

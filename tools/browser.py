@@ -29,8 +29,11 @@ import shutil
 import subprocess
 import sys
 import tempfile
+import time
+from concurrent.futures import ThreadPoolExecutor
 
 import release
+from build import lanes
 
 TOP = release.TOP
 SOURCES = os.path.join(TOP, "browser")
@@ -71,11 +74,8 @@ KEEPER = """\
 #!/bin/sh
 # keeps the module that is to be compiled, and hands it on
 for word in "$@"; do
-    case $word in *.bc | *.ll) [ ! -f "$word" ] || cp "$word" '{kept}' ;; esac
+    case $word in *.bc) cp "$word" '{kept}.part' && mv '{kept}.part' '{kept}' ;; esac
 done
-case " $* " in
-*" - "*) cat > '{kept}'; exec '{clang}' "$@" < '{kept}' ;;
-esac
 exec '{clang}' "$@"
 """
 
@@ -115,15 +115,14 @@ def kit():
 
 
 def words_for(folder, top):
-    """Returns the words by which `rt` has a crate's program built, and the crate's folder."""
+    """Returns the words by which `rt` has the program built, and the crate's folder."""
     sys.path.insert(0, os.path.join(folder, "bin"))
     import rtlib  # pylint: disable=import-outside-toplevel,import-error
     crate = next(it for it in rtlib.crates_below(top) if it.name == release.PROGRAM)
     lacking = [it.name for it in crate.below() if not os.path.isdir(it.rlib)]
     if lacking:
         raise Unmade(f"crates aren't proved here ({', '.join(lacking[:3])}): run tools/release.py first")
-    with open(os.devnull, "w", encoding="utf-8") as crate.out:
-        return crate.words([]) + rtlib.KEPT, crate.folder
+    return crate.words(["--jobs", str(lanes())]) + rtlib.KEPT, crate.folder
 
 
 def keeper_of(room, folder):
@@ -141,21 +140,17 @@ def keeper_of(room, folder):
     return made, kept
 
 
-def module_of(room, folder, top):
-    """Proves and builds the program, and returns the module of which that was made, which has to be that of dist/."""
-    toolchain, kept = keeper_of(room, folder)
+def build(room, folder, top, toolchain):
+    """Proves and builds the program by a toolchain; it has to be that of dist/."""
     words, place = words_for(folder, top)
     made, program = os.path.join(room, "warnc.o"), os.path.join(room, "warnc")
     ran([os.path.join(folder, "bin", "rattle"), "build", *words, "--toolchain", toolchain, "--backend", "llvm", "-o",
          made], place)
-    if not os.path.isfile(kept):
-        raise Unmade("the toolchain gave clang no module of LLVM: tools/browser.py is for another toolchain")
     ran([os.path.join(folder, "bin", "rattle-link"), "--target", "x86_64-unknown-linux-gnu", "--toolchain",
          os.path.join(folder, "toolchain"), "-o", program, made, os.path.join(folder, "c", "libos_c.a"),
          os.path.join(folder, "c", "liblibc_c.a")])
     if release.sum_of(release.read(program)) != release.written_manifest().get("program"):
         raise Unmade("the program that was built here isn't that of dist/: run tools/release.py first")
-    return kept
 
 
 def wasm_of(module, room, folder):
@@ -187,9 +182,18 @@ def wasm_of(module, room, folder):
 
 def made_wasm(top=TOP):
     """Makes the program for a browser of the crates that were proved in a checkout."""
-    with tempfile.TemporaryDirectory(prefix="warnc-browser-") as room:
-        folder = kit()
-        return wasm_of(module_of(room, folder, top), room, folder)
+    folder = kit()
+    with tempfile.TemporaryDirectory(prefix="warnc-browser-") as room, ThreadPoolExecutor(1) as pool:
+        toolchain, module = keeper_of(room, folder)
+        building = pool.submit(build, room, folder, top, toolchain)
+        while not os.path.isfile(module) and not building.done():
+            time.sleep(0.1)
+        # the module is compiled for both at once
+        wasm = wasm_of(module, room, folder) if os.path.isfile(module) else None
+        building.result()
+        if wasm is None:
+            raise Unmade("the toolchain gave clang no module of LLVM: tools/browser.py is for another toolchain")
+        return wasm
 
 
 def hash_of(text):
