@@ -283,7 +283,7 @@ $("b-sheet").onscroll = () => {
 // New rows. A new alert has a name and a code that no other has.
 const chosenOrder = () => state.book.orders[sheet.k];
 function newFields(verb) {
-    const first = state.book.names.get(chosenOrder()?.name)?.write, at = String(state.book.orders.at(-1)?.due ?? 0);
+    const first = state.book.names.get(chosenOrder()?.name)?.write, at = String(state.book.latest);
     if (verb === "write") {
         let name = 1, code = 1;
         while (state.book.names.has(`alert-${name}`)) name++;

@@ -71,18 +71,18 @@ function orderOf(row, number) {
     return order;
 }
 
-// Returns what the rows of a book say, without judging them: that is the program's. An order is due at its slot, but
-// not before an earlier row's; an update has the identifier, the scope and the code of its name's `write`.
+// Returns what the rows of a book say, without judging them: that is the program's. An update and a stop have the
+// identifier, the scope and the code of their name's `write`; `latest` is the latest slot of an order.
 function readBook(text) {
     const rows = parseCsv(text), cells = [], orders = [], names = new Map();
-    let clock = 0;
+    let latest = 0;
     rows.forEach((row, k) => {
         const order = orderOf(row, k + 1);
         if (order.verb === "cell") {
             cells.push({ row: k + 1, key: `${+order.lac}-${+order.ci}` });
             return;
         }
-        order.due = clock = Math.max(clock, +order.at || 0);
+        latest = Math.max(latest, +order.at || 0);
         order.where = order.cells === "*" ? cells.map((it) => it.key)
             : order.cells.split(" ").map((word) => word.replace(/\b0+(?=\d)/g, ""));
         if (order.verb === "write" && !names.has(order.name)) names.set(order.name, { write: order, updates: 0 });
@@ -92,5 +92,5 @@ function readBook(text) {
         order.serial = ((+order.scope << 14) | (+order.code << 4) | order.update).toString(16).padStart(4, "0");
         orders.push(order);
     });
-    return { rows, cells, orders, names };
+    return { rows, cells, orders, names, latest };
 }

@@ -132,13 +132,14 @@ def messages_are_read_right(page, program, count):
             for cell in group["cells"]:
                 first = first_slots(tapes[cell["index"] * size:(cell["index"] + 1) * size])
                 for it in group["messages"]:
-                    if it["isRefused"]:
-                        continue
-                    shown += 1
-                    if it["first"] != first.get((it["id"], it["serial"]), -1):
-                        wrong.append(f"book {seed}: {cell['key']} {it}: {first}")
-                    if it["first"] >= 0 and rows[it["row"] - 1][-1] != it["text"]:
-                        wrong.append(f"book {seed}: {it} isn't of row {it['row']}")
+                    row = rows[it.get("row", 1) - 1]
+                    is_sent = row[0] in ("write", "update") or it["isRefused"] and row[0] == "stop"
+                    if not is_sent or it["first"] >= 0 and row[-1] != it["text"]:
+                        wrong.append(f"book {seed}: {it} isn't of row {it.get('row')}")
+                    if not it["isRefused"]:
+                        shown += 1
+                        if it["first"] != first.get((it["id"], it["serial"]), -1):
+                            wrong.append(f"book {seed}: {cell['key']} {it}: {first}")
     return wrong, f"{shown} messages are shown when their tapes show them, and have the texts of their rows"
 
 

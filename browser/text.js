@@ -242,6 +242,7 @@ function showText(result, text) {
     showTextFault(cost, text);
     const costs = fewer && fewer < pages ? `${say("costsMore", pages, fewer)} ` : "";
     why.textContent = `${costs}${why.dataset.count}.`;
+    $("t-joined").hidden = !(result.pages?.length > 1);
     if (result.pages) {
         showPages(result);
     } else {

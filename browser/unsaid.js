@@ -2,6 +2,8 @@
 // which orders came to nothing, the load as numbers, when a phone shows a message first, the text of each page, and
 // which page is on the channel in a slot. All of it is read of the program's report, chart and tapes (docs/formats.md).
 const WHOLE_CELL = 232792560; // the load of a full cell in the chart
+// causes of CBSP with which a cell refuses a stop: not identified, its log is full, the run is over
+const NOT_IDENTIFIED = "02", REFUSALS_OF_STOPS = [NOT_IDENTIFIED, "08", "0a"];
 const SLOT_OCTETS = 92, HEADER_OCTETS = 8, BLOCK_OCTETS = 23, FIRST_BLOCK = 0x20;
 
 // Returns what a phone shows of each page alone: to `read` each goes as page 1 of 1, with a serial number of its own.
@@ -91,63 +93,53 @@ function groupsOf(chart, report) {
     return [...groups.values()];
 }
 
-// Finds for each message the order of the book that it is of, and for each order what became of it in its cells.
+// Finds for each message the order of the book that it is of, and for each order what became of it in its cells. A
+// cell's report has its messages in the order in which they came, which is that of the rows. So both are gone through
+// side by side, with a clock for each cell: an order is done at its slot, but not before an earlier one that came to
+// the cell.
 class Judge {
     constructor(book, slots) {
         this.book = book;
         this.slots = slots;
         this.wheres = book.orders.map((order) => new Set(order.where));
         this.verdicts = book.orders.map((order) => (
-            { row: order.row, shown: 0, hidden: 0, refused: [], nothing: [], notes: [] }));
-        this.sent = new Map();
-        this.stops = new Map();
-        book.orders.forEach((order, k) => {
-            if (order.verb === "stop") this.put(this.stops, order.name, k);
-            else this.put(this.sent, `${order.id}:${order.serial}`, k);
-        });
+            { row: order.row, shown: 0, hidden: 0, refused: [], nothing: [], notes: [], done: +order.at }));
     }
 
-    put(map, key, k) {
-        if (!map.has(key)) map.set(key, []);
-        map.get(key).push(k);
-    }
-
-    // When an order is answered: one past the run's end there.
-    slotOf(k) { return Math.min(this.book.orders[k].due, this.slots); }
-
-    // The order of a message; refused stops have the serial number of what they would stop.
-    orderOf(message, cell, used) {
-        const sent = this.sent.get(`${message.id}:${message.serial}`) || [];
-        const isOf = (k) => !used.has(k) && this.wheres[k].has(cell);
-        const isAnswered = (k) => isOf(k) && this.slotOf(k) === message.start;
-        const found = sent.find(message.isRefused ? isAnswered : isOf);
-        if (found !== undefined || !message.isRefused) return found;
-        return sent.flatMap((k) => this.stops.get(this.book.orders[k].name) || []).find(isAnswered);
-    }
-
-    count(k, cell, message) {
-        const verdict = this.verdicts[k];
+    count(verdict, cell, message) {
         if (message.isRefused) verdict.refused.push(`${cell} ${message.cause}`);
         else if (message.isShown) verdict.shown++;
         else verdict.hidden++;
     }
 
-    judgeCell(group, cell, isFirst) {
-        const used = new Set(), ends = new Set();
-        for (const message of group.messages) {
-            const k = this.orderOf(message, cell, used);
-            if (k === undefined) continue;
-            const { row, name, verb, period } = this.book.orders[k];
-            used.add(k);
-            this.count(k, cell, message);
-            if (isFirst) Object.assign(message, { row, name, verb, period: +period });
-            if (!message.isRefused) ends.add(`${name} ${message.end}`);
-        }
+    // An update or a stop comes to a cell only if a version of its name is believed live there: one that was accepted,
+    // and neither stopped since nor answered with "not identified". A stop that is done has no line; one that is
+    // refused has the serial number of what it would stop.
+    judgeCell({ messages }, cell, isFirst) {
+        const live = new Map();
+        let next = 0, clock = 0;
         this.book.orders.forEach((order, k) => {
-            if (!this.wheres[k].has(cell) || used.has(k)) return;
-            const isDone = order.verb === "stop" && ends.has(`${order.name} ${this.slotOf(k)}`);
-            if (isDone) this.verdicts[k].shown++;
-            else this.verdicts[k].nothing.push(cell);
+            const verdict = this.verdicts[k], { row, name, verb, period } = order;
+            if (!this.wheres[k].has(cell)) return;
+            if (verb !== "write" && !live.has(name)) {
+                verdict.nothing.push(cell);
+                return;
+            }
+            const message = messages[next], serial = verb === "stop" ? live.get(name) : order.serial;
+            clock = Math.min(Math.max(clock, +order.at), this.slots);
+            verdict.done = Math.max(verdict.done, clock);
+            const isOf = message && message.id === +order.id && message.serial === serial;
+            const isRefusedHere = isOf && message.start === clock && REFUSALS_OF_STOPS.includes(message.cause);
+            if (verb === "stop" && !isRefusedHere) {
+                verdict.shown++;
+                live.delete(name);
+            }
+            if (!isOf || (verb === "stop" && !isRefusedHere)) return;
+            next++;
+            this.count(verdict, cell, message);
+            if (isFirst) Object.assign(message, { row, name, verb, period: +period });
+            if (!message.isRefused) live.set(name, serial);
+            else if (message.cause === NOT_IDENTIFIED) live.delete(name);
         });
     }
 
@@ -155,8 +147,8 @@ class Judge {
     note() {
         const twins = new Map();
         this.book.orders.forEach((order, k) => {
-            const { notes } = this.verdicts[k], key = [order.id, order.scope, order.code].join();
-            if (order.due > +order.at) notes.push(["early", order.due]);
+            const { notes, done } = this.verdicts[k], key = [order.id, order.scope, order.code].join();
+            if (done > +order.at) notes.push(["early", done]);
             if (order.text !== undefined && order.text !== order.text.trim()) notes.push(["spaces"]);
             if (order.verb === "write" && twins.has(key)) notes.push(["same", twins.get(key)]);
             else if (order.verb === "write") twins.set(key, order.row);
