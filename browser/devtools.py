@@ -277,14 +277,13 @@ class Chromium(Page):
     def type(self, text):
         self.send("Input.insertText", text=text)
 
-    def shot(self, path, whole=True):
-        """Writes a picture of the page, or of what of it is in sight."""
-        given = {"format": "png", "captureBeyondViewport": whole}
-        if whole:
-            width, height = self.run("return [innerWidth, document.documentElement.scrollHeight]")
-            given["clip"] = {"x": 0, "y": 0, "width": width, "height": height, "scale": 1}
+    def shot(self, path, height=0, scale=1):
+        """Writes a picture of the page, or of so much of it from above."""
+        width, whole = self.run("return [innerWidth, document.documentElement.scrollHeight]")
+        clip = {"x": 0, "y": 0, "width": width, "height": height or whole, "scale": scale}
+        said = self.send("Page.captureScreenshot", format="png", captureBeyondViewport=True, clip=clip)
         with open(path, "wb") as it:
-            it.write(base64.b64decode(self.send("Page.captureScreenshot", **given)["data"]))
+            it.write(base64.b64decode(said["data"]))
 
     def addresses(self):
         sent = [it for it in self.events if it.get("method") == "Network.requestWillBeSent"]
@@ -351,12 +350,6 @@ class Firefox(Page):
 
     def type(self, text):
         self.run(f"document.execCommand('insertText', false, {json.dumps(text)})")
-
-    def shot(self, path, whole=True):
-        origin = "document" if whole else "viewport"
-        with open(path, "wb") as it:
-            it.write(base64.b64decode(self.send("browsingContext.captureScreenshot", context=self.context,
-                                                origin=origin)["data"]))
 
     def addresses(self):
         sent = [it["params"] for it in self.events if it.get("method") == "network.beforeRequestSent"]

@@ -3,7 +3,8 @@
 
 Usage: test.py PROGRAM [BOOKS]      so many random books are tried, 200 if it isn't given. PROGRAM is the warnc of which
                                     the page is. Where neither browser is there nothing is tried, which is said
-       test.py --pictures FOLDER    writes pictures of the panes: wide and narrow, by day and by night
+       test.py --pictures FOLDER    writes pictures of the panes: wide and narrow, by day and by night; for docs those
+                                    of the documents alone, docs/page-text.png, page-book.png and page-air.png
        test.py --times PROGRAM      measures how long answers take
        test.py --help               prints this
 
@@ -122,12 +123,17 @@ def messages_are_read_right(page, program, count):
         status, tapes, _ = ran(program, ["compile", "--slots", slots], book)
         if status:
             continue
-        groups = page.run(f"""
+        groups, verdicts = page.run(f"""
             const result = await bookDesk.ask("book", {{ text: {json.dumps(book.decode())}, slots: {slots} }});
-            const seen = ({{ marks, ...message }}) => message;
-            return result.groups.map(({{ cells, messages }}) => ({{ cells, messages: messages.map(seen) }}));""")
+            const seen = ({{ marks, ...message }}) => message, {{ groups, verdicts }} = result;
+            return [groups.map(({{ cells, messages }}) => ({{ cells, messages: messages.map(seen) }})), verdicts];""")
         rows = [it.fields for it in records(book.decode())]
-        size = gsm.size_of_tape(slots)
+        size, declared = gsm.size_of_tape(slots), sum(it[0] == "cell" for it in rows)
+        for it in verdicts:
+            cells = rows[it["row"] - 1][-1 if rows[it["row"] - 1][0] == "stop" else -2]
+            count = it["shown"] + it["hidden"] + len(it["refused"]) + len(it["nothing"])
+            if count != (declared if cells == "*" else len(cells.split())):
+                wrong.append(f"book {seed}: {it} isn't of {cells}")
         for group in groups:
             for cell in group["cells"]:
                 first = first_slots(tapes[cell["index"] * size:(cell["index"] + 1) * size])
@@ -265,7 +271,7 @@ def faults_stand_at_their_fields(page, program, _):
             return [document.activeElement.className || document.activeElement.tagName, document.querySelectorAll(
                 '.badcell').length, box.value.slice(box.selectionStart, box.selectionEnd)]""")
         is_order = not text.splitlines()[int(first["line"]) - 1].startswith("cell,")
-        if is_order and first["field"] and f"c-{first['field'].lower()}" not in field[0]:
+        if is_order and first["field"] and (f"c-{first['field'].lower()}" not in field[0] or not field[1]):
             wrong.append(f"{mistake}: the way to {first['field']} leads to {field}")
     return wrong, f"{count} faults stand at their rows and fields, in both languages"
 
@@ -283,11 +289,14 @@ stop,60,c,*
 write,101,d,4371,0,3,en,2,8,0,*,twin
 write,102,e,4371,0,5,en,2,1,0,1-1,full
 write,103,f,4371,0,6,en,2,30,0,*," spaces "
+write,200,h,4372,0,8,en,2,2,1,1-1,once
+stop,300,h,1-1
+stop,310,h,1-1
 write,900,g,4371,0,7,en,2,30,0,*,over
 cell,1,3
 """
 TOLD = {5: ("nothing", 2), 7: ("nothing", 1), 8: ("hidden", 2), 9: ("early", 0), 10: ("refused", 2), 11: ("refused", 1),
-        12: ("spaces", 0), 13: ("refused", 2), 3: ("after", 0)}
+        12: ("spaces", 0), 14: ("refused", 1), 15: ("nothing", 1), 16: ("refused", 2), 3: ("after", 0)}
 
 
 def silent_mistakes_are_told(page, _program, _):
@@ -418,12 +427,14 @@ def csv_is_read_as_the_program_reads_it(page, program, count):
 def nothing_is_wider_than_the_window(page, _program, _):
     """No pane has to be scrolled sideways, and each control has a name."""
     wrong = []
+    page.run("$('b-flood').click(); clearTimeout(timer); await work()")
+    page.until("!under")
     for lang in ("en", "de"):
         for width in WIDTHS:
             page.size(width, 900)
-            page.run(f"language = {int(lang == 'de')}; setWords()")
+            page.run(f"language = {int(lang == 'de')}; setWords(); await new Promise((done) => setTimeout(done, 200))")
             for pane in ("text", "book", "air"):
-                wide = page.run(f"""showPane('{pane}'); await new Promise((done) => setTimeout(done, 160));
+                wide = page.run(f"""showPane('{pane}'); await new Promise((done) => setTimeout(done, 30));
                     return document.documentElement.scrollWidth""")
                 wrong += [] if wide <= width else [f"{pane}, {lang}: {wide} of {width} px"]
                 wrong += [f"{pane}, {width} px: no name: {it}" for it in page.run("""
@@ -560,16 +571,27 @@ PICTURES = (
 )
 
 
+# how much of each pane the documents show, in pixels, and how much smaller
+OF_DOCUMENTS = {"text": 880, "book": 920, "air": 1130}
+SCALE = 0.6
+
+
 def take_pictures(folder):
     """Writes pictures of the panes."""
+    is_docs = os.path.realpath(folder) == os.path.join(TOP, "docs")
     os.makedirs(folder, exist_ok=True)
     for name, width, height, dark, code in PICTURES:
+        if is_docs and name not in OF_DOCUMENTS:
+            continue
         with Chromium(browser.PAGE, f"lang=en&pane={name.split('-')[0]}", width, height, dark) as page:
             page.until(READY)
             if name.endswith("print"):
                 page.look(False, "print")
             page.run(f"{code}; await new Promise((done) => setTimeout(done, 700))")
-            page.shot(os.path.join(folder, f"{name}.png"))
+            if is_docs:
+                page.shot(os.path.join(folder, f"page-{name}.png"), OF_DOCUMENTS[name], SCALE)
+            else:
+                page.shot(os.path.join(folder, f"{name}.png"))
 
 
 def main(words):
