@@ -128,13 +128,13 @@ function verdictNotes(order, verdict) {
     const causes = (list) => list.map(inWords).join("\n");
     const line = (className, sign, key, count, title) => (
         count ? node("span", { className, title }, `${sign} ${say(key, count)}`) : null);
-    const [note] = verdict.notes;
+    const notes = verdict.notes.map(([key, what]) => (
+        say(key === "after" && what === 1 ? "n_after1" : `n_${key}`, key === "early" ? timeText(what) : what)));
     return [line("badtext", "✕", "refusedIn", verdict.refused.length, causes(verdict.refused)),
         line("warntext", "!", "nothingIn", verdict.nothing.length, causes(verdict.nothing)),
         line("warntext", "!", "hiddenIn", verdict.hidden, ""),
         line("oktext", "✓", order.verb === "stop" ? "doneIn" : "shownIn", verdict.shown, ""),
-        note ? node("small", { className: "warntext" },
-            say(`n_${note[0]}`, note[0] === "early" ? timeText(note[1]) : note[1])) : null];
+        notes.length ? node("small", { className: "warntext", title: notes.join("\n") }, notes[0]) : null];
 }
 function drawRow(order, k, verdict, fault, cost) {
     const has = COLUMNS[order.verb] || ["text"], own = new Set([...has, "row", "verb", "result"]);

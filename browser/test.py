@@ -315,7 +315,7 @@ def silent_mistakes_are_told(page, _program, _):
 def a_book_is_made_by_keys(page, _program, _):
     """A book can be made, undone and looked at without a mouse."""
     if isinstance(page, devtools.Firefox):
-        return [], "SKIPPED the keys: a headless window, which never has the focus, presses no button"
+        return None, "keys: a headless window, which never has the focus, presses no button"
     page.run("$('b-new').click(); showPane('book', true); $('b-cell').focus()")
     page.type("7-1..3")
     page.key("Enter")
@@ -479,7 +479,7 @@ def big_book():
 
 def test(kind, program, count):
     """Runs all tests in a browser, and returns how many found something wrong."""
-    failed = 0
+    counts = {"passed": 0, "FAILED": 0, "SKIPPED": 0}
     with kind(browser.PAGE, "lang=en&pane=text") as page:
         page.until(READY)
         for one, share in TESTS:
@@ -488,12 +488,12 @@ def test(kind, program, count):
                 wrong, said = one(page, program, max(1, int(count * share)))
             except devtools.Failed as why:
                 wrong, said = [str(why)], one.__name__
-            failed += bool(wrong)
-            print("".join(f"browser/test.py: {one.__name__}: {it[:600]}\n" for it in wrong[:5]), end="")
-            verdict, seconds = "FAILED" if wrong else "passed", time.monotonic() - began
+            print("".join(f"browser/test.py: {one.__name__}: {it[:600]}\n" for it in (wrong or [])[:5]), end="")
+            verdict, seconds = "SKIPPED" if wrong is None else "FAILED" if wrong else "passed", time.monotonic() - began
+            counts[verdict] += 1
             print(f"browser/test.py: {kind.__name__}: {verdict}: {said} ({seconds:.1f} s)", flush=True)
-    print(f"browser/test.py: {kind.__name__}: {len(TESTS) - failed} passed, {failed} failed")
-    return failed
+    print(f"browser/test.py: {kind.__name__}:", ", ".join(f"{count} {what}" for what, count in counts.items()))
+    return counts["FAILED"]
 
 
 def middle(numbers):

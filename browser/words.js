@@ -87,6 +87,7 @@ const WORDS = {
     n_spaces: ["spaces at an end of the text", "Leerzeichen am Rand des Textes"],
     n_same: ["same identifier, scope and code as row {0}", "Kennung, Bereich und Code wie Zeile {0}"],
     n_after: ["{0} cells are declared after this row", "{0} Zellen stehen erst nach dieser Zeile"],
+    n_after1: ["a cell is declared after this row", "eine Zelle steht erst nach dieser Zeile"],
     emptyBook: ["The book is empty. Add cells and a new alert, open a file, or take the example.",
         "Das Buch ist leer. Zellen und eine Warnung anlegen, eine Datei öffnen oder das Beispiel nehmen."],
     faultAt: ["Row {0}, line {1}, column {2}", "Zeile {0}, Dateizeile {1}, Spalte {2}"],

@@ -52,6 +52,8 @@ TARGET = "wasm64-unknown-unknown"
 # the oldest WebAssembly that clang names: what memory64 needs, and no more
 PROCESSOR = "lime1"
 STACK = 1 << 20
+# -O3 makes the program a quarter larger, which a browser takes longer to compile, and runs are no faster
+LEVEL = "-O2"
 # What is changed in the module: a pattern, what stands there then, and whether it has to be there.
 RETARGETED = (
     (r'^target datalayout = .*$',
@@ -167,11 +169,11 @@ def wasm_of(module, room, folder):
     with open(text, "w", encoding="utf-8") as it:
         it.write(lines)
     here = [clang, f"--target={TARGET}", f"-mcpu={PROCESSOR}"]
-    ran([*here, *LOWERED, *PLAIN, "-O3", "-c", "-x", "ir", text, "-o", object_file])
+    ran([*here, *LOWERED, *PLAIN, LEVEL, "-c", "-x", "ir", text, "-o", object_file])
     files = [object_file]
     for name in ("host", "heap"):
         files.append(os.path.join(room, f"{name}.o"))
-        ran([*here, *PLAIN, "-O2", "-ffreestanding", "-fno-builtin", "-nostdinc", "-c",
+        ran([*here, *PLAIN, LEVEL, "-ffreestanding", "-fno-builtin", "-nostdinc", "-c",
              os.path.join(SOURCES, f"{name}.c"), "-o", files[-1]])
     linked = os.path.join(room, "warnc.wasm")
     ran([os.path.join(folder, "toolchain", "bin", "ld.lld"), "-flavor", "wasm", "-mwasm64", "--no-entry",
