@@ -218,7 +218,7 @@ function hideTip() {
 
 // The moment: what a phone in the cell has shown by then, newest on top, and what is on the channel.
 const HIGHEST = [4370, 4383];
-let telling = 0, told = "";
+let speakTimer = 0, spoken = "";
 function phoneItem(message) {
     const isOver = message.end <= state.at, className = isOver ? "over" : HIGHEST.includes(message.id) ? "highest" : "";
     return node("li", { className },
@@ -236,10 +236,10 @@ function showTime() {
     const load = `${say("load")} ${number(100 * loadAt(group, slot))} %`;
     $("a-time").setAttribute("aria-valuetext", `${timeText(slot)}, ${load}`);
     fill($("a-shown"), seen.length ? seen.map(phoneItem) : node("li", { className: "none" }, say("nothingYet")));
-    clearTimeout(telling);
-    telling = setTimeout(() => {
+    clearTimeout(speakTimer);
+    speakTimer = setTimeout(() => {
         const text = seen.length ? say("shownNow", `${nameOf(seen[0])}, ${seen[0].text}`) : say("nothingYet");
-        if (text !== told) $("a-say").textContent = told = text;
+        if (text !== spoken) $("a-say").textContent = spoken = text;
         showChannel(group);
     }, 180);
 }

@@ -13,7 +13,7 @@ function editFields(number, changes, why) {
     if (rowText(fields) === rowText(row.fields)) return;
     setBook(state.text.slice(0, row.from) + rowText(fields) + state.text.slice(row.to), why);
 }
-function addRows(rows, after) { // behind a row, or at the start
+function addRows(rows, after) { // after a row, or at the start
     const row = state.book.rows[after - 1], at = row ? row.to : 0, made = rows.map(rowText).join("\n");
     setBook(state.text.slice(0, at) + (row ? `\n${made}` : `${made}\n`) + state.text.slice(at));
 }

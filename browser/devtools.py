@@ -1,5 +1,5 @@
 """Headless browsers for the tests of the page: Chromium by its DevTools protocol over two pipes, and Firefox by
-WebDriver BiDi over a socket. Both speak JSON; what they tell in between is kept in `events`."""
+WebDriver BiDi over a socket. Both speak JSON; what they report in between is kept in `events`."""
 import base64
 import fcntl
 import json
@@ -70,17 +70,17 @@ class Pipes:
 
 
 class Socket:
-    """What Firefox is spoken to by: a WebSocket (RFC 6455), whose address it tells on standard error."""
+    """What Firefox is spoken to by: a WebSocket (RFC 6455), whose address it writes to standard error."""
 
     def __init__(self, words):
         self.process = subprocess.Popen(  # pylint: disable=consider-using-with
             words, stdin=subprocess.DEVNULL, stdout=subprocess.DEVNULL, stderr=subprocess.PIPE)
-        told = b""
-        while b"BiDi listening on" not in told:
-            told = self.process.stderr.readline()
-            if not told:
+        line = b""
+        while b"BiDi listening on" not in line:
+            line = self.process.stderr.readline()
+            if not line:
                 raise Failed("the browser has ended")
-        port = int(re.search(rb":(\d+)", told.split(b"//")[1])[1])
+        port = int(re.search(rb":(\d+)", line.split(b"//")[1])[1])
         self.of = socket.create_connection(("127.0.0.1", port))
         key = base64.b64encode(os.urandom(16)).decode()
         head = ("GET /session HTTP/1.1", f"Host: 127.0.0.1:{port}", "Upgrade: websocket", "Connection: Upgrade",
@@ -100,7 +100,7 @@ class Socket:
         self.of.sendall(head + mask + masked)
 
     def have(self, count, until):
-        """Waits for so many octets; returns whether they came up to a time."""
+        """Waits for octets; returns whether as many as `count` came up to a time."""
         while len(self.left) < count:
             if not select.select([self.of], [], [], max(0, until - time.monotonic()))[0]:
                 return False
@@ -244,7 +244,7 @@ class Chromium(Page):
         return {"sessionId": self.session} if self.session else {}
 
     def heard(self, said):
-        """Has a worker's requests and faults told, too."""
+        """Asks for the requests and faults of a worker, too."""
         if said.get("method") == "Target.attachedToTarget":
             for domain in ("Network", "Runtime"):
                 self.way.put(json.dumps({"id": 0, "method": f"{domain}.enable", "params": {},
@@ -290,7 +290,7 @@ class Chromium(Page):
         return [it["params"]["request"]["url"] for it in sent]
 
     def complaints(self):
-        """Returns the faults and refusals that the browser told of."""
+        """Returns the faults and refusals that the browser reported."""
         said = []
         for it in self.events:
             given = it.get("params", {})
@@ -356,8 +356,8 @@ class Firefox(Page):
         return [it["request"]["url"] for it in sent]
 
     def complaints(self):
-        told = [it["params"] for it in self.events if it.get("method") == "log.entryAdded"]
-        return [str(it["text"])[:300] for it in told if it["level"] == "error"]
+        entries = [it["params"] for it in self.events if it.get("method") == "log.entryAdded"]
+        return [str(it["text"])[:300] for it in entries if it["level"] == "error"]
 
 
 def installed():

@@ -22,7 +22,7 @@ static int reaches(u64 to) {
     return 1;
 }
 
-/* Returns a block of at least so many octets, or 0 if there is none. */
+/* Returns a block for `count` octets, or 0 if there is none. */
 static u8 *take(u64 count) {
     int power = LEAST_POWER;
     while (power <= MOST_POWER && ((u64)1 << power) - HEADER < count) power++;

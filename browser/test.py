@@ -1,8 +1,8 @@
 #!/usr/bin/env python3
 """Tries dist/warnc.html in a headless Chromium, and in Firefox if that is there, against the program itself.
 
-Usage: test.py PROGRAM [BOOKS]      so many random books are tried, 200 if it isn't given. PROGRAM is the warnc of which
-                                    the page is. Where neither browser is there nothing is tried, which is said
+Usage: test.py PROGRAM [BOOKS]      tries it with that number of random books, 200 if it isn't given. PROGRAM is the
+                                    warnc of which the page is. Where a browser isn't there a line says so
        test.py --pictures FOLDER    writes pictures of the panes: wide and narrow, by day and by night; for docs those
                                     of the documents alone, docs/page-text.png, page-book.png and page-air.png
        test.py --times PROGRAM      measures how long answers take
@@ -12,6 +12,8 @@ CHROMIUM and FIREFOX name the browsers; else chromium, chromium-browser or googl
 are taken.
 """
 import base64
+import csv
+import io
 import json
 import os
 import random
@@ -50,7 +52,7 @@ def ran(program, words, given):
 
 
 def in_page(page, commands, given):
-    """Returns the same of the page's program, run with each of some commands, one after another's output."""
+    """Returns what the page's program makes of it: each command has what the one before it wrote."""
     text = json.dumps(given.decode())
     said = page.run(f"""
         const result = await bookDesk.ask("run", {{ text: {text}, commands: {json.dumps(commands)} }});
@@ -65,6 +67,11 @@ def load(page, text, slots=None):
     slots = f"state.slots = {slots};" if slots else ""
     page.run(f"{slots} setBook({json.dumps(text)}, 'load'); clearTimeout(timer); await work()")
     page.until("!under")
+
+
+def records(text):
+    """Returns the fields of each row of a CSV, by Python's reader."""
+    return [it for it in csv.reader(io.StringIO(text, newline="")) if it]
 
 
 def random_book(rng):
@@ -127,7 +134,7 @@ def messages_are_read_right(page, program, count):
             const result = await bookDesk.ask("book", {{ text: {json.dumps(book.decode())}, slots: {slots} }});
             const seen = ({{ marks, ...message }}) => message, {{ groups, verdicts }} = result;
             return [groups.map(({{ cells, messages }}) => ({{ cells, messages: messages.map(seen) }})), verdicts];""")
-        rows = [it.fields for it in records(book.decode())]
+        rows = records(book.decode())
         size, declared = gsm.size_of_tape(slots), sum(it[0] == "cell" for it in rows)
         for it in verdicts:
             cells = rows[it["row"] - 1][-1 if rows[it["row"] - 1][0] == "stop" else -2]
@@ -147,14 +154,6 @@ def messages_are_read_right(page, program, count):
                         if it["first"] != first.get((it["id"], it["serial"]), -1):
                             wrong.append(f"book {seed}: {cell['key']} {it}: {first}")
     return wrong, f"{shown} messages are shown when their tapes show them, and have the texts of their rows"
-
-
-def records(text):
-    """Returns the rows of a book, by Python's reader of CSV."""
-    import csv  # pylint: disable=import-outside-toplevel
-    import io  # pylint: disable=import-outside-toplevel
-    found = [it for it in csv.reader(io.StringIO(text, newline="")) if it]
-    return [type("Row", (), {"fields": it}) for it in found]
 
 
 def examples_are_typed(page, program, _):
@@ -252,7 +251,7 @@ def faults_stand_at_their_fields(page, program, _):
         table = ran(program, ["check"], book)[1].decode()
         said = page.run("""return [state.faults, [...document.querySelectorAll('#b-faults li p')].map((it) =>
             it.textContent), $('b-faults').hidden]""")
-        wanted = [dict(zip(COLUMNS_OF_CHECK, it.fields)) for it in records(table)[1:]]
+        wanted = [dict(zip(COLUMNS_OF_CHECK, it)) for it in records(table)[1:]]
         if said[0] != wanted or said[2] != (not rows):
             wrong.append(f"{mistake}: {said[0]}")
             continue
@@ -295,21 +294,21 @@ stop,310,h,1-1
 write,900,g,4371,0,7,en,2,30,0,*,over
 cell,1,3
 """
-TOLD = {5: ("nothing", 2), 7: ("nothing", 1), 8: ("hidden", 2), 9: ("early", 0), 10: ("refused", 2), 11: ("refused", 1),
-        12: ("spaces", 0), 14: ("refused", 1), 15: ("nothing", 1), 16: ("refused", 2), 3: ("after", 0)}
+NOTED = {3: ("after", 0), 5: ("nothing", 2), 7: ("nothing", 1), 8: ("hidden", 2), 9: ("early", 0), 10: ("refused", 2),
+         11: ("refused", 1), 12: ("spaces", 0), 14: ("refused", 1), 15: ("nothing", 1), 16: ("refused", 2)}
 
 
-def silent_mistakes_are_told(page, _program, _):
-    """What no command refuses, and does less than was meant, is told at its row."""
+def silent_mistakes_are_noted(page, _program, _):
+    """What no command refuses, and does less than was meant, is noted at its row."""
     load(page, SILENT, 400)
     verdicts = {it["row"]: it for it in page.run("return state.verdicts")}
     wrong = []
-    for row, (what, count) in TOLD.items():
+    for row, (what, count) in NOTED.items():
         found = verdicts[row]
         number = found.get(what) if isinstance(found.get(what), int) else len(found.get(what, []))
         if number != count if count else what not in [it[0] for it in found["notes"]]:
             wrong.append(f"row {row}: {what}: {found}")
-    return wrong, f"{len(TOLD)} silent mistakes are told"
+    return wrong, f"{len(NOTED)} silent mistakes are noted"
 
 
 def a_book_is_made_by_keys(page, _program, _):
@@ -413,13 +412,13 @@ def csv_is_read_as_the_program_reads_it(page, program, count):
         found = page.run(f"""return parseCsv({json.dumps(text)}).map((row, k) => (
             [k + 1, row.fields.length, row.fields[0]]))""")
         for it in records(ran(program, ["check"], text.encode())[1].decode())[1:]:
-            row, _, column, field, value, says = it.fields
+            row, _, column, field, value, says = it
             own = next((one for one in found if one[0] == int(row)), None)
             same = own is not None and (column != "1" or own[2][:80] == value)
             same = same and (f"{own[1]} columns" in says if "columns, cell" in says else field != "CI" or own[1] == 3)
-            wrong += [] if same else [f"{text!r}: {it.fields}, page {found}"]
+            wrong += [] if same else [f"{text!r}: {it}, page {found}"]
         rows = ran(program, ["check"], (text + "\nx\n").encode())[1].decode() if '"' not in text else ""
-        last = records(rows)[-1].fields[0] if rows else ""
+        last = records(rows)[-1][0] if rows else ""
         wrong += [] if not last or int(last) == len(found) + 1 else [f"{text!r}: {len(found)} rows, program {last}"]
     return wrong, f"{count} soups of quotes and line ends have the program's rows"
 
@@ -455,13 +454,13 @@ def nothing_is_asked_for(page, _program, _):
         catch (fault) { return fault.name; }""")
     policy = page.run("return document.querySelector('meta[http-equiv]').content")
     wrong += [] if tried == "TypeError" and "default-src 'none'" in policy else [f"fetch: {tried}"]
-    return wrong + [f"told: {it}" for it in said], "no request was made, and none can be"
+    return wrong + [f"reported: {it}" for it in said], "no request was made, and none can be"
 
 
 TESTS = (
     (examples_are_typed, 0), (random_books_are_the_programs, 1), (messages_are_read_right, 0.3),
     (texts_cost_what_the_program_says, 0.5), (csv_is_read_as_the_program_reads_it, 1), (hostile_texts_do_nothing, 0),
-    (faults_stand_at_their_fields, 0), (silent_mistakes_are_told, 0), (a_book_is_made_by_keys, 0),
+    (faults_stand_at_their_fields, 0), (silent_mistakes_are_noted, 0), (a_book_is_made_by_keys, 0),
     (files_of_spreadsheets_are_taken, 0), (texts_of_rows_are_written, 0), (work_is_cancelled, 0),
     (nothing_is_wider_than_the_window, 0), (nothing_is_asked_for, 0))
 

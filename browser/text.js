@@ -44,7 +44,7 @@ const draft = {
     text: "Flood warning for the harbour. Leave the lower town by 18:00 and go to the school on the hill. "
         + "Bring medicines – and keep this phone on.",
 };
-let mended = "", isAsking = false, asksAgain = false, speaking = 0;
+let mended = "", isAsking = false, asksAgain = false, factsTimer = 0;
 
 function setupText() {
     const names = new Intl.DisplayNames([language ? "de" : "en"], { type: "language" });
@@ -250,8 +250,8 @@ function showText(result, text) {
         $("t-blocks").textContent = "";
         $("t-octets").textContent = say("blocks", 0);
     }
-    clearTimeout(speaking); // to a screen reader when the hands rest
-    speaking = setTimeout(() => {
+    clearTimeout(factsTimer); // to a screen reader when the hands rest
+    factsTimer = setTimeout(() => {
         const left = `${cost.room} ${say("leftPage")}`;
         $("t-say").textContent = `${say("alphabet")} ${cost.coding}, ${say("pages")} ${pages}, ${left}`;
     }, 900);
