@@ -1,6 +1,6 @@
 #!/bin/sh
-# Installs the program of dist/, its man pages and completions for bash, zsh and fish, and warnc-cap, which needs
-# python3; or removes them again.
+# Installs the program of dist/, its man pages and completions for bash, zsh and fish, its page for a browser, and
+# warnc-cap, which needs python3; or removes them again.
 #
 # Usage: ./install.sh [--prefix DIR] [--uninstall]
 #
@@ -37,6 +37,7 @@ list() {
     cat << 'END'
 755 dist/warnc-x86_64-linux bin/warnc
 755 cap/warnc-cap bin/warnc-cap
+644 dist/warnc.html share/warnc/warnc.html
 644 cap/warnc_cap/__init__.py share/warnc/warnc_cap/__init__.py
 644 cap/warnc_cap/command.py share/warnc/warnc_cap/command.py
 644 cap/warnc_cap/message.py share/warnc/warnc_cap/message.py
@@ -61,11 +62,15 @@ if [ -n "$uninstall" ]; then
     echo "warnc is removed from $to"
     exit 0
 fi
-sum=$(sha256sum < "$here/dist/warnc-x86_64-linux" | cut -d ' ' -f 1)
-if [ "$(sed -n 's/^program //p' "$here/dist/MANIFEST")" != "$sum" ]; then
-    echo "install.sh: the program of dist/ isn't that of dist/MANIFEST" >&2
-    exit 1
-fi
+# Whether a file is the one that the manifest has a sum of.
+is_listed() {
+    [ "$(sed -n "s/^$1 //p" "$here/dist/MANIFEST")" = "$(sha256sum < "$here/dist/$2" | cut -d ' ' -f 1)" ] || {
+        echo "install.sh: the $1 of dist/ isn't that of dist/MANIFEST" >&2
+        exit 1
+    }
+}
+is_listed program warnc-x86_64-linux
+is_listed page warnc.html
 said=$("$here/dist/warnc-x86_64-linux" --version) || {
     echo "install.sh: the program doesn't run here: it needs x86-64 Linux with glibc 2.34 or later" >&2
     exit 1

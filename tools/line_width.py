@@ -1,5 +1,6 @@
 #!/usr/bin/env python3
-"""Lists the lines over 120 columns in src/, specs/, proofs/, each README.md, docs/ and scripts of Python and sh.
+"""Lists the lines over 120 columns in src/, specs/, proofs/, each README.md, docs/, browser/ and scripts of Python and
+sh.
 
 Rows of a document's tables, lines of src/ with a string, and documents' and scripts' lines without a space are passed
 over.
@@ -16,7 +17,8 @@ import textwrap
 WIDTH = 120
 TEXTS = ("README.md", "docs/*.md", "crates/*/README.md", "crates/*/src/**/*.rt", "crates/*/specs/**/*.antt",
          "crates/*/proofs/**/*.antt")
-SCRIPTS = ("warnc", "test", "*.sh", "tools/*.py", "bench/*.py", "cluster/*.sh", "cap/warnc-cap", "cap/**/*.py")
+SCRIPTS = ("warnc", "test", "*.sh", "tools/*.py", "bench/*.py", "cluster/*.sh", "cap/warnc-cap", "cap/**/*.py",
+           "browser/*.py", "browser/*.js", "browser/*.css", "browser/*.html", "browser/*.c", "browser/*.md")
 
 
 def is_exempt(path, line):

@@ -70,6 +70,7 @@ def debian_files():
     """Returns what the Debian package has: path to mode and octets."""
     docs = "usr/share/doc/warnc"
     files = {"usr/bin/warnc": (0o755, release.read(release.RELEASED))}
+    files["usr/share/warnc/warnc.html"] = (0o644, read("dist/warnc.html"))
     files["usr/bin/warnc-cap"] = (0o755, read("cap/warnc-cap"))
     files.update({f"usr/share/warnc/{it.removeprefix('cap/')}": (0o644, read(it)) for it in listed("cap/warnc_cap")})
     for name in ("warnc.1", "warnc-book.5"):
@@ -115,7 +116,7 @@ def make_debian(folder, version, time):
 def make_tar(folder, version, time):
     """Makes the tar file, and returns its name."""
     name = f"warnc-{version}-x86_64-linux.tar.gz"
-    paths = [*DOCUMENTS, "install.sh", "dist/MANIFEST", "dist/warnc-x86_64-linux", *COMPLETIONS]
+    paths = [*DOCUMENTS, "install.sh", "dist/MANIFEST", "dist/warnc-x86_64-linux", "dist/warnc.html", *COMPLETIONS]
     paths += [*listed("docs"), *listed("examples"), *listed("cap")]
     octets = io.BytesIO()
     with tarfile.open(fileobj=octets, mode="w", format=tarfile.PAX_FORMAT) as tar:

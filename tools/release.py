@@ -10,7 +10,8 @@ It fails if dist/ isn't of this tree, or if the two programs differ.
 
 A line of the manifest is a key and a value. `sources` is the sum of crates.txt, HANDLES, and all files of src/, specs/
 and proofs/ of the crates that `crates` names: that of the lines that sha256sum prints of them, sorted. `program` is the
-sum of the program, and `manifest` that of the lines above it. All sums are SHA-256.
+sum of the program, and `manifest` that of the lines above it; tools/browser.py says what those of the page are. All
+sums are SHA-256.
 """
 import hashlib
 import os
@@ -65,13 +66,18 @@ def version_of(top):
 
 
 def manifest_of(top, program):
-    """Returns the manifest of a program that was built of a tree."""
+    """Returns what the manifest says of a program that was built of a tree."""
     version, toolchain = version_of(top)
     crates = sorted(crates_below(PROGRAM))
-    lines = [("version", version), ("toolchain", toolchain), ("crates", " ".join(crates)),
-             ("sources", sum_of_sources(top, crates)), ("program", sum_of(program))]
-    text = "".join(f"{key} {value}\n" for key, value in lines)
-    return text + f"manifest {sum_of(text.encode())}\n"
+    return {"version": version, "toolchain": toolchain, "crates": " ".join(crates),
+            "sources": sum_of_sources(top, crates), "program": sum_of(program)}
+
+
+def write_manifest(said):
+    """Writes the manifest: these keys and values, and its own sum."""
+    text = "".join(f"{key} {value}\n" for key, value in said.items())
+    with open(MANIFEST, "w", encoding="utf-8") as it:
+        it.write(f"{text}manifest {sum_of(text.encode())}\n")
 
 
 def written_manifest():
@@ -130,9 +136,12 @@ def write():
         with open(path, "wb") as it:
             it.write(program)
         os.chmod(path, 0o755)
-    with open(MANIFEST, "w", encoding="utf-8") as it:
-        it.write(manifest_of(TOP, program))
+    # what is said of the page stays: it names the program that the page is of
+    of_page = {key: it for key, it in written_manifest().items() if key.startswith(("wasm", "page"))}
+    write_manifest({**manifest_of(TOP, program), **of_page})
     print(f"{os.path.relpath(RELEASED)}: {len(program)} octets, {sum_of(program)}")
+    if of_page.get("wasm_program") != sum_of(program):
+        print("release: dist/warnc.html is of another program: run tools/browser.py")
     return 0
 
 
@@ -152,7 +161,13 @@ def check():
         for crate in crates:
             shutil.rmtree(os.path.join(copy, "crates", crate, "must-fail"), ignore_errors=True)
         done = subprocess.run(["rt", "ci", "--anew"], cwd=copy, stdin=subprocess.DEVNULL, check=False)
-        return 0 if done.returncode == 0 and compare(copy) else 1
+        return 0 if done.returncode == 0 and compare(copy) and compare_page(copy) else 1
+
+
+def compare_page(folder):
+    """Makes the program for a browser of what was proved in a checkout, and compares it, and the page, with dist/."""
+    import browser  # pylint: disable=import-outside-toplevel,cyclic-import
+    return browser.check(folder)
 
 
 def main(words):

@@ -29,7 +29,8 @@ BUILDS = "the program of dist/ isn't there, or isn't made of these sources"
 def copy_of(folder):
     """Copies what is released and its sources to a checkout without git, and returns it."""
     crates = sorted(release.crates_below(release.PROGRAM))
-    released = "warnc", "dist/MANIFEST", "dist/warnc-x86_64-linux", "dist/warnc", "examples/book.csv"
+    released = ("warnc", "dist/MANIFEST", "dist/warnc-x86_64-linux", "dist/warnc", "dist/warnc.html",
+                "dist/warnc.wasm", "examples/book.csv")
     for path in (*release.sources(TOP, crates), *released):
         os.makedirs(os.path.join(folder, os.path.dirname(path)), exist_ok=True)
         shutil.copy2(os.path.join(TOP, path), os.path.join(folder, path))
@@ -58,9 +59,9 @@ def ran(words, given="", environment=None, folder=None):
     return subprocess.run(words, input=given, capture_output=True, text=True, env=environment, cwd=folder, check=False)
 
 
-def says_faults(copy):
-    """What tools/release.py of a copy says of its dist/."""
-    code = "import sys; sys.dont_write_bytecode = True; import release; print(release.faults())"
+def says_faults(copy, script="release"):
+    """What tools/release.py, or another script, of a copy says of its dist/."""
+    code = f"import sys; sys.dont_write_bytecode = True; import {script}; print({script}.faults())"
     return ran([sys.executable, "-c", code], folder=os.path.join(copy, "tools")).stdout.strip()
 
 
@@ -70,6 +71,13 @@ def sees_a_changed_program(folder):
     environment = {"PATH": only_coreutils(os.path.join(copy, ".bin"))}
     said = ran([os.path.join(copy, "warnc"), "--version"], environment=environment)
     return "isn't the program of dist/MANIFEST" in says_faults(copy) and BUILDS in said.stderr and said.returncode == 70
+
+
+def sees_a_changed_page(folder):
+    copy = copy_of(folder)
+    before = says_faults(copy, "browser")
+    change(os.path.join(copy, "dist", "warnc.html"))
+    return before == "[]" and "dist/warnc.html isn't that of dist/MANIFEST" in says_faults(copy, "browser")
 
 
 def sees_a_changed_manifest(folder):
@@ -122,8 +130,8 @@ def installs(folder):
     words = [os.path.join(TOP, "install.sh"), "--prefix", os.path.join(folder, "prefix")]
     put = ran(words)
     there = {os.path.relpath(os.path.join(place, it), folder) for place, _, files in os.walk(folder) for it in files}
-    wanted = {"bin/warnc", "bin/warnc-cap", "share/warnc/warnc_cap/command.py", "share/man/man1/warnc.1",
-              "share/man/man5/warnc-book.5", "share/bash-completion/completions/warnc",
+    wanted = {"bin/warnc", "bin/warnc-cap", "share/warnc/warnc.html", "share/warnc/warnc_cap/command.py",
+              "share/man/man1/warnc.1", "share/man/man5/warnc-book.5", "share/bash-completion/completions/warnc",
               "share/zsh/site-functions/_warnc", "share/fish/vendor_completions.d/warnc.fish"}
     good = put.returncode == 0 and {f"prefix/{it}" for it in wanted} <= there
     good = good and row(os.path.join(folder, "prefix", "bin", "warnc"))
@@ -168,7 +176,7 @@ def tar_installs(folder):
     return done.returncode == 0 and put.returncode == 0 and row(os.path.join(folder, "prefix", "bin", "warnc"))
 
 
-TRIES = (sees_a_changed_program, sees_a_changed_manifest, builds_where_a_source_was_changed,
+TRIES = (sees_a_changed_program, sees_a_changed_page, sees_a_changed_manifest, builds_where_a_source_was_changed,
          runs_with_coreutils_alone, installs, packages_are_the_same, package_runs, tar_installs)
 
 

@@ -1,0 +1,458 @@
+// The pane "Book": the table is a window on the rows of the text; each edit replaces one row of it and nothing else.
+const GRID = ["row", "at", "verb", "name", "id", "scope", "code", "lang", "category", "period", "broadcasts", "cells",
+    "text", "result"];
+const sheet = { k: 0, column: 1, from: 0, to: 0, height: 0, isEditing: false, isTouched: false };
+
+function editFields(number, changes, why) {
+    const row = state.book.rows[number - 1], fields = row.fields.slice();
+    for (const [name, value] of Object.entries(changes)) {
+        const at = COLUMNS[fields[0]].indexOf(name) + 1;
+        while (fields.length < at) fields.push("");
+        fields[at] = value;
+    }
+    if (rowText(fields) === rowText(row.fields)) return;
+    setBook(state.text.slice(0, row.from) + rowText(fields) + state.text.slice(row.to), why);
+}
+function addRows(rows, after) { // after a row, or at the start
+    const row = state.book.rows[after - 1], at = row ? row.to : 0, made = rows.map(rowText).join("\n");
+    setBook(state.text.slice(0, at) + (row ? `\n${made}` : `${made}\n`) + state.text.slice(at));
+}
+function deleteRow(number) {
+    const row = state.book.rows[number - 1];
+    if (!row) return;
+    if (state.row === number) state.row = 0;
+    setBook(state.text.slice(0, row.from) + state.text.slice(row.to).replace(/^(\r\n|\n|\r)/, ""));
+}
+
+function setupBook() {
+    fill($("b-grid").tHead.rows[0], GRID.map((name) => (
+        node("th", { scope: "col", className: `c-${name}` }, say(`c_${name}`)))));
+    showBook();
+}
+function showCells(faulty) {
+    const chip = (cell) => node("li", {
+        className: faulty.has(cell.row) ? "bad" : "", title: `${say("c_row")} ${cell.row}`,
+    },
+        node("bdi", {}, cell.key),
+        node("button", { "aria-label": say("removeCell", cell.key), onclick: () => deleteRow(cell.row) }, "×"));
+    fill($("b-cells"), state.book.cells.map(chip));
+    rove($("b-cells"), "button");
+    $("b-ncells").textContent = number(state.book.cells.length);
+}
+function showBook() {
+    $("b-undo").disabled = !state.past.length;
+    $("b-redo").disabled = !state.future.length;
+    if (state.pane !== "book") return;
+    const { cells, orders } = state.book;
+    showCsv();
+    if (document.activeElement !== $("b-slots")) $("b-slots").value = state.slots;
+    $("b-length").textContent = `${say("slots")} = ${timeText(state.slots, false)}`;
+    $("b-clock").value = state.clock;
+    showCells(new Set(state.faults.map((fault) => +fault.row)));
+    $("b-norders").textContent = number(orders.length);
+    $("b-empty").hidden = cells.length + orders.length > 0;
+    $("b-sheet").hidden = !orders.length;
+    sheet.k = Math.min(sheet.k, Math.max(0, orders.length - 1));
+    $("b-grid").setAttribute("aria-rowcount", orders.length + 1);
+    if (!sheet.isEditing) drawRows(true);
+    for (const id of ["b-text", "b-copy", "b-delete"]) $(id).disabled = !orders.length;
+    showFaults();
+}
+const LONG_CSV = 5e4;
+let csvTimer = 0;
+function showCsv() { // a long text costs the browser 0.1 s to lay out, so it waits until the hands rest
+    clearTimeout(csvTimer);
+    const now = () => { if ($("b-csv").value !== state.text) $("b-csv").value = state.text; };
+    if (state.text.length < LONG_CSV) now();
+    else csvTimer = setTimeout(now, 700);
+}
+function showResults() {
+    if (state.pane === "book" && !sheet.isEditing) showBook();
+}
+
+// Draws the rows that are in sight, and some above and below.
+const MARGIN = 10, LEAST_HEIGHT = 400, A_ROW = 46;
+function drawRows(isForced) {
+    const { orders } = state.book, box = $("b-sheet"), body = $("b-grid").tBodies[0], height = sheet.height || A_ROW;
+    const from = Math.max(0, Math.floor(box.scrollTop / height) - MARGIN);
+    const last = Math.ceil((box.scrollTop + Math.max(box.clientHeight, LEAST_HEIGHT)) / height) + MARGIN;
+    const to = Math.min(orders.length, last), hasFocus = body.contains(document.activeElement);
+    if (!isForced && from === sheet.from && to === sheet.to) return;
+    Object.assign(sheet, { from, to });
+    const byRow = (list) => new Map(list.map((it) => [+it.row, it]));
+    const faults = byRow(state.faults), verdicts = byRow(state.fault ? [] : state.verdicts);
+    const costs = byRow(state.fault ? [] : state.costs);
+    const space = (count) => (
+        node("tr", { className: "space", "aria-hidden": "true", css: { height: `${count * height}px` } }));
+    fill(body, space(Math.min(from, orders.length)), orders.slice(from, to).map((order, k) => (
+        drawRow(order, from + k, verdicts.get(order.row), faults.get(order.row), costs.get(order.row)))),
+    space(orders.length - to));
+    const one = body.rows[1], isOther = one && !one.classList.contains("space") && one.offsetHeight !== sheet.height;
+    if (isOther && one.offsetHeight) {
+        sheet.height = one.offsetHeight;
+        if (orders.length > 30) requestAnimationFrame(() => drawRows(true));
+    }
+    if (hasFocus) focusCell();
+}
+
+// Returns what a field of an order shows: the person's unit above, and the program's below.
+const pair = (above, below) => [node("span", {}, above), node("small", {}, below)];
+const showField = {
+    row: (order) => order.row,
+    at: (order) => (isNumber(order.at, "at") ? pair(timeText(+order.at), order.at) : order.at),
+    verb: (order) => (COLUMNS[order.verb] ? say(order.verb) : order.verb),
+    name: (order) => node("bdi", {}, order.name),
+    id: (order) => (order.verb === "write" ? pair(order.id, nameOfId(+order.id)) : node("small", {}, order.id || "")),
+    scope: (order) => order.scope,
+    code: (order) => order.code,
+    lang: (order) => order.lang,
+    category: (order) => (WORDS[`category${order.category}`] ? say(`category${order.category}`) : order.category),
+    period: (order) => (isNumber(order.period, "period") ? pair(spanText(+order.period), order.period) : order.period),
+    broadcasts: (order) => (/^0+$/.test(order.broadcasts) ? node("small", {}, say("untilStop")) : order.broadcasts),
+    cells(order) {
+        const count = order.where.length;
+        if (order.cells === "*") return pair(say("allCells", count), "*");
+        return count > 1 ? pair(say("nCells", count), order.cells) : order.cells;
+    },
+    text: (order, verdict, cost) => [node("bdi", { dir: "auto" }, order.text), cost ? costNote(cost) : null],
+    result: (order, verdict) => verdictNotes(order, verdict),
+};
+function costNote(cost) {
+    const pages = cost.pages === "1" ? say("cost1") : say("costs", cost.pages);
+    if (cost.first_ucs2 === "") return node("small", {}, pages);
+    return node("small", {}, `${pages} · `, say("costsFor", ""), node("bdi", {}, cost.first_ucs2));
+}
+function verdictNotes(order, verdict) {
+    if (!verdict) return "–";
+    const inWords = (it) => it.replace(/ (\w\w)$/, (_, cause) => `: ${say(`cause${cause}`)}`);
+    const causes = (list) => list.map(inWords).join("\n");
+    const line = (className, sign, key, count, title) => (
+        count ? node("span", { className, title }, `${sign} ${say(key, count)}`) : null);
+    const notes = verdict.notes.map(([key, what]) => (
+        say(key === "after" && what === 1 ? "n_after1" : `n_${key}`, key === "early" ? timeText(what) : what)));
+    return [line("badtext", "✕", "refusedIn", verdict.refused.length, causes(verdict.refused)),
+        line("warntext", "!", "nothingIn", verdict.nothing.length, causes(verdict.nothing)),
+        line("warntext", "!", "hiddenIn", verdict.hidden, ""),
+        line("oktext", "✓", order.verb === "stop" ? "doneIn" : "shownIn", verdict.shown, ""),
+        notes.length ? node("small", { className: "warntext", title: notes.join("\n") }, notes[0]) : null];
+}
+function drawRow(order, k, verdict, fault, cost) {
+    const has = COLUMNS[order.verb] || ["text"], own = new Set([...has, "row", "verb", "result"]);
+    const faulty = fault && (fault.field === "VERB" ? "verb" : fault.field.toLowerCase());
+    if (order.id && order.verb === "update") own.add("id");
+    const cell = (name, column) => node("td", {
+        role: name === "row" ? "rowheader" : "gridcell", tabIndex: k === sheet.k && column === sheet.column ? 0 : -1,
+        className: `c-${name}${own.has(name) ? "" : " none"}${name === faulty ? " badcell" : ""}`,
+        "aria-invalid": name === faulty ? "true" : undefined, "data-k": k, "data-column": column,
+        "data-h": say(`c_${name}`), title: name === "text" || name === "cells" ? order[name] : undefined,
+    }, own.has(name) ? showField[name](order, verdict, cost) : null);
+    const className = `v-${order.verb}${fault ? " bad" : ""}${k === sheet.k ? " chosen" : ""}`;
+    return node("tr", { role: "row", "aria-rowindex": k + 2, className }, GRID.map(cell));
+}
+
+const chosenCell = () => $("b-grid").querySelector(`td[data-k="${sheet.k}"][data-column="${sheet.column}"]`);
+function focusCell() {
+    const cell = chosenCell();
+    if (cell) cell.focus({ preventScroll: true });
+}
+function moveTo(k, column) {
+    const box = $("b-sheet"), count = state.book.orders.length, head = $("b-grid").tHead.offsetHeight;
+    sheet.k = Math.max(0, Math.min(count - 1, k));
+    sheet.column = Math.max(0, Math.min(GRID.length - 1, column));
+    const top = sheet.k * sheet.height, end = top + sheet.height + head;
+    if (top < box.scrollTop) box.scrollTop = top;
+    else if (end > box.scrollTop + box.clientHeight) box.scrollTop = end - box.clientHeight + 4;
+    drawRows();
+    for (const one of $("b-grid").tBodies[0].querySelectorAll("td[tabindex='0']")) {
+        one.tabIndex = -1;
+        one.parentNode.classList.remove("chosen");
+    }
+    const cell = chosenCell();
+    if (!cell) return;
+    cell.tabIndex = 0;
+    cell.parentNode.classList.add("chosen");
+    cell.focus({ preventScroll: true });
+    cell.scrollIntoView({ block: "nearest", inline: "nearest" });
+}
+function selectRow(row, name) {
+    const k = state.book.orders.findIndex((order) => order.row === row);
+    const cell = state.book.cells.findIndex((it) => it.row === row);
+    if (k >= 0) moveTo(k, Math.max(0, GRID.indexOf(name)));
+    else if (cell >= 0) $("b-cells").children[cell].querySelector("button").focus();
+}
+function selectCsv(number) { // marks the row in the CSV too, and brings it into view
+    const row = state.book.rows[number - 1], box = $("b-csv");
+    if (!row) return;
+    box.setSelectionRange(row.from, row.to);
+    box.scrollTop = Math.max(0, (row.line - 3) * parseFloat(getComputedStyle(box).lineHeight));
+}
+
+// Edits the chosen field; what is typed replaces it, if something is.
+const CHOICES = {
+    lang: () => LANGUAGES.map((word) => [word, word]),
+    category: () => [0, 1, 2].map((k) => [k, say(`category${k}`)]),
+    scope: () => [0, 1, 2, 3].map((k) => [k, `${k} · ${say(`scope${k}`)}`]),
+};
+const isTime = (name) => name === "at" || name === "period";
+function fieldBox(order, name) {
+    const label = `${say(`c_${name}`)}, ${say("c_row")} ${order.row}`;
+    if (CHOICES[name]) {
+        const options = CHOICES[name]().map(([value, text]) => node("option", { value }, text));
+        return node("select", { "aria-label": label }, options);
+    }
+    const isText = name === "text";
+    return node(isText ? "textarea" : "input", {
+        "aria-label": label, className: isText ? "big" : "", dir: "auto", autocomplete: "off", rows: 6,
+        title: isTime(name) ? say("h_time") : undefined,
+    });
+}
+function placeBox(box, cell) { // over the table, within the window
+    const { right, top } = cell.getBoundingClientRect(), width = Math.min(560, innerWidth - 16);
+    box.style.width = `${width}px`;
+    box.style.left = `${Math.max(8, Math.min(right, innerWidth - 8) - width)}px`;
+    box.style.top = `${Math.max(8, Math.min(top, innerHeight - 190))}px`;
+}
+function edit(typed) {
+    const order = state.book.orders[sheet.k], name = GRID[sheet.column], cell = chosenCell();
+    if (!order || !cell || !(COLUMNS[order.verb] || []).includes(name)) return;
+    sheet.isEditing = true;
+    const box = fieldBox(order, name), old = order[name];
+    const done = (isTaken, down = 0, right = 0) => {
+        if (!sheet.isEditing) return;
+        sheet.isEditing = false;
+        const slots = isTime(name) && isTaken && box.value !== old ? slotsOf(box.value, name === "at") : null;
+        if (isTime(name) && isTaken && box.value !== old && slots === null) tell(say("badTime", box.value));
+        const value = slots === null ? box.value : String(slots);
+        if (isTaken && value !== old) editFields(order.row, { [name]: value });
+        else drawRows(true);
+        moveTo(sheet.k + down, sheet.column + right);
+    };
+    box.value = typed ?? old;
+    box.onkeydown = (event) => {
+        event.stopPropagation();
+        if (event.key === "Escape") done(false);
+        else if (event.key === "Enter" && !(name === "text" && event.shiftKey)) done(true, typed === undefined ? 0 : 1);
+        else if (event.key === "Tab") done(true, 0, event.shiftKey ? -1 : 1);
+        else return;
+        event.preventDefault();
+    };
+    box.onblur = () => done(true);
+    fill(cell, box);
+    cell.classList.add("editing");
+    if (name === "text") placeBox(box, cell);
+    box.focus();
+    if (typed === undefined && box.select) box.select();
+}
+$("b-grid").tBodies[0].onclick = (event) => {
+    const cell = event.target.closest("td[data-k]");
+    if (!cell || sheet.isEditing) return;
+    const k = +cell.dataset.k, column = +cell.dataset.column;
+    const isSame = k === sheet.k && column === sheet.column && sheet.isTouched;
+    sheet.isTouched = true;
+    moveTo(k, column);
+    if (isSame || event.detail > 1) edit();
+};
+$("b-grid").onkeydown = (event) => {
+    if (sheet.isEditing) return;
+    const { k, column } = sheet, isControl = event.ctrlKey || event.metaKey, { key } = event;
+    const page = Math.max(1, Math.floor($("b-sheet").clientHeight / sheet.height) - 1);
+    const steps = {
+        ArrowUp: [k - 1, column], ArrowDown: [k + 1, column], ArrowLeft: [k, column - 1], ArrowRight: [k, column + 1],
+        PageUp: [k - page, column], PageDown: [k + page, column], Home: [isControl ? 0 : k, 0],
+        End: [isControl ? state.book.orders.length - 1 : k, GRID.length - 1],
+    };
+    if (steps[key]) moveTo(...steps[key]);
+    else if (isControl && key === "Enter") $("b-copy").click();
+    else if (isControl && key === "Delete") $("b-delete").click();
+    else if (key === "Enter" || key === "F2") edit();
+    else if (key.length === 1 && !isControl && !event.altKey) edit(key);
+    else return;
+    event.preventDefault();
+    event.stopPropagation();
+};
+let isScrolling = false;
+$("b-sheet").onscroll = () => {
+    if (isScrolling || sheet.isEditing) return;
+    isScrolling = true;
+    requestAnimationFrame(() => {
+        isScrolling = false;
+        drawRows();
+    });
+};
+
+// New rows. A new alert has a name and a code that no other has.
+const chosenOrder = () => state.book.orders[sheet.k];
+function newFields(verb) {
+    const first = state.book.names.get(chosenOrder()?.name)?.write, at = String(state.book.latest);
+    if (verb === "write") {
+        let name = 1, code = 1;
+        while (state.book.names.has(`alert-${name}`)) name++;
+        while (state.book.orders.some((it) => it.verb === "write" && +it.code === code)) code++;
+        const lang = language ? "de" : "en";
+        return ["write", at, `alert-${name}`, "4371", "0", String(code), lang, "2", "32", "0", "*", "…"];
+    }
+    if (!first) return null;
+    const { name, lang, category, period, broadcasts, cells, text } = first;
+    if (verb === "stop") return ["stop", at, name, cells];
+    return ["update", at, name, lang, category, period, broadcasts, cells, text];
+}
+for (const button of document.querySelectorAll("[data-add]")) button.onclick = () => {
+    const fields = newFields(button.dataset.add);
+    if (!fields) return;
+    addRows([fields], state.book.rows.length);
+    moveTo(state.book.orders.length - 1, 1);
+};
+$("b-copy").onclick = () => {
+    const order = chosenOrder();
+    if (!order) return;
+    const fields = state.book.rows[order.row - 1].fields.slice();
+    if (order.verb === "write") {
+        let k = 2;
+        while (state.book.names.has(`${order.name}-${k}`)) k++;
+        fields[2] = `${order.name}-${k}`;
+        fields[5] = String((+order.code + 1) % 1024);
+    }
+    addRows([fields], order.row);
+    moveTo(sheet.k + 1, 3);
+};
+$("b-delete").onclick = () => {
+    const order = chosenOrder();
+    if (!order) return;
+    deleteRow(order.row);
+    moveTo(sheet.k, sheet.column);
+};
+$("b-text").onclick = () => {
+    const order = chosenOrder();
+    if (!order || !hasText(order)) return;
+    state.row = order.row;
+    showPane("text");
+    $("t-text").focus();
+};
+const MOST_CELLS = 64;
+$("b-addcell").onsubmit = (event) => {
+    event.preventDefault();
+    const rows = [], known = new Set(state.book.cells.map((cell) => cell.key));
+    for (const [, lac, first, last] of $("b-cell").value.matchAll(/(\d{1,5})-(\d{1,5})(?:\.\.(\d{1,5}))?/g)) {
+        for (let ci = +first; ci <= +(last ?? first) && rows.length < MOST_CELLS; ci++) {
+            if (known.has(`${+lac}-${ci}`)) continue;
+            known.add(`${+lac}-${ci}`);
+            rows.push(["cell", String(+lac), String(ci)]);
+        }
+    }
+    if (!rows.length) return;
+    addRows(rows, state.book.cells.at(-1)?.row ?? 0);
+    $("b-cell").value = "";
+};
+
+// What `check` says of each row that has a fault, in its words, and what may help.
+const MOST_FAULTS = 5;
+function hintOf(fault) {
+    const row = state.book.rows[fault.row - 1], want = (COLUMNS[row?.fields[0]] || []).length + 1;
+    if (row?.isOpen) return say("h_open");
+    if (fault.field === "AT" || fault.field === "PERIOD") return say("h_time");
+    if (fault.field !== "VERB" || !COLUMNS[row?.fields[0]] || row.fields.length <= want) return "";
+    return say(row.fields.slice(want).every((it) => it === "") ? "h_filled" : "h_comma");
+}
+function faultItem(fault) {
+    const go = () => {
+        selectRow(+fault.row, fault.field.toLowerCase());
+        selectCsv(+fault.row);
+    };
+    return node("li", {}, node("p", {},
+        node("b", {}, `${say("faultAt", fault.row, fault.line, fault.column)} ${fault.field} · `),
+        fault.value === "" ? null : ["“", node("bdi", {}, fault.value), "”: "], `${saying(fault.says)}. `,
+        node("small", {}, hintOf(fault))), node("button", { className: "small", onclick: go }, say("goThere")));
+}
+function showFaults() {
+    const { fault, faults } = state, more = faults.length - MOST_FAULTS;
+    $("b-faults").hidden = !fault;
+    if (!fault) return;
+    fill($("b-faults"), faults.slice(0, MOST_FAULTS).map(faultItem),
+        more > 0 ? node("li", {}, say("furtherFaults", number(more))) : null,
+        faults.length ? null : node("li", {}, say("faultWord", fault)));
+}
+
+$("b-csv").oninput = () => setBook($("b-csv").value, "typing");
+$("b-undo").onclick = () => undo();
+$("b-redo").onclick = () => undo(true);
+$("b-flood").onclick = () => {
+    state.slots = 9600;
+    setBook($("flood").textContent, "load");
+};
+$("b-new").onclick = () => {
+    state.row = 0;
+    setBook("", "load");
+    $("b-cell").focus();
+};
+$("b-slots").onchange = () => {
+    const slots = slotsOf($("b-slots").value);
+    if (slots >= 1 && slots <= 65535) {
+        Object.assign(state, { slots, at: Math.min(state.at, slots), zoom: null });
+        if ($("b-keep").checked) keepBook();
+        compute();
+    } else {
+        tell(say("badTime", $("b-slots").value));
+    }
+    $("b-slots").value = state.slots;
+    showBook();
+};
+$("b-clock").onchange = () => {
+    state.clock = $("b-clock").value;
+    showBook();
+};
+$("b-keep").onchange = keepBook;
+$("b-open").onclick = () => $("b-file").click();
+$("b-file").onchange = () => {
+    if ($("b-file").files[0]) openFile($("b-file").files[0]);
+    $("b-file").value = "";
+};
+function download(name, octets, type) {
+    const link = node("a", { href: URL.createObjectURL(new Blob([octets], { type })), download: name });
+    link.click();
+    setTimeout(() => URL.revokeObjectURL(link.href), 9000);
+}
+$("b-save").onclick = () => download("book.csv", state.text, "text/csv");
+
+// Returns the text of a file, and how it was taken: what a spreadsheet writes is no book as it stands.
+function textOf(octets) {
+    const isUtf16 = octets[0] === 0xff && octets[1] === 0xfe;
+    try {
+        const text = new TextDecoder(isUtf16 ? "utf-16le" : "utf-8", { fatal: true }).decode(octets);
+        return [text, isUtf16 ? ["m_utf16"] : []];
+    } catch {
+        return [new TextDecoder("windows-1252").decode(octets), ["m_latin"]];
+    }
+}
+function mendedBook(text) {
+    const head = text.slice(0, 400).split(/[\r\n]/).find(Boolean) || "", how = [];
+    const other = /^(cell|write|update|stop)([;\t])/.exec(head), rows = parseCsv(text, other ? other[2] : ",");
+    const lengthOf = (row) => (COLUMNS[row.fields[0]] || row.fields).length + 1;
+    const restOf = (row) => row.fields.slice(lengthOf(row));
+    const isFilled = (row) => restOf(row).length > 0 && restOf(row).every((it) => it === "");
+    if (other) how.push("m_semicolons");
+    if (rows.some(isFilled)) how.push("m_filled");
+    if (!how.length) return [text, how];
+    const lines = rows.map((row) => rowText(isFilled(row) ? row.fields.slice(0, lengthOf(row)) : row.fields));
+    return [`${lines.join("\n")}\n`, how];
+}
+async function openFile(file) {
+    const [read, first] = textOf(new Uint8Array(await file.arrayBuffer())), [text, second] = mendedBook(read);
+    const how = [...first, ...second].map((key) => say(key));
+    state.row = 0;
+    setBook(text, "load");
+    showPane("book");
+    tell(how.length ? say("mended", file.name, how.join(", ")) : say("opened", file.name));
+}
+addEventListener("dragover", (event) => {
+    if (!event.dataTransfer?.types.includes("Files")) return;
+    event.preventDefault();
+    $("dropping").hidden = false;
+});
+addEventListener("dragleave", (event) => { if (!event.relatedTarget) $("dropping").hidden = true; });
+addEventListener("drop", (event) => {
+    const file = event.dataTransfer?.files[0];
+    $("dropping").hidden = true;
+    if (!file) return;
+    event.preventDefault();
+    openFile(file);
+});

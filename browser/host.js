@@ -1,0 +1,62 @@
+// In a worker: runs the program as on a command line, with words and octets in, and a status and octets out.
+let program = null;
+const encode = (text) => new TextEncoder().encode(text);
+const decode = (octets) => new TextDecoder("utf-8", { ignoreBOM: true }).decode(octets);
+
+class Exit {
+    constructor(status) { this.status = status; }
+}
+
+function joined(parts) {
+    const whole = new Uint8Array(parts.reduce((sum, part) => sum + part.length, 0));
+    let at = 0;
+    for (const part of parts) {
+        whole.set(part, at);
+        at += part.length;
+    }
+    return whole;
+}
+
+// What browser/host.c asks of the page. Numbers of 64 bits come and go as BigInt.
+function pageOf(memory, words, input, written) {
+    let at = 0;
+    return {
+        read(to, room) {
+            const part = input.subarray(at, at + Math.min(Number(room), input.length - at));
+            memory().set(part, Number(to));
+            at += part.length;
+            return BigInt(part.length);
+        },
+        write(file, from, count) { written[file].push(memory().slice(Number(from), Number(from) + Number(count))); },
+        words: () => BigInt(words.length),
+        word(number, to, room) {
+            const word = words[Number(number)];
+            if (!word) return -1n;
+            memory().set(word.subarray(0, Number(room)), Number(to));
+            return word.length > Number(room) ? -2n : BigInt(word.length);
+        },
+        exit(status) { throw new Exit(status); },
+    };
+}
+
+// Runs the program once, in memory of its own, and returns its status, its output and its line of standard error.
+function run(words, input = new Uint8Array(0)) {
+    const written = { 1: [], 2: [] }, all = ["warnc", ...words.map(String)].map(encode);
+    let made = null, status = 0;
+    const page = pageOf(() => new Uint8Array(made.memory.buffer), all, input, written);
+    made = new WebAssembly.Instance(program, { page }).exports;
+    try {
+        status = made.main(0, 0n);
+    } catch (end) {
+        if (!(end instanceof Exit)) throw end;
+        status = end.status;
+    }
+    return { status, out: joined(written[1]), says: decode(joined(written[2])).trim().replace(/^warnc: /, "") };
+}
+
+async function compiled(packed) {
+    const octets = Uint8Array.fromBase64 ? Uint8Array.fromBase64(packed)
+        : Uint8Array.from(atob(packed), (sign) => sign.charCodeAt(0));
+    const stream = new Blob([octets]).stream().pipeThrough(new DecompressionStream("gzip"));
+    return WebAssembly.compile(await new Response(stream).arrayBuffer());
+}

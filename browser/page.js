@@ -1,0 +1,392 @@
+"use strict";
+const $ = (id) => document.getElementById(id);
+const opened = performance.now(), times = { first: 0, firstBook: 0, text: 0, book: 0 };
+let language = /^de/.test(navigator.language) ? 1 : 0;
+const filled = (text, args) => text.replace(/\{(\d)\}/g, (_, k) => args[k]);
+const say = (key, ...args) => filled(WORDS[key] ? WORDS[key][language] : key, args);
+const number = (value, digits = 0) => (
+    value.toLocaleString(language ? "de" : "en", { minimumFractionDigits: digits, maximumFractionDigits: digits }));
+
+// Returns what `check` says of a field, in the language of the page.
+function saying(says) {
+    for (const [form, german] of language ? SAYS : []) {
+        const match = form.exec(says);
+        if (match) return filled(german, match.slice(1));
+    }
+    return says;
+}
+
+// All that is shown is made of nodes and text, never of markup, so no text of a book can become an element.
+const kept = (kids) => kids.flat(9).filter((kid) => kid !== null && kid !== undefined && kid !== false);
+function node(tag, given = {}, ...kids) {
+    const isSvg = /^(svg|path|rect)$/.test(tag);
+    const made = isSvg ? document.createElementNS("http://www.w3.org/2000/svg", tag) : document.createElement(tag);
+    for (const [name, value] of Object.entries(given)) {
+        if (value === undefined || value === false || value === null) continue;
+        if (name.startsWith("on")) made.addEventListener(name.slice(2), value);
+        else if (name === "css") for (const [one, what] of Object.entries(value)) made.style.setProperty(one, what);
+        else if (name in made && !isSvg && name !== "role") made[name] = value;
+        else made.setAttribute(name, value === true ? "" : value);
+    }
+    made.append(...kept(kids));
+    return made;
+}
+const fill = (element, ...kids) => element.replaceChildren(...kept(kids));
+
+// Of a list of buttons one is in the tab order; arrows, Home and End move within it.
+function rove(list, selector) {
+    const all = [...list.querySelectorAll(selector)];
+    const choose = (k) => {
+        const one = all[Math.max(0, Math.min(all.length - 1, k))];
+        all.forEach((it) => { it.tabIndex = it === one ? 0 : -1; });
+        return one;
+    };
+    choose(all.findIndex((it) => it.getAttribute("aria-pressed") === "true"));
+    list.onkeydown = (event) => {
+        const k = all.indexOf(event.target.closest(selector)), last = all.length - 1;
+        const steps = { ArrowDown: k + 1, ArrowRight: k + 1, ArrowUp: k - 1, ArrowLeft: k - 1, Home: 0, End: last };
+        const to = steps[event.key];
+        if (k < 0 || to === undefined) return;
+        event.preventDefault();
+        choose(to).focus();
+    };
+}
+
+// Times: slots are the program's unit, h:mm:ss is the person's. With a clock for slot 0 they are times of the day.
+const DAY = 86400;
+const two = (value) => String(value).padStart(2, "0");
+function startOfClock() {
+    const [hours, minutes] = state.clock ? state.clock.split(":") : [0, 0];
+    return hours * 3600 + minutes * 60;
+}
+function timeText(slot, byClock = true) {
+    let seconds = Math.round(slot * SLOT) + (byClock ? startOfClock() : 0), days = "";
+    if (byClock && state.clock && seconds >= DAY) {
+        days = `+${Math.floor(seconds / DAY)} `;
+        seconds %= DAY;
+    }
+    return `${days}${Math.floor(seconds / 3600)}:${two(Math.floor(seconds / 60) % 60)}:${two(seconds % 60)}`;
+}
+function spanText(slots) { // of a period, in the shortest true form: to a tenth below ten seconds
+    const seconds = slots * SLOT, minutes = seconds / 60;
+    if (seconds < 59.5) return `${number(seconds, seconds < 10 ? 1 : 0)} s`;
+    if (seconds >= 3570) return timeText(slots, false);
+    return `${number(minutes, Math.abs(minutes - Math.round(minutes)) < 0.04 ? 0 : 1)} min`;
+}
+function slotsOf(text, byClock) { // 956, 0:30:00, 30min, 90s, 2h; rounded up, so never too early; null if it is no time
+    const given = text.trim().toLowerCase();
+    if (/^\d{1,5}$/.test(given)) return +given;
+    const time = /^(\d+):(\d\d)(?::(\d\d))?$/.exec(given);
+    const span = /^(\d+(?:[.,]\d+)?)\s*(s|sec|sek|m|min|h|std)\.?$/.exec(given);
+    if (!time && !span) return null;
+    let seconds = time ? time[1] * 3600 + time[2] * 60 + +(time[3] || 0) : parseFloat(span[1].replace(",", "."));
+    if (span) seconds *= { s: 1, sec: 1, sek: 1, m: 60, min: 60, h: 3600, std: 3600 }[span[2]];
+    if (time && byClock && state.clock) seconds = (seconds - startOfClock() + DAY) % DAY;
+    return Math.ceil(seconds / SLOT - 1e-6);
+}
+
+// The identifier of the same warning in the first language, and its name.
+function baseOf(id) {
+    if (IDENTIFIERS[id]) return id;
+    if (id === 4397 || id === 4399) return id - 1;
+    return IDENTIFIERS[id - MORE] ? id - MORE : 0;
+}
+const additional = (base) => (base === 4396 || base === 4398 ? base + 1 : base + MORE);
+function nameOfId(id) {
+    const base = baseOf(id);
+    if (base) return IDENTIFIERS[base][language] + (base === id ? "" : ` · ${say("more")}`);
+    return id >= 4352 && id <= 4359 ? "ETWS" : say("otherId");
+}
+
+// A desk is a worker; its jobs are done one after another. Cancelling ends the worker and starts another one with the
+// same module, so nothing is compiled twice.
+class Desk {
+    constructor() {
+        this.jobs = new Map();
+        this.count = 0;
+        this.open();
+    }
+
+    open() {
+        this.worker = workers.pop() || new Worker(workerUrl);
+        this.worker.onmessage = ({ data }) => {
+            const job = this.jobs.get(data.number);
+            if (!job) return;
+            if (data.stage) {
+                if (job.tell) job.tell(data.stage);
+                return;
+            }
+            this.jobs.delete(data.number);
+            job.done(data.result);
+        };
+    }
+
+    ask(job, data, tell) {
+        return new Promise((done) => {
+            this.jobs.set(++this.count, { done, tell });
+            this.worker.postMessage({ ...data, number: this.count, job });
+        });
+    }
+
+    cancel() {
+        this.worker.terminate();
+        for (const job of this.jobs.values()) job.done({ isCancelled: true });
+        this.jobs.clear();
+        this.open();
+        return this.ask("start", { module: Desk.module });
+    }
+}
+const textDesk = new Desk(), bookDesk = new Desk();
+const started = textDesk.ask("start", { packed: $("packed").textContent });
+
+// The state: the book is its text, of which table and CSV are two views; `done` is the text of the last good book.
+const state = {
+    text: "", book: readBook(""), slots: 9600, clock: "", fault: "", faults: [],
+    groups: [], verdicts: [], costs: [], done: "", past: [], future: [],
+    pane: "text", row: 0, at: 0, cell: "", zoom: null, air: null,
+};
+const MOST_UNDO = 100, ONE_TYPING = 1200;
+
+// Keeps the book in the browser's own storage, if that is wished, or no longer.
+function keepBook() {
+    try {
+        if (!$("b-keep").checked) {
+            for (const name of ["warnc.book", "warnc.slots"]) localStorage.removeItem(name);
+        } else {
+            localStorage.setItem("warnc.book", state.text);
+            localStorage.setItem("warnc.slots", state.slots);
+        }
+    } catch {
+        $("b-keep").checked = false;
+    }
+}
+
+// Takes a text for the book. Typing within 1.2 s is one step of undo.
+function setBook(text, why = "edit") {
+    if (text === state.text && why !== "load") return;
+    const last = state.past.at(-1), now = performance.now();
+    if (why !== "undo") {
+        const goesOn = why === "typing" && last && last.why === "typing" && now - last.when < ONE_TYPING;
+        if (!goesOn) state.past.push({ text: state.text, why });
+        state.past.at(-1).when = now;
+        if (state.past.length > MOST_UNDO) state.past.shift();
+        state.future = [];
+    }
+    state.text = text;
+    state.book = readBook(text);
+    if ($("b-keep").checked) keepBook();
+    showBook();
+    compute();
+}
+function undo(isRedo) {
+    const [from, to] = isRedo ? [state.future, state.past] : [state.past, state.future], step = from.pop();
+    if (!step) return;
+    to.push({ text: state.text, why: "edit", when: 0 });
+    setBook(step.text, "undo");
+    refreshText();
+}
+
+// Computing the book: the latest one wins; what is under way is left to end if it is young, and ended if not.
+const YOUNG = 800, QUIET = 300, LONG_BOOK = 1e5;
+let wanted = 0, under = 0, since = 0, timer = 0;
+function compute() {
+    clearTimeout(timer);
+    wanted++;
+    timer = setTimeout(work, state.text.length > LONG_BOOK ? 250 : 60);
+}
+function takeResult(result, text) {
+    state.fault = result.fault || "";
+    state.faults = result.faults || [];
+    if (!result.fault) {
+        Object.assign(state, { groups: result.groups, verdicts: result.verdicts, costs: result.costs });
+        Object.assign(state, { air: null, done: text });
+    }
+    showState();
+    showResults();
+    showAir();
+}
+async function work() {
+    if (!Desk.module) return;
+    if (under) {
+        if (performance.now() - since <= YOUNG) return;
+        await stop(false);
+    }
+    const own = under = wanted, began = since = performance.now(), text = state.text;
+    const late = setTimeout(() => { $("busy").hidden = false; }, QUIET);
+    $("bar").removeAttribute("value");
+    const result = await bookDesk.ask("book", { text, slots: state.slots }, (stage) => {
+        $("bar").value = stage - 1;
+        tell(`${say("working")}: ${say(`stage${stage}`)}`, true);
+    });
+    clearTimeout(late);
+    if (result.isCancelled || own !== under) return;
+    $("busy").hidden = true;
+    under = 0;
+    times.book = performance.now() - began;
+    times.firstBook ||= performance.now() - opened;
+    if (own !== wanted) work();
+    takeResult(result, text);
+}
+async function stop(isTold = true) {
+    const started = bookDesk.cancel();
+    under = 0;
+    $("busy").hidden = true;
+    await started;
+    if (!isTold) return;
+    clearTimeout(timer);
+    tell(say("cancelled"), false, node("button", { className: "small", onclick: compute }, say("again")));
+}
+
+let tellTimer = 0;
+function tell(text, isLate, button) {
+    clearTimeout(tellTimer);
+    const now = () => fill($("state"), text, button);
+    if (isLate) tellTimer = setTimeout(now, QUIET);
+    else now();
+}
+function showBadge(id, count, isBad) {
+    $(id).hidden = !count;
+    $(id).textContent = typeof count === "number" && count ? number(count) : count || "";
+    $(id).className = isBad ? "dot bad" : "dot";
+}
+function showState() {
+    const refused = state.verdicts.filter((it) => it.refused.length).length, faults = state.faults.length;
+    const nothing = state.verdicts.filter((it) => it.nothing.length || it.hidden).length;
+    clearTimeout(tellTimer);
+    if (state.fault) {
+        const words = !faults ? say("faultyBook") : faults === 1 ? say("faulty1") : say("faulty", number(faults));
+        fill($("state"), node("b", { className: "badtext" }, `✕ ${words}`));
+    } else {
+        fill($("state"), node("span", { className: "oktext" }, "✓ "),
+            say("good", number(state.book.rows.length), state.book.cells.length),
+            refused ? node("b", { className: "badtext" }, ` · ✕ ${say("nRefused", number(refused))}`) : null,
+            nothing ? node("b", { className: "warntext" }, ` · ! ${say("nNothing", number(nothing))}`) : null);
+    }
+    showBadge("n-book", state.fault ? faults || "!" : nothing, !!state.fault);
+    showBadge("n-air", state.fault ? 0 : refused, true);
+    showSpeed();
+}
+function showSpeed() {
+    $("speed").textContent = say("speed", number(times.first), number(times.text), number(times.book));
+}
+
+const PANES = ["text", "book", "air"];
+function showPane(name, isFocused) {
+    state.pane = name;
+    for (const pane of PANES) {
+        $(`pane-${pane}`).hidden = pane !== name;
+        $(`tab-${pane}`).setAttribute("aria-selected", pane === name);
+        $(`tab-${pane}`).tabIndex = pane === name ? 0 : -1;
+    }
+    if (isFocused) $(`tab-${name}`).focus();
+    ({ text: refreshText, book: showBook, air: showAir })[name]();
+    hideTip();
+}
+
+const HELP = [["Alt+Shift+1 2 3", "k_panes"], ["← ↑ → ↓ Home End", "k_grid"], ["Enter / F2", "k_edit"],
+    ["Ctrl+Enter / Ctrl+Del", "k_row"], ["Ctrl+O / Ctrl+S", "k_file"], ["Ctrl+Z / Ctrl+Y", "k_undo"],
+    ["← → / PgUp PgDn", "k_time"], ["+ / − / 0", "k_zoom"], [", / .", "k_change"]];
+function setWords() {
+    document.documentElement.lang = language ? "de" : "en";
+    document.title = `warnc · ${say("title")}`;
+    for (const it of document.querySelectorAll("[data-s]")) it.textContent = say(it.dataset.s);
+    for (const it of document.querySelectorAll("[data-l]")) it.setAttribute("aria-label", say(it.dataset.l));
+    $("z-prev").textContent = `← ${say("prev")}`;
+    $("z-next").textContent = `${say("next")} →`;
+    for (const [id, key] of [["z-back", "earlier"], ["z-fwd", "later"], ["z-in", "zoomIn"], ["z-out", "zoomOut"]]) {
+        $(id).title = say(key);
+        $(id).setAttribute("aria-label", say(key));
+    }
+    for (const [id, key] of [["open", "O"], ["save", "S"], ["undo", "Z"], ["redo", "Y"]]) {
+        $(`b-${id}`).title = `Ctrl+${key}`;
+    }
+    $("b-cell").placeholder = say("cellHint");
+    $("b-cell").setAttribute("aria-label", say("addCell"));
+    fill($("help-list"), HELP.map(([keys, what]) => (
+        [node("dt", {}, node("kbd", {}, keys)), node("dd", {}, say(what))])));
+    setupText();
+    setupBook();
+    setupAir();
+    showState();
+    showPane(state.pane);
+}
+
+// What the address asks for, as #lang=de&pane=air&theme=dark: for tests and pictures.
+function takeAddress() {
+    const asked = new URLSearchParams(location.hash.slice(1));
+    if (asked.has("lang")) language = asked.get("lang") === "de" ? 1 : 0;
+    $("p-lang").value = language;
+    $("p-theme").value = document.documentElement.dataset.theme = asked.get("theme") || "";
+    if (PANES.includes(asked.get("pane"))) state.pane = asked.get("pane");
+}
+function takeKept() {
+    try {
+        const text = localStorage.getItem("warnc.book");
+        $("b-keep").checked = text !== null;
+        if (text !== null) state.slots = +localStorage.getItem("warnc.slots") || state.slots;
+        return text;
+    } catch {
+        return null;
+    }
+}
+async function begin() {
+    takeAddress();
+    state.text = takeKept() ?? $("flood").textContent;
+    state.book = readBook(state.text);
+    setWords();
+    if (state.pane !== "text") refreshText();
+    tell(say("starting"));
+    const { module, fault } = await started;
+    if (fault) {
+        tell(say("cannotRun", fault));
+        return;
+    }
+    Desk.module = module;
+    bookDesk.ask("start", { module });
+    wanted++;
+    work();
+    const version = await textDesk.ask("run", { text: "", commands: [["--version"]] });
+    $("version").textContent = new TextDecoder().decode(version.out).trim().replace("\n", " · ");
+}
+
+$("p-lang").onchange = () => {
+    language = +$("p-lang").value;
+    setWords();
+};
+$("p-theme").onchange = () => { document.documentElement.dataset.theme = $("p-theme").value; };
+$("p-keys").onclick = () => $("help").showModal();
+$("cancel").onclick = () => stop();
+for (const tab of $("tabs").children) {
+    tab.onclick = () => showPane(tab.dataset.pane);
+    tab.onkeydown = (event) => {
+        const step = { ArrowRight: 1, ArrowLeft: PANES.length - 1 }[event.key];
+        if (!step) return;
+        event.preventDefault();
+        showPane(PANES[(PANES.indexOf(tab.dataset.pane) + step) % PANES.length], true);
+    };
+}
+
+// Keys of the whole page. Alt+1 and Ctrl+1 belong to browsers. In a field its own undo comes first, but for the two
+// texts that are the book's.
+const AIR_KEYS = { "+": "z-in", "-": "z-out", 0: "z-all", ",": "z-prev", ".": "z-next" };
+function actionOf(event) {
+    const { target, key } = event, isControl = (event.ctrlKey || event.metaKey) && !event.altKey;
+    const isTyping = /^(TEXTAREA|INPUT|SELECT)$/.test(target.tagName) && target.type !== "range";
+    const isOfBook = target.id === "b-csv" || (target.id === "t-text" && state.row);
+    if (event.altKey && event.shiftKey && /^Digit[123]$/.test(event.code)) {
+        return () => showPane(PANES[event.code[5] - 1], true);
+    }
+    if (isControl && key === "o") return () => $("b-file").click();
+    if (isControl && key === "s") return () => $("b-save").click();
+    if (isControl && /^[zy]$/i.test(key) && (!isTyping || isOfBook)) return () => undo(key === "y" || event.shiftKey);
+    if (isTyping || isControl || event.altKey) return null;
+    if (key === "?") return () => $("help").showModal();
+    return state.pane === "air" && AIR_KEYS[key] ? () => $(AIR_KEYS[key]).click() : null;
+}
+addEventListener("keydown", (event) => {
+    if (event.key === "Escape") hideTip();
+    const action = actionOf(event);
+    if (!action) return;
+    event.preventDefault();
+    action();
+});

@@ -1,0 +1,76 @@
+// The worker: one job at a time, each made of runs of the program.
+let tapes = null;
+const TEXTS_A_RUN = 2000, MOST_PAGES = 15;
+
+// Returns what `texts` says of each text: its coding, its pages, the room on the last one, and how much of it fits.
+function costsOf(texts, lang) {
+    const costs = [];
+    for (let at = 0; at < texts.length; at += TEXTS_A_RUN) {
+        const rows = texts.slice(at, at + TEXTS_A_RUN).map((text, k) => (
+            rowText(["write", "0", `t${k}`, "0", "0", "0", lang, "2", "1", "0", "*", text])));
+        const said = run(["texts", "--pages", MOST_PAGES], encode(`cell,0,0\n${rows.join("\n")}\n`));
+        costs.push(...tableOf(decode(said.out)));
+    }
+    return costs;
+}
+
+const jobs = {
+    async start({ packed, module }) {
+        program = module || await compiled(packed);
+        return { module: program };
+    },
+
+    // One text: what it costs, and the same text once mended; what each letter costs that the page doesn't know yet;
+    // its blocks, and what a phone shows of each page.
+    text({ text, mended, letters, lang, id, scope, code, update }) {
+        const [cost, other, ...each] = costsOf([text, mended, ...letters], lang);
+        const result = { cost, mendedCost: other, letters: letters.map((letter, k) => [letter, each[k]]) };
+        if (cost.pages === "" || cost.pages === "0" || +cost.pages > MOST_PAGES) return result;
+        const words = ["page", "--lang", lang, "--id", id, "--scope", scope, "--code", code, "--update", update];
+        const lines = decode(run(words, encode(text)).out).split("\n").slice(0, 4 * +cost.pages);
+        return { ...result, blocks: lines, serial: lines[0].slice(2, 6), pages: textsOfPages(lines) };
+    },
+
+    book({ text, slots }, say) {
+        const words = ["--slots", slots, "--workers", 1], octets = encode(text);
+        tapes = null;
+        say(1);
+        const report = run(["report", ...words], octets);
+        if (report.status) return { fault: report.says, faults: tableOf(decode(run(["check"], octets).out)) };
+        say(2);
+        const chart = run(["chart", ...words], octets);
+        if (chart.status) return { fault: chart.says, faults: [] };
+        say(3);
+        const costs = tableOf(decode(run(["texts"], octets).out));
+        const groups = groupsOf(decode(chart.out), decode(report.out));
+        return { groups, verdicts: judge(readBook(text), groups, slots), costs };
+    },
+
+    channel({ text, slots, cell }) {
+        if (!tapes) {
+            const made = run(["compile", "--slots", slots, "--workers", 1], encode(text));
+            if (made.status) return { fault: made.says };
+            tapes = made.out;
+        }
+        return channelOf(tapes, slots, cell);
+    },
+
+    // Runs of the program, each with what the one before it wrote; the last one's status and output.
+    run({ text, commands }) {
+        let made = { status: 0, out: encode(text), says: "" };
+        for (const words of commands) if (!made.status) made = run(words, made.out);
+        return made;
+    },
+};
+
+async function work(data) {
+    let result;
+    try {
+        result = await jobs[data.job](data, (stage) => postMessage({ number: data.number, stage }));
+    } catch (fault) {
+        result = { fault: String((fault && fault.message) || fault) };
+    }
+    postMessage({ number: data.number, result });
+}
+let last = Promise.resolve();
+onmessage = ({ data }) => { last = last.then(() => work(data)); };
