@@ -1,5 +1,5 @@
 -- What the engine writes, and what its faults say.
-use Rattle.std.proofs.Common.{◌≡◌, ◌<◌, ℕ, Bool, true, false, List, Option, None, Some, IfSome, subst, sym}
+use Rattle.std.proofs.Common.{◌≡◌, ℕ, Bool, true, false, List, Option, None, Some, IfSome, subst, sym}
 use Rattle.std.specs.Io.KnownBytes.{Appends}
 use Rattle.device_ends.specs.Moves.{WritesOutput}
 use Rattle.book_remarks.specs.Remarked.{IsRemarkFault, IsRemarked, IsRemarkedFor, IsStopped}

@@ -1,5 +1,5 @@
 -- A book of which nothing is remarked has its orders done.
-use Rattle.std.proofs.Common.{◌≡◌, ◌≢◌, ℕ, zero, suc, ◌+◌, ◌<◌, ◌≤◌, Bool, true, false, cond, Option, None, Some, List}
+use Rattle.std.proofs.Common.{◌≡◌, ℕ, zero, suc, ◌+◌, ◌<◌, ◌≤◌, Bool, true, false, cond, Option, None, Some, List}
 use Rattle.std.proofs.Common.{[], ◌∷◌, ◌++◌, length, map, take, get_or, ap, sym, refl, subst, rules, arith, inl, inr}
 use Rattle.std.proofs.Common.{◌∙◌}
 use Rattle.std.specs.Prelude.{◌==◌, ◌&&◌, ◌||◌, count_by, filter, max, nat_lt}
@@ -21,7 +21,6 @@ use Rattle.book_remarks.specs.declared.mark.Mark.TheVariants as marks
 use Rattle.book_remarks.specs.declared.says.CellMark.{CellMark}
 use Rattle.book_remarks.specs.declared.says.Says.{Says}
 use Rattle.book_remarks.specs.declared.says.Says.TheVariants as says
-use Rattle.book_remarks.specs.declared.remarks.Remark.{Remark}
 use Rattle.book_remarks.specs.Answers.{Column, accepted_after, asks, column_of, is_entry_of, mark_by, mark_of}
 use Rattle.book_remarks.specs.Answers.{mark_of_entry, marks_from, may_ask, names, one_if}
 use Rattle.book_remarks.specs.Laws.{IsKept}

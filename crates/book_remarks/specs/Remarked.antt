@@ -14,7 +14,7 @@ use Rattle.book_remarks.specs.RemarksText.{remarks_text}
 use Rattle.book_remarks.specs.declared.fault.RemarkFault.{RemarkFault}
 use Rattle.book_remarks.specs.declared.fault.RemarkFault.TheVariants as faults
 
--- the octets are a book with a run of so many slots, of which there are this many remarks, and this is their table
+-- the octets are a book with a run of these slots, of which there are this many remarks, and this is their table
 pub record IsRemarked (slots : ℕ) (input : List ℕ) (count : ℕ) (output : List ℕ) : Type 0 where
   pub rows : Rows
   pub read : AreRowsOf input rows

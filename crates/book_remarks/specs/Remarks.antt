@@ -92,7 +92,7 @@ is_refused cause m = is_refusal cause m.mark
 abbrev pub past_says : List CellMark → List Says
 past_says in_cells = if list_any (is_refused CELL_BROADCAST_NOT_OPERATIONAL) in_cells then says.PastTheEnd ∷ [] else []
 
--- any other cause is told once, at the first cell that has it: in how many cells
+-- any other cause is said once, at the first cell that has it, with the number of cells
 abbrev pub new_cause_says : (before in_cells : List CellMark) → (cause : ℕ) → List Says
 new_cause_says before in_cells cause =
     if cause == CELL_BROADCAST_NOT_OPERATIONAL then []

@@ -36,7 +36,7 @@ struct Remarked {
 }
 
 /// Reads a book up to its end, and writes a table as CSV: that of [`check_stream`](book_check::check_stream) if a row
-/// has a fault; else the book is run with one session and so many slots, and what is remarked of it is written
+/// has a fault; else the book is run with one session and `slots` slots, and what is remarked of it is written
 /// ([`remarks_of`]). Nothing is written before all is known.
 ///
 /// # Errors
@@ -51,7 +51,7 @@ pub fn remark_stream<T: AllocGlobal + Threads + Wait + Sync, R: Read, W: Write>(
     slots: u16,
     strict: bool,
 ) -> Result<(), RemarkFault>
-    // What was written is what is told or remarked of the book that was read, at any reader.
+    // What was written is the table of the book that was read, at any reader.
     ensures ok { OnOk result (OutputOfInput R.remaining W.contents (IsRemarkedFor slots strict) source.old sink.old
         sink.new) }
     ensures err { IfErr result (IsRemarkFault slots strict (R.remaining (reader_of source.old))
@@ -161,7 +161,7 @@ fn records_of<T: AllocGlobal + Threads + Wait + Sync>(
     }
 }
 
-/// What is told of a fault of a run.
+/// What a fault of a run comes to.
 fn stop_of(fault: RunFault) -> RemarkFault
     ensures { result ≡ stop_of fault }
 {

@@ -10,7 +10,7 @@ use warnc_run::RunFault;
 /// Why it isn't so that a book has no fault, and no remark if remarks are wanted to be none; or why nobody knows.
 #[derive(Clone, Copy, Debug, PartialEq, Eq, Error)]
 pub enum RemarkFault {
-    /// This many rows have a fault. What is told of them was written.
+    /// This many rows have a fault. Their table was written.
     #[error("faults: {0}")]
     Faults(usize),
     /// The book has more than 16,777,216 octets, which is a fault of no one row.

@@ -41,7 +41,7 @@ fn leaves_out(alloc: Global, cells: &[Cell]) -> Result<String, AllocError>
     Ok(text)
 }
 
-/// The word for so many cells.
+/// The word for this many cells.
 fn cells_word(count: usize) -> &'static str
     ensures { result.now ≡ cells_word count }
 {

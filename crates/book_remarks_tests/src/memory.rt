@@ -42,7 +42,7 @@ fn outcome_of<T: AllocGlobal + Threads + Wait + Sync>(
     (fault.err(), size.saturating_sub(left.len()))
 }
 
-/// Whether the remarks are told, in a room of that many blocks or with all memory, or it is refused memory.
+/// Whether the remarks are written, in a room of that many blocks or with all memory, or it is refused memory.
 fn is_told<T: AllocGlobal + Threads + Wait + Sync>(
     rt: &T,
     room: &mut Room,
@@ -63,8 +63,8 @@ fn is_told<T: AllocGlobal + Threads + Wait + Sync>(
     }
 }
 
-/// How often a book is refused memory until its remarks are told, in rooms of more and more memory. After each refusal
-/// they are told with all memory.
+/// How often a book is refused memory until its remarks are written, in rooms of more and more memory. After each
+/// refusal they are written with all memory.
 fn refusals<T: AllocGlobal + Threads + Wait + Sync>(rt: &T, room: &mut Room) -> Result<u16, Fail> {
     for blocks in 0..Room::MOST {
         if is_told(rt, room, Some(blocks))? {
@@ -74,7 +74,7 @@ fn refusals<T: AllocGlobal + Threads + Wait + Sync>(rt: &T, room: &mut Room) -> 
             return Err(Fail::new("no memory, with all memory"));
         }
     }
-    Err(Fail::new("no remarks are told"))
+    Err(Fail::new("no remarks are written"))
 }
 
 #[test]

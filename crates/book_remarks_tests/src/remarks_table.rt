@@ -8,7 +8,7 @@
 //!
 //! What comes of a book:
 //!
-//! - `run ROWS`: `none`, or what is remarked, its line ends as bars; or the fault and what is told of it;
+//! - `run ROWS`: `none`, or what is remarked, its line ends as bars; or the fault and what was written;
 //! - `strict ROWS`: the same where there are to be no remarks; `line ROWS`: the line of its fault, as the program
 //!   prints it;
 //! - `reads NUMBER ROWS`: the fault where the reader fails after NUMBER calls; `writes NUMBER ROWS`: where the writer

@@ -105,7 +105,7 @@ pub record GivesSlots (words : List (List ℕ)) (slots : ℕ) : Type 0 where
   pub some : 1 ≤ slots
   pub most : slots ≤ 65535
 
--- the words ask for `check` of the rows and of a run of so many slots, which is strict or not
+-- the words ask for `check` of the rows and of a run of this number of slots, which is strict or not
 pub record AsksForRemarks (words : List (List ℕ)) (slots : ℕ) (strict : Bool) : Type 0 where
   pub command : slice_get words 1 ≡ Some (codes "check")
   pub slots_given : GivesSlots words slots

@@ -1,7 +1,6 @@
-use Rattle.std.proofs.Common.{◌≡◌, ◌∙◌, ℕ, List, ap, false, rules, subst, sym}
+use Rattle.std.proofs.Common.{◌≡◌, ℕ, List, false, rules, subst}
 use Rattle.std.specs.Io.KnownBytes.{Appends}
 use Rattle.device_ends.specs.Sink.{writer_of}
-use Rattle.device_ends.specs.Source.{reader_of}
 use Rattle.book_remarks.specs.Remarked.{IsRemarked, IsRemarkedFor}
 use Rattle.book_remarks.proofs.EngineLaws.{lax, unremarked, wrote}
 use Rattle.book_remarks.proofs.check.remark_stream.Goals as goal

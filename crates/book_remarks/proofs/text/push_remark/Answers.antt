@@ -1,4 +1,4 @@
-use Rattle.std.proofs.Common.{◌≡◌, [], ◌∷◌, codes, rules, List, ℕ}
+use Rattle.std.proofs.Common.{◌≡◌, [], ◌∷◌, codes, rules}
 use Rattle.book_remarks.specs.RemarksText.{line, remark_line}
 use Rattle.book_remarks.proofs.text.push_remark.Goals as goal
 
