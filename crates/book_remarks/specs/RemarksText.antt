@@ -4,7 +4,7 @@ use Rattle.std.specs.Fmt.{decimal}
 use Rattle.std.specs.List.{flat_map}
 use Rattle.csv.specs.Writing.{default_writer, row_text}
 use Rattle.cbsp_wire.specs.declared.message.Cell.{Cell}
-use Rattle.chart.specs.ChartText.{cause_words}
+use Rattle.report.specs.Cause.{cause_words}
 use Rattle.book_remarks.specs.declared.says.Says.{Says}
 use Rattle.book_remarks.specs.declared.says.Says.TheVariants as says
 use Rattle.book_remarks.specs.declared.remarks.Remark.{Remark}

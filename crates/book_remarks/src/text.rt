@@ -10,8 +10,8 @@ use crate::remarks::Remark;
 use crate::says::Says;
 use crate::table::Table;
 use cbsp_wire::Cell;
-use chart::cause_words;
 use itoa::Buffer;
+use report::cause_words;
 use std::alloc::{AllocError, Global};
 
 /// A cell, as orders name it.
