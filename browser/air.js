@@ -1,5 +1,6 @@
 // The pane "Air". Each x is a share of the slots that are shown, in hundredths, so nothing is drawn anew when a width
 // changes, but for the marks of broadcasts, which stand only where they are 4 px apart.
+
 // Slots between broadcasts: 15 s, 30 s, 1 min, 2 min. The more often, the stronger the bar.
 const STEPS = [8, 16, 32, 64];
 const MANY = 12, MOST_LINES = 300, MOST_MARKS = 400, LEAST_GAP = 4, LEAST_WINDOW = 16;

@@ -42,6 +42,7 @@ HOSTILE = (
 SPOILT = ("sell,1,1", "cell,1", "write,0", "stop,x,a,*", "write,0,z,1,1,1,xx,1,1,0,*,a",
           "write,0,z,1,1,1,en,1,1,0,*,a\tb")
 COMMANDS = ("report", "chart", "compile", "check", "texts")
+PAGE = "page --lang en --id 4370 --scope 0 --code 1 --update 0".split()
 WIDTHS = (320, 390, 768, 1280, 1920)
 
 
@@ -182,12 +183,13 @@ def texts_cost_what_the_program_says(page, program, count):
     wrong, pages = [], 0
     for seed in range(count):
         rng = random.Random(seed)
-        text = texts_reference.random_text(rng).replace("\r", "")
+        text = texts_reference.random_text(rng).replace("\r", "") + "\n" * (seed % 7 == 0)
         page.run(f"showPane('text'); state.row = 0; draft.text = {json.dumps(text)}; refreshText()")
         page.until("!isAsking")
         said = page.run("""return [$('t-facts').textContent, [...document.querySelectorAll('#t-pages p')].map((it) =>
             it.textContent), [...document.querySelectorAll('#t-back mark')].map((it) => it.textContent).join(''),
-            $('t-text').value, !$('t-fault').hidden]""")
+            $('t-text').value, !$('t-fault').hidden, [...document.querySelectorAll(
+            '#t-pages header span:last-child')].map((it) => it.textContent), $('t-blocks').textContent]""")
         bad, pieces = any(map(texts_reference.is_bad, text)), gsm.pieces_of(text)
         foreign = [it for it in text if not texts_reference.is_gsm(it)]
         if said[3] != text or any(it not in said[2] for it in foreign):
@@ -197,11 +199,17 @@ def texts_cost_what_the_program_says(page, program, count):
                 wrong.append(f"text {seed}: {text!r} can't be sent, and the page has {said[1]}")
             continue
         pages += len(pieces[0])
-        room = (gsm.SEPTETS if pieces[1] else gsm.UNITS) - sum(
-            len(gsm.CODES[it]) if pieces[1] else 1 for it in pieces[0][-1])
-        coding = "GSM 7-bit" if pieces[1] else "UCS-2"
-        if said[1] != pieces[0] or not said[0].startswith(f"Alphabet{coding}") or f"Left{room}on" not in said[0]:
-            wrong.append(f"text {seed}: {text!r}: {said}, wanted {pieces}, {room}")
+        whole, coding = (gsm.SEPTETS, "GSM 7-bit") if pieces[1] else (gsm.UNITS, "UCS-2")
+        used = [sum(len(gsm.CODES[it]) if pieces[1] else 1 for it in one) for one in pieces[0]]
+        if said[1] != pieces[0] or said[5] != [f"{it} of {whole}" for it in used]:
+            wrong.append(f"text {seed}: {text!r}: {said}, wanted {pieces}")
+        if not said[0].startswith(f"Alphabet{coding}") or f"Left{whole - used[-1]}on" not in said[0]:
+            wrong.append(f"text {seed}: {text!r}: {said[0]}")
+        # one LF at the end isn't part of what `page` reads
+        blocks = ran(program, PAGE, f"{text}\n".encode())[1].decode().split("\n")[:4 * len(pieces[0])]
+        shown = [it.replace(" ", "") for it in said[6].split("\n") if it and not it.startswith("Page")]
+        if shown != blocks:
+            wrong.append(f"text {seed}: {text!r}: the blocks are {shown}")
     return wrong, f"{count} texts have the pages ({pages}), the room and the marks of the documents"
 
 

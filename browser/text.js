@@ -87,6 +87,8 @@ function refreshText() {
 function takeText(isTyped) {
     const order = currentOrder(), given = {};
     for (const name of ["id", "scope", "code", "lang", "text"]) given[name] = $(`t-${name}`).value;
+    // what a row has and a list lacks stays
+    for (const name of ["scope", "lang"]) given[name] ||= (order || draft)[name];
     if (!order) Object.assign(draft, given);
     else if (order.verb === "write") editFields(order.row, given, isTyped ? "typing" : "edit");
     else editFields(order.row, { lang: given.lang, text: given.text }, isTyped ? "typing" : "edit");

@@ -27,7 +27,8 @@ const jobs = {
         const result = { cost, mendedCost: other, letters: letters.map((letter, k) => [letter, each[k]]) };
         if (cost.pages === "" || cost.pages === "0" || +cost.pages > MOST_PAGES) return result;
         const words = ["page", "--lang", lang, "--id", id, "--scope", scope, "--code", code, "--update", update];
-        const lines = decode(run(words, encode(text)).out).split("\n").slice(0, 4 * +cost.pages);
+        const input = encode(`${text}\n`); // one LF at the end isn't part of the text
+        const lines = decode(run(words, input).out).split("\n").slice(0, 4 * +cost.pages);
         return { ...result, blocks: lines, serial: lines[0].slice(2, 6), pages: textsOfPages(lines) };
     },
 

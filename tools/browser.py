@@ -12,9 +12,9 @@ The crates have to be proved here (by `rt ci`, tools/build.py or tools/release.p
 The toolchain checks crates/warnc, lowers the whole program to one module of LLVM, and has clang compile it. A clang
 that keeps the module stands here in between. The program that comes of it has to be that of dist/, octet for octet: so
 the module is the one that the proved program was made of. It is written for x86-64. Its head is changed to that of
-WebAssembly with 64-bit memory, which has the same sizes and the same order of octets, and the toolchain's clang
-compiles it for that, and links it with browser/host.c and browser/heap.c. No proof covers this: browser/test.py
-compares the page's outputs with the program's.
+WebAssembly with 64-bit memory, which has the same sizes and the same order of octets, and an instruction with which a
+thread waits is left out. The toolchain's clang compiles it for that, and links it with browser/host.c and
+browser/heap.c. No proof covers this: browser/test.py compares the page's outputs with the program's.
 
 What the manifest says of them: `wasm` and `page` are their sums, and `wasm_program` is that of the program of whose
 module they were made. `wasm_sources` and `page_sources` are the sums of the lines that sha256sum prints of what else
@@ -49,7 +49,7 @@ SOURCES_OF = {
     + [EXAMPLE],
 }
 TARGET = "wasm64-unknown-unknown"
-# the oldest WebAssembly that clang names: what memory64 needs, and no more
+# the WebAssembly that the toolchain writes for this target
 PROCESSOR = "lime1"
 STACK = 1 << 20
 # -O3 makes the program a quarter larger, which a browser takes longer to compile, and runs are no faster
@@ -67,7 +67,7 @@ RETARGETED = (
     (r'"probe-stack"="[^"]*" ?', "", False),
     (r'"stack-probe-size"="[^"]*" ?', "", False),
 )
-# how the toolchain's clang is called for a module
+# what the toolchain gives its clang for a module of this target, and for any
 LOWERED = ("-mllvm", "-expand-div-rem-bits=64", "-mllvm", "-expand-fp-convert-bits=64", "-ffunction-sections",
            "-fdata-sections", "-mllvm", "-trap-unreachable", "-mllvm", "-disable-machine-licm", "-mllvm",
            "-disable-postra-machine-licm", "-mllvm", "-sink-common-insts=false")
