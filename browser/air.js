@@ -86,7 +86,7 @@ function drawStrip(group, isChosen) {
             refused.length ? node("b", { className: "badtext" }, ` ✕ ${say("nRefused", refused.length)}`) : null));
 }
 
-// The load from 0 to 1,000: Firefox leaves out paths whose numbers go to the 232,792,560 of the program's chart.
+// The load from 0 to 1,000, which is a full cell.
 const FULL = 1000;
 function drawLoad(group, [from, to], isTall) {
     const steps = group.loads.map(([slot, share], k) => (

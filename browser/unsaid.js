@@ -1,7 +1,7 @@
 // In a worker: what the page shows and the program doesn't say yet. Which row of the book a line of the report is of,
 // which orders came to nothing, the load as numbers, when a phone shows a message first, the text of each page, and
 // which page is on the channel in a slot. All of it is read of the program's report, chart and tapes (docs/formats.md).
-const WHOLE_CELL = 232792560; // the load of a full cell in the chart
+const WHOLE_CELL = 1008; // the height of a full cell in the chart
 // causes of CBSP with which a cell refuses a stop: not identified, its log is full, the run is over
 const NOT_IDENTIFIED = "02", REFUSALS_OF_STOPS = [NOT_IDENTIFIED, "08", "0a"];
 const SLOT_OCTETS = 92, HEADER_OCTETS = 8, BLOCK_OCTETS = 23, FIRST_BLOCK = 0x20;
@@ -78,7 +78,7 @@ function groupsOf(chart, report) {
     const lines = report.split("\n").slice(1, -1).map((line) => line.split(",")), groups = new Map();
     let at = 0, index = 0;
     for (const part of chart.split("<details open>").slice(1)) {
-        const key = between(part, "<summary>Cell ", "</summary>");
+        const key = between(part, "<summary><h2>Cell ", "</h2>");
         const body = part.slice(part.indexOf("</summary>"), part.indexOf("</details>"));
         let end = at;
         while (end < lines.length && `${lines[end][0]}-${lines[end][1]}` === key) end++;
