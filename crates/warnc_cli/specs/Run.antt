@@ -64,8 +64,8 @@ MayWrite words status = (status ≡ 0) ⊎ ((status ≡ 3)
 abbrev pub WroteFirstGroups : (words : List (List ℕ)) (book input old new : Option (List ℕ)) → Type 0
 WroteFirstGroups words = WroteAs WritesFirstGroups words
 
--- what was written with status 1: nothing, or the differences of `verify` or the faults of `check`, or the first groups
--- of a network
+-- what was written with status 1: nothing, or the differences of `verify` or the faults or remarks of `check`, or the
+-- first groups of a network
 abbrev pub WroteOfRefused : (words : List (List ℕ)) (book input old new : Option (List ℕ)) → Type 0
 WroteOfRefused words book input old new =
     Keeps old new ⊎ (WroteAs WritesDifferences words book input old new ⊎ WroteFirstGroups words book input old new)

@@ -79,10 +79,9 @@ pub fn run_with_book<
 }
 
 /// The same, between the ends. With status 0 what the words ask for is written, with 2 and 4 nothing is, and with 1 the
-/// differences, if the words ask for `verify` and there are some, or the faults, if they ask for `check`, and else
-/// nothing. That is one octet at least, but for
-/// `compile` and `live`, since a book without cells has no tapes, and for the report of a group. Of a network whose run
-/// ends early the first groups are written with 1 and with 4.
+/// differences, if the words ask for `verify` and there are some, or the faults or remarks of `check`, and else
+/// nothing. That is one octet at least, but for `compile` and `live`, since a book without cells has no tapes, and for
+/// the report of a group. Of a network whose run ends early the first groups are written with 1 and with 4.
 pub fn run_between<
     T: AllocGlobal + Threads + Wait + Sync,
     S: AsStr,
