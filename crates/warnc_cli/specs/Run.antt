@@ -64,8 +64,8 @@ MayWrite words status = (status ≡ 0) ⊎ ((status ≡ 3)
 abbrev pub WroteFirstGroups : (words : List (List ℕ)) (book input old new : Option (List ℕ)) → Type 0
 WroteFirstGroups words = WroteAs WritesFirstGroups words
 
--- what was written with status 1: the differences of `verify` or the faults of `check`, and nothing only where they
--- have none to write; the first groups of a network; and nothing by all other commands
+-- what was written with status 1: the differences of `verify` or the faults or remarks of `check`, and nothing only
+-- where they have none to write; the first groups of a network; and nothing by all other commands
 abbrev pub WroteOfRefused : (words : List (List ℕ)) (book input old new : Option (List ℕ)) → Type 0
 WroteOfRefused words book input old new =
     WroteAs KeepsUnseen words book input old new

@@ -198,5 +198,5 @@ fn tapes_give_captures(rt: HostRuntime) -> Result<(), Fail> {
 
 #[test]
 fn captures_give_tapes(rt: HostRuntime) -> Result<(), Fail> {
-    expect_rows(&rt, TAPE, 88)
+    expect_rows(&rt, TAPE, 89)
 }
