@@ -118,8 +118,6 @@ scarce 200 full 2 1 -> refused; done
 all -> worked
 scarce 200 network-full 2 1 -> refused; done
 all -> worked
-scarce-threads 200 full 2 2 -> refused; done
-all -> worked
 ";
 
 /// The tapes, the report and the chart of a network of one group.
