@@ -13,6 +13,7 @@ import subprocess
 import tempfile
 import time
 
+# how long an answer may take, also where other work takes the processors
 SECONDS = 60
 ALT, CONTROL, SHIFT = 1, 2, 8
 
@@ -152,10 +153,14 @@ class Page:
             it.write(self.SETTINGS)
         self.way = self.WAY([self.found(), *(it.format(self.home) for it in self.FLAGS), "about:blank"])
         self.count, self.events, self.path = 0, [], os.path.realpath(path)
-        self.begin()
-        self.size(width, height)
-        self.look(dark)
-        self.go(f"file://{self.path}{'#' if address else ''}{address}")
+        try:
+            self.begin()
+            self.size(width, height)
+            self.look(dark)
+            self.go(f"file://{self.path}{'#' if address else ''}{address}")
+        except Failed:
+            self.leave()
+            raise
 
     def __enter__(self):
         return self
@@ -165,8 +170,13 @@ class Page:
             self.end()
             self.way.process.wait(10)
         except (Failed, OSError, subprocess.TimeoutExpired):
-            self.way.process.kill()
-            self.way.process.wait()
+            pass
+        self.leave()
+
+    def leave(self):
+        """Ends the browser, if it hasn't ended, and removes its profile."""
+        self.way.process.kill()
+        self.way.process.wait()
         self.way.close()
         shutil.rmtree(self.home, ignore_errors=True)
 

@@ -198,12 +198,18 @@ function takeResult(result, text) {
     state.fault = result.fault || "";
     state.faults = result.faults || [];
     if (!result.fault) {
-        Object.assign(state, { groups: result.groups, verdicts: result.verdicts, costs: result.costs });
-        Object.assign(state, { air: null, done: text });
+        Object.assign(state, { groups: result.groups, verdicts: result.verdicts, air: null, done: text });
+        askCosts(text);
     }
     showState();
     showResults();
     showAir();
+}
+async function askCosts(text) { // what the texts of a book cost, once it is shown what becomes of them
+    const { costs } = await bookDesk.ask("costs", { text });
+    if (!costs || text !== state.done) return;
+    state.costs = costs;
+    showResults();
 }
 async function work() {
     if (!Desk.module) return;

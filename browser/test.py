@@ -371,11 +371,14 @@ def files_of_spreadsheets_are_taken(page, _program, _):
     return wrong, f"{len(files)} files of spreadsheets are taken"
 
 
-def texts_of_rows_are_written(page, _program, _):
-    """What is typed in the pane "Text" for a row stands in the book, and mends go there, too."""
-    page.run("$('b-flood').click()")
+def texts_of_rows_are_written(page, program, _):
+    """What is typed in the pane "Text" for a row stands in the book, as do mends; costs stand at the rows."""
+    page.run("state.costs = []; $('b-flood').click()")
     time.sleep(0.15)
-    page.until("!under")
+    page.until("!under && state.costs.length")
+    head, *rows = records(ran(program, ["texts"], release.read(os.path.join(TOP, browser.EXAMPLE)))[1].decode())
+    if page.run("return state.costs") != [dict(zip(head, it)) for it in rows]:
+        return ["the costs of the flood's texts are others"], ""
     page.run("state.row = 13; showPane('text'); $('t-text').focus(); $('t-text').setSelectionRange(0, 4)")
     page.type("Flut, „neu“: ")
     page.until("!isAsking")
@@ -484,11 +487,20 @@ def big_book():
     return "".join(rows)
 
 
+def opened(kind):
+    """Opens the page in a browser; one that doesn't start is started once more."""
+    try:
+        return kind(browser.PAGE, "lang=en&pane=text")
+    except devtools.Failed as why:
+        print(f"browser/test.py: {kind.__name__} is started once more: {why}")
+        return kind(browser.PAGE, "lang=en&pane=text")
+
+
 def test(kind, program, count):
     """Runs all tests in a browser, and returns how many found something wrong."""
     counts = {"passed": 0, "FAILED": 0, "SKIPPED": 0}
-    with kind(browser.PAGE, "lang=en&pane=text") as page:
-        page.until(READY)
+    with opened(kind) as page:
+        page.until(READY, devtools.SECONDS)
         for one, share in TESTS:
             began = time.monotonic()
             try:
@@ -544,7 +556,7 @@ def measure(kind, program):
             for command in ("report", "chart"):
                 ran(program, [command, "--slots", 4096], book.encode())
             native.append(1000 * (time.monotonic() - began))
-        print(f"4,096 rows: report, chart and texts {middle(runs)}, report and chart of the program {middle(native)}")
+        print(f"4,096 rows: report and chart {middle(runs)}, those of the program {middle(native)}")
         opened = page.run("""showPane('book'); const began = performance.now(); showPane('air');
             return [performance.now() - began, document.querySelectorAll('#a-strips li').length]""")
         edits = page.run("""showPane('book'); const taken = [];
@@ -627,7 +639,14 @@ def main(words):
         for kind in kinds:
             measure(kind, program)
         return 0
-    failed = sum(test(kind, program, int(words[1]) if words[1:] else 200) for kind in kinds)
+    failed = 0
+    for kind in kinds:
+        try:
+            opened(kind).__exit__()
+        except devtools.Failed as why:
+            print(f"browser/test.py: {kind.__name__} doesn't start ({why}): SKIPPED the page there")
+            continue
+        failed += test(kind, program, int(words[1]) if words[1:] else 200)
     return 1 if failed else 0
 
 

@@ -42,10 +42,11 @@ const jobs = {
         const chart = run(["chart", ...words], octets);
         if (chart.status) return { fault: chart.says, faults: [] };
         say(3);
-        const costs = tableOf(decode(run(["texts"], octets).out));
         const groups = groupsOf(decode(chart.out), decode(report.out));
-        return { groups, verdicts: judge(readBook(text), groups, slots), costs };
+        return { groups, verdicts: judge(readBook(text), groups, slots) };
     },
+
+    costs: ({ text }) => ({ costs: tableOf(decode(run(["texts"], encode(text)).out)) }),
 
     channel({ text, slots, cell }) {
         if (!tapes) {
