@@ -27,8 +27,6 @@ HELP = ("help", "Prints what a command takes")
 # a range of up to this many numbers is listed in completions
 FEW = 16
 WIDTH = 120
-# the width of a terminal, which --help is wrapped for by hand
-HELP_WIDTH = 80
 
 
 @dataclass
@@ -124,10 +122,6 @@ def unlike(program, commands):
     listed = re.search(r"^Commands:\n((?: +.*\n)+)", said_by(program, "--help"), re.M)[1]
     if [it for it in re.findall(r"^  (\w+)", listed, re.M) if it != HELP[0]] != [it.name for it in commands]:
         yield f"{program} --help lists other commands"
-    for name in ("", *(it.name for it in commands)):
-        for line in said_by(program, *name.split(), "--help").splitlines():
-            if len(line) > HELP_WIDTH and not line.startswith("Usage: "):
-                yield f"{program} {name} --help has a line of {len(line)} columns: {line}"
     for command in commands:
         said = said_by(program, command.name, "--help")
         options = set(re.findall(r"^ +(?:-\w, )?--([\w-]+)", said, re.M)) - {"help"}
