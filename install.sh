@@ -1,6 +1,6 @@
 #!/bin/sh
-# Installs the program of dist/, its man pages and completions for bash, zsh and fish, its page for a browser, and
-# warnc-cap, which needs python3; or removes them again.
+# Installs the program of dist/, its man pages and completions for bash, zsh and fish, its page for a browser,
+# warnc-cap, which needs python3, and the library for programs in C; or removes them again.
 #
 # Usage: ./install.sh [--prefix DIR] [--uninstall]
 #
@@ -51,6 +51,10 @@ list() {
 644 tools/completions/warnc.bash share/bash-completion/completions/warnc
 644 tools/completions/_warnc share/zsh/site-functions/_warnc
 644 tools/completions/warnc.fish share/fish/vendor_completions.d/warnc.fish
+644 dist/libwarnc.a lib/libwarnc.a
+755 dist/libwarnc.so lib/libwarnc.so.1
+644 include/warnc.h include/warnc.h
+644 bindings/python/warnc.py share/warnc/python/warnc.py
 644 LICENSE share/doc/warnc/LICENSE
 644 THIRD-PARTY.md share/doc/warnc/THIRD-PARTY.md
 END
@@ -58,7 +62,9 @@ END
 
 if [ -n "$uninstall" ]; then
     list | while read -r mode file place; do rm -f "$to/$place"; done
-    rmdir "$to/share/doc/warnc" "$to/share/warnc/warnc_cap" "$to/share/warnc" 2> /dev/null || true
+    rm -f "$to/lib/libwarnc.so" "$to/lib/pkgconfig/warnc.pc"
+    rmdir "$to/share/doc/warnc" "$to/share/warnc/warnc_cap" "$to/share/warnc/python" "$to/share/warnc" 2> /dev/null ||
+        true
     echo "warnc is removed from $to"
     exit 0
 fi
@@ -71,6 +77,8 @@ is_listed() {
 }
 is_listed program warnc-x86_64-linux
 is_listed page warnc.html
+is_listed library libwarnc.a
+is_listed library_shared libwarnc.so
 said=$("$here/dist/warnc-x86_64-linux" --version) || {
     echo "install.sh: the program doesn't run here: it needs x86-64 Linux with glibc 2.34 or later" >&2
     exit 1
@@ -81,4 +89,15 @@ list | while read -r mode file place; do
     cp "$here/$file" "$to/$place"
     chmod "$mode" "$to/$place"
 done
+# the name by which a compiler finds the shared library, and what pkg-config says of it
+ln -sf libwarnc.so.1 "$to/lib/libwarnc.so"
+mkdir -p "$to/lib/pkgconfig"
+cat > "$to/lib/pkgconfig/warnc.pc" << END
+prefix=$prefix
+Name: warnc
+Description: pages of GSM cell broadcast messages
+Version: $(sed -n 's/^version //p' "$here/dist/MANIFEST")
+Cflags: -I\${prefix}/include
+Libs: -L\${prefix}/lib -lwarnc
+END
 echo "$(printf '%s\n' "$said" | head -n 1) is installed in $to/bin"

@@ -26,6 +26,19 @@ DOCUMENTS = ("README.md", "CHANGELOG.md", "LICENSE", "SECURITY.md", "THIRD-PARTY
 COMPLETIONS = {"tools/completions/warnc.bash": "usr/share/bash-completion/completions/warnc",
                "tools/completions/_warnc": "usr/share/zsh/vendor-completions/_warnc",
                "tools/completions/warnc.fish": "usr/share/fish/vendor_completions.d/warnc.fish"}
+# What programs in C need: files, and where a Debian package has them.
+LIBRARIES = "usr/lib/x86_64-linux-gnu"
+LIBRARY = {"dist/libwarnc.a": f"{LIBRARIES}/libwarnc.a", "dist/libwarnc.so": f"{LIBRARIES}/libwarnc.so.1",
+           "include/warnc.h": "usr/include/warnc.h",
+           "bindings/python/warnc.py": "usr/lib/python3/dist-packages/warnc.py"}
+PKG_CONFIG = """\
+prefix=/usr
+Name: warnc
+Description: pages of GSM cell broadcast messages
+Version: {version}
+Cflags: -I${{prefix}}/include
+Libs: -lwarnc
+"""
 CONTROL = """\
 Package: warnc
 Version: {version}
@@ -76,7 +89,9 @@ def debian_files():
     for name in ("warnc.1", "warnc-book.5"):
         pressed = gzip.compress(read(f"docs/{name}"), 9, mtime=0)
         files[f"usr/share/man/man{name[-1]}/{name}.gz"] = (0o644, pressed)
-    files.update({place: (0o644, read(it)) for it, place in COMPLETIONS.items()})
+    files.update({place: (0o644, read(it)) for it, place in {**COMPLETIONS, **LIBRARY}.items()})
+    said = PKG_CONFIG.format(version=release.written_manifest()["version"])
+    files[f"{LIBRARIES}/pkgconfig/warnc.pc"] = (0o644, said.encode())
     files.update({f"{docs}/{it}": (0o644, read(it)) for it in DOCUMENTS if it != "LICENSE"})
     pages = [it for it in listed("docs") if not it.endswith((".1", ".5"))]
     files.update({f"{docs}/{it.removeprefix('docs/')}": (0o644, read(it)) for it in pages})
@@ -104,6 +119,10 @@ def make_debian(folder, version, time):
         os.chmod(room, 0o755)
         for path, (mode, octets) in files.items():
             put(room, path, mode, octets, time)
+        # the name by which a compiler finds the shared library
+        link = os.path.join(room, LIBRARIES, "libwarnc.so")
+        os.symlink("libwarnc.so.1", link)
+        os.utime(link, (time, time), follow_symlinks=False)
         for place, folders, _ in os.walk(room, topdown=False):
             for it in (*(os.path.join(place, one) for one in folders), place):
                 os.chmod(it, 0o755)
@@ -116,7 +135,8 @@ def make_debian(folder, version, time):
 def make_tar(folder, version, time):
     """Makes the tar file, and returns its name."""
     name = f"warnc-{version}-x86_64-linux.tar.gz"
-    paths = [*DOCUMENTS, "install.sh", "dist/MANIFEST", "dist/warnc-x86_64-linux", "dist/warnc.html", *COMPLETIONS]
+    paths = [*DOCUMENTS, "install.sh", "dist/MANIFEST", "dist/warnc-x86_64-linux", "dist/warnc.html", *COMPLETIONS,
+             *LIBRARY]
     paths += [*listed("docs"), *listed("examples"), *listed("cap")]
     octets = io.BytesIO()
     with tarfile.open(fileobj=octets, mode="w", format=tarfile.PAX_FORMAT) as tar:

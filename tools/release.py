@@ -10,8 +10,8 @@ It fails if dist/ isn't of this tree, or if the two programs differ.
 
 A line of the manifest is a key and a value. `sources` is the sum of crates.txt, HANDLES, and all files of src/, specs/
 and proofs/ of the crates that `crates` names: that of the lines that sha256sum prints of them, sorted. `program` is the
-sum of the program, and `manifest` that of the lines above it; tools/browser.py says what those of the page are. All
-sums are SHA-256.
+sum of the program, and `manifest` that of the lines above it; tools/browser.py says what those of the page are, and
+tools/library.py what those of the library. All sums are SHA-256.
 """
 import hashlib
 import os
@@ -29,6 +29,8 @@ RELEASED = os.path.join(DIST, "warnc-x86_64-linux")
 NAMED = os.path.join(DIST, "warnc")
 MANIFEST = os.path.join(DIST, "MANIFEST")
 PARTS = ("src", "specs", "proofs")
+# the crate of what programs in C call
+LIBRARY = "warnc_c"
 COMMAND_LINE = os.path.join("crates", "warnc_cli", "src", "command.rt")
 
 
@@ -136,11 +138,11 @@ def write():
         with open(path, "wb") as it:
             it.write(program)
         os.chmod(path, 0o755)
-    # what is said of the page stays: it names the program that the page is of
-    of_page = {key: it for key, it in written_manifest().items() if key.startswith(("wasm", "page"))}
-    write_manifest({**manifest_of(TOP, program), **of_page})
+    # what is said of the page and of the library stays: it names what they are of
+    others = {key: it for key, it in written_manifest().items() if key.startswith(("wasm", "page", "library"))}
+    write_manifest({**manifest_of(TOP, program), **others})
     print(f"{os.path.relpath(RELEASED)}: {len(program)} octets, {sum_of(program)}")
-    if of_page.get("wasm_program") != sum_of(program):
+    if others.get("wasm_program") != sum_of(program):
         print("release: dist/warnc.html is of another program: run tools/browser.py")
     return 0
 
@@ -156,18 +158,20 @@ def compare(folder):
 def check():
     """Proves and builds the program from nothing in a folder of its own, and compares it with that of dist/."""
     with tempfile.TemporaryDirectory(prefix="warnc-release-") as folder:
-        crates = sorted(crates_below(PROGRAM))
+        crates = sorted({*crates_below(PROGRAM), *crates_below(LIBRARY)})
         copy = copy_checkout(os.path.join(folder, "checkout"), crates)
         for crate in crates:
             shutil.rmtree(os.path.join(copy, "crates", crate, "must-fail"), ignore_errors=True)
         done = subprocess.run(["rt", "ci", "--anew"], cwd=copy, stdin=subprocess.DEVNULL, check=False)
-        return 0 if done.returncode == 0 and compare(copy) and compare_page(copy) else 1
+        return 0 if done.returncode == 0 and compare(copy) and compare_others(copy) else 1
 
 
-def compare_page(folder):
-    """Makes the program for a browser of what was proved in a checkout, and compares it, and the page, with dist/."""
+def compare_others(folder):
+    """Makes the program for a browser and the library of what was proved in a checkout, and compares them, and the
+    page, with dist/."""
     import browser  # pylint: disable=import-outside-toplevel,cyclic-import
-    return browser.check(folder)
+    import library  # pylint: disable=import-outside-toplevel,cyclic-import
+    return browser.check(folder) and library.check(folder)
 
 
 def main(words):

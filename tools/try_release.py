@@ -30,7 +30,7 @@ def copy_of(folder):
     """Copies what is released and its sources to a checkout without git, and returns it."""
     crates = sorted(release.crates_below(release.PROGRAM))
     released = ("warnc", "dist/MANIFEST", "dist/warnc-x86_64-linux", "dist/warnc", "dist/warnc.html",
-                "dist/warnc.wasm", "examples/book.csv")
+                "dist/warnc.wasm", "dist/libwarnc.a", "dist/libwarnc.so", "examples/book.csv")
     for path in (*release.sources(TOP, crates), *released):
         os.makedirs(os.path.join(folder, os.path.dirname(path)), exist_ok=True)
         shutil.copy2(os.path.join(TOP, path), os.path.join(folder, path))
@@ -78,6 +78,13 @@ def sees_a_changed_page(folder):
     before = says_faults(copy, "browser")
     change(os.path.join(copy, "dist", "warnc.html"))
     return before == "[]" and "dist/warnc.html isn't that of dist/MANIFEST" in says_faults(copy, "browser")
+
+
+def sees_a_changed_library(folder):
+    copy = copy_of(folder)
+    before = says_faults(copy, "library")
+    change(os.path.join(copy, "dist", "libwarnc.a"))
+    return before == "[]" and "dist/libwarnc.a isn't that of dist/MANIFEST" in says_faults(copy, "library")
 
 
 def sees_a_changed_manifest(folder):
@@ -132,11 +139,36 @@ def installs(folder):
     there = {os.path.relpath(os.path.join(place, it), folder) for place, _, files in os.walk(folder) for it in files}
     wanted = {"bin/warnc", "bin/warnc-cap", "share/warnc/warnc.html", "share/warnc/warnc_cap/command.py",
               "share/man/man1/warnc.1", "share/man/man5/warnc-book.5", "share/bash-completion/completions/warnc",
-              "share/zsh/site-functions/_warnc", "share/fish/vendor_completions.d/warnc.fish"}
+              "share/zsh/site-functions/_warnc", "share/fish/vendor_completions.d/warnc.fish", "include/warnc.h",
+              "lib/libwarnc.a", "lib/libwarnc.so.1", "lib/libwarnc.so", "lib/pkgconfig/warnc.pc",
+              "share/warnc/python/warnc.py"}
     good = put.returncode == 0 and {f"prefix/{it}" for it in wanted} <= there
-    good = good and row(os.path.join(folder, "prefix", "bin", "warnc"))
+    good = good and row(os.path.join(folder, "prefix", "bin", "warnc")) and compiles(os.path.join(folder, "prefix"))
     removed = ran([*words, "--uninstall"])
     return good and removed.returncode == 0 and not any(files for _, _, files in os.walk(folder))
+
+
+def compiles(prefix):
+    """What docs/library.md prints is compiled with the library that was installed there, as pkg-config says."""
+    compiler = shutil.which("gcc") or shutil.which("cc")
+    if compiler is None:
+        print("try_release: there is no compiler of C: SKIPPED the library that is installed")
+        return True
+    text = release.read(os.path.join(TOP, "docs", "library.md")).decode()
+    source, made = (os.path.join(prefix, it) for it in ("page.c", "page"))
+    with open(source, "w", encoding="utf-8") as it:
+        it.write(re.search(r"```c\n(.*?)```", text, re.S)[1])
+    with open(os.path.join(prefix, "lib", "pkgconfig", "warnc.pc"), encoding="utf-8") as it:
+        said = it.read().replace("${prefix}", prefix)
+    words = re.search("Cflags: (.*)", said)[1].split() + [source] + re.search("Libs: (.*)", said)[1].split()
+    built = ran([compiler, *words, "-o", made])
+    places = {"LD_LIBRARY_PATH": os.path.join(prefix, "lib")}
+    shown = ran([made], environment=places) if built.returncode == 0 else built
+    wanted = re.search(r"It prints\n\n((?:    .*\n)+)", text)[1].replace("    ", "")
+    for path in (source, made):
+        if os.path.exists(path):
+            os.remove(path)
+    return shown.returncode == 0 and shown.stdout == wanted
 
 
 def packages_are_the_same(folder):
@@ -176,7 +208,8 @@ def tar_installs(folder):
     return done.returncode == 0 and put.returncode == 0 and row(os.path.join(folder, "prefix", "bin", "warnc"))
 
 
-TRIES = (sees_a_changed_program, sees_a_changed_page, sees_a_changed_manifest, builds_where_a_source_was_changed,
+TRIES = (sees_a_changed_program, sees_a_changed_page, sees_a_changed_library,
+         sees_a_changed_manifest, builds_where_a_source_was_changed,
          runs_with_coreutils_alone, installs, packages_are_the_same, package_runs, tar_installs)
 
 

@@ -7,4 +7,4 @@
 
 pub mod page;
 pub mod read;
-mod table;
+pub mod table;
