@@ -211,8 +211,17 @@ def live(bench, runs="200"):
           "each shows what its book means")
 
 
-MEASURES = {"cell": cell, "compile": compile_books, "live": live, "network": network, "pack": pack, "read": read,
-            "verify": verify}
+def library(bench):
+    """`warnc_paginate` of dist/libwarnc.a beside plain C (library/plain.c), by texts of four kinds: microseconds a
+    call, and how many times as long the proved one takes. It needs a compiler of C. Ten seconds."""
+    made = bench.path("bench")
+    files = [os.path.join(TOP, it) for it in ("library/bench.c", "library/plain.c", "dist/libwarnc.a")]
+    subprocess.run(["cc", "-O2", "-I", os.path.join(TOP, "include"), *files, "-o", made], check=True)
+    subprocess.run([made], check=True)
+
+
+MEASURES = {"cell": cell, "compile": compile_books, "library": library, "live": live, "network": network,
+            "pack": pack, "read": read, "verify": verify}
 
 
 def document():

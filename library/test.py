@@ -281,6 +281,10 @@ def try_c(program, runs):
             checked = Lines("valgrind", "-q", "--error-exitcode=9", "--leak-check=full", lines.words[-1])
             try_texts(checked, program, random.Random(5), runs // 32)
             print(f"library: {runs // 32} texts under valgrind")
+        others = [os.path.join(TOP, "library", it) for it in ("bench.c", "plain.c", "heap.c")]
+        words = [compiler, *WARNINGS, "-I", os.path.join(TOP, "include"), "-fsyntax-only", *others]
+        if subprocess.run(words, check=False).returncode:
+            raise Differs("files of library/ aren't plain C")
         plus = shutil.which("g++") or shutil.which("c++")
         header = os.path.join(TOP, "include", "warnc.h")
         if plus and subprocess.run([plus, "-Wall", "-Werror", "-fsyntax-only", "-x", "c++", header], check=False).returncode:
