@@ -5,8 +5,8 @@
 Usage: capture_reference.py [--used] [--channel 51|52] < tapes > air.pcap
        capture_reference.py --back LAC-CI SLOTS [IPV4] < air.pcap > tape
        capture_reference.py --compare PROGRAM [RUNS]     random tapes there and back, with packets that are put in order
-                                                         anew, doubled, dropped, foreign or cut; each file is made by
-                                                         both programs
+                                                         anew, doubled, dropped, foreign or cut, in the classic format
+                                                         and in pcapng; each file is made by both programs
        capture_reference.py --tshark PROGRAM < tapes     what tshark shows of the captures that a built program makes,
                                                          beside what its `read` shows: identifiers, serial numbers and
                                                          texts of pages
@@ -26,7 +26,10 @@ from gsm import Refused
 LINKS = (0, 1, 101, 108, 113, 228, 276)
 TAGS = (b"\x81\x00", b"\x88\xa8")
 IPV4 = b"\x08\x00"
+# of pcapng: the type of a section header, which is the same in either order, and its magic number; types of blocks
 PCAPNG = b"\x0A\x0D\x0D\x0A"
+ORDERS = {b"\x4D\x3C\x2B\x1A": "<", b"\x1A\x2B\x3C\x4D": ">"}
+INTERFACE, OLD_PACKET, SIMPLE_PACKET, PACKET = 1, 2, 3, 6
 FRAMES = 51 * 26 * 2048
 SLOTS = FRAMES // 51 // 8
 CHANNELS = {51: 15, 52: 12}
@@ -85,22 +88,27 @@ def capture_of(octets, used=False, channel=15):
 
 
 def packets_of(octets):
-    """Returns the link type and an iterator over the packets."""
+    """Returns an iterator over the packets: their number, link type and octets."""
+    if octets[:4] == PCAPNG:
+        return each_in_blocks(octets)
     if len(octets) < 24:
         raise Refused("not a capture file")
     for order in "<>":
         if struct.unpack_from(order + "I", octets)[0] in (0xA1B2C3D4, 0xA1B23C4D):
             break
     else:
-        raise Refused("capture is pcapng: editcap -F pcap makes one that is read" if octets[:4] == PCAPNG else
-                      "not a capture file")
+        raise Refused("not a capture file")
     link = struct.unpack_from(order + "I", octets, 20)[0]
     if link not in LINKS:
-        raise Refused(f"unknown link type {link}: known are 0, 1, 101, 108, 113, 228 and 276")
-    return link, each_packet(octets, order)
+        raise Refused(unknown(link))
+    return each_packet(octets, order, link)
 
 
-def each_packet(octets, order):
+def unknown(link):
+    return f"unknown link type {link}: known are 0, 1, 101, 108, 113, 228 and 276"
+
+
+def each_packet(octets, order, link):
     place, number = 24, 0
     while place < len(octets):
         number += 1
@@ -110,8 +118,53 @@ def each_packet(octets, order):
         place += 16
         if len(octets) - place < size:
             raise Refused(f"packet {number}: capture is short")
-        yield number, octets[place:place + size]
+        yield number, link, octets[place:place + size]
         place += size
+
+
+def each_in_blocks(octets):
+    """The packets of a file of pcapng. A fault names the packet that would be next."""
+    place, number, order, faces = 0, 0, "", []
+    while place < len(octets):
+        kind, order, body = block_at(octets, place, order, number + 1)
+        place += 12 + len(body)
+        try:
+            if kind == struct.unpack(order + "I", PCAPNG)[0]:
+                struct.unpack_from(order + "IHHQ", body)
+                faces = []
+            elif kind == INTERFACE:
+                faces.append(struct.unpack_from(order + "HHI", body))
+            elif kind in (PACKET, OLD_PACKET):
+                words = struct.unpack_from(order + ("IQII" if kind == PACKET else "HHQII"), body)
+                link = faces[words[0]][0]
+                if words[-2] > len(body) - 20:
+                    raise IndexError
+                number += 1
+                yield number, link, body[20:20 + words[-2]]
+            elif kind == SIMPLE_PACKET:
+                size = struct.unpack_from(order + "I", body)[0]
+                link, _, longest = faces[0]
+                number += 1
+                yield number, link, body[4:][:min(size, longest or size)]
+        except (struct.error, IndexError):
+            raise Refused(f"packet {number + 1}: wrong block") from None
+
+
+def block_at(octets, place, order, number):
+    """Returns the type of the block at a place, the order of its numbers, and its body."""
+    head = octets[place:place + 12]
+    if len(head) < 12:
+        raise Refused(f"packet {number}: capture is short")
+    if head[:4] == PCAPNG:
+        order = ORDERS.get(head[8:])
+    kind, size = struct.unpack_from((order or "<") + "II", head)
+    if not order or size < 12 or size % 4 != 0:
+        raise Refused(f"packet {number}: wrong block")
+    if place + size > len(octets):
+        raise Refused(f"packet {number}: capture is short")
+    if struct.unpack_from(order + "I", octets, place + size - 4)[0] != size:
+        raise Refused(f"packet {number}: wrong block")
+    return kind, order, octets[place + 8:place + size - 4]
 
 
 def internet_in(link, octets):
@@ -172,9 +225,10 @@ def block_in(link, octets, source, channel):
 
 
 def tape_of(octets, lac, cell, slots, source=None, channel=None):
-    link, packets = packets_of(octets)
     blocks, first, last = {}, None, None
-    for number, inside in packets:
+    for number, link, inside in packets_of(octets):
+        if link not in LINKS:
+            raise Refused(f"packet {number}: {unknown(link)}")
         found = block_in(link, inside, source, channel)
         if found is None:
             continue
@@ -246,10 +300,11 @@ def random_file(rng, tape):
     """A capture of a tape with another header, order, time and disturbance."""
     order, magic = rng.choice("<>"), rng.choice([0xA1B2C3D4, 0xA1B23C4D])
     link = rng.choice(LINKS)
-    _, packets = packets_of(capture_of(tape, rng.random() < 0.3, rng.choice([12, 15])))
-    inside = [octets for _, octets in packets]
+    inside = [it for _, _, it in packets_of(capture_of(tape, rng.random() < 0.3, rng.choice([12, 15])))]
     if rng.random() < 0.7:
         inside = disturbed(rng, inside)
+    if rng.random() < 0.5:
+        return random_blocks(rng, inside)
     inside = [linked(rng, link, it) for it in inside]
     out = file_header(order, magic, link) + b"".join(packet(it, (rng.randrange(1 << 32), 7), order) for it in inside)
     if rng.random() < 0.1:
@@ -259,6 +314,70 @@ def random_file(rng, tape):
     if rng.random() < 0.02:
         out = out[:20] + rng.randbytes(4) + out[24:]
     return out
+
+
+def block_of(order, kind, body):
+    body += bytes(-len(body) % 4)
+    size = struct.pack(order + "I", 12 + len(body))
+    return struct.pack(order + "I", kind) + size + body + size
+
+
+def options(rng, order):
+    """A few options of a block, at times with their end."""
+    out = b""
+    for _ in range(rng.choice([0, 0, 1, 2])):
+        value = rng.randbytes(rng.randrange(9))
+        out += struct.pack(order + "HH", rng.randrange(1, 20), len(value)) + value + bytes(-len(value) % 4)
+    return out + rng.choice([b"", bytes(4)]) if out else out
+
+
+def random_blocks(rng, inside):
+    """A file of pcapng of IPv4 packets: sections of both orders, interfaces of several link types, blocks of other
+    types, and all kinds of packet blocks; at times a block that contradicts itself."""
+    out, order, faces = [], "", []
+    for it in inside:
+        if not order or rng.random() < 0.02:
+            order, faces = rng.choice("<>"), []
+            length = rng.choice([2 ** 64 - 1, rng.randrange(2 ** 20)])
+            body = struct.pack(order + "IHHQ", 0x1A2B3C4D, 1, rng.choice([0, 2]), length)
+            out.append(block_of(order, struct.unpack(order + "I", PCAPNG)[0], body + options(rng, order)))
+        while not faces or rng.random() < 0.1:
+            link = rng.choice(LINKS) if rng.random() < 0.9 else rng.randrange(65536)
+            faces.append((link, rng.choice([0, 0, 65535, 262144, rng.randrange(200)])))
+            body = struct.pack(order + "HHI", faces[-1][0], rng.randrange(65536), faces[-1][1])
+            out.append(block_of(order, INTERFACE, body + options(rng, order)))
+        if rng.random() < 0.1:
+            other = rng.choice([0, 4, 5, 7, 10, 0xBAD, 0x40000BAD, 0x80000001, rng.randrange(11, 2 ** 32)])
+            out.append(block_of(order, other, rng.randbytes(4 * rng.randrange(9))))
+        known = [at for at, face in enumerate(faces) if face[0] in LINKS and (face[1] == 0 or face[1] > 200)]
+        at = rng.choice(known) if known and rng.random() < 0.995 else rng.randrange(len(faces))
+        out.append(packet_block(rng, order, faces, at, it))
+    if out and rng.random() < 0.2:
+        at = rng.randrange(len(out))
+        out[at] = spoilt(rng, out[at])
+    octets = b"".join(out)
+    return octets[:rng.randrange(len(octets) + 1)] if rng.random() < 0.1 else octets
+
+
+def packet_block(rng, order, faces, at, octets):
+    """A block of one of the three kinds, of the interface of this number, or of number 0."""
+    kind = rng.choice([PACKET, PACKET, PACKET, OLD_PACKET, SIMPLE_PACKET if faces[0][0] in LINKS else PACKET])
+    link, longest = faces[0 if kind == SIMPLE_PACKET else at]
+    octets = linked(rng, link if link in LINKS else 101, octets)
+    kept = octets[:longest or len(octets)]
+    if kind == SIMPLE_PACKET:
+        return block_of(order, kind, struct.pack(order + "I", len(octets)) + kept)
+    first = struct.pack(order + "I", at) if kind == PACKET else struct.pack(order + "HH", at, rng.randrange(9))
+    body = first + struct.pack(order + "III", rng.randrange(1 << 20), rng.randrange(1 << 32), len(kept))
+    body += struct.pack(order + "I", len(octets)) + kept + bytes(-len(kept) % 4)
+    return block_of(order, kind, body + options(rng, order))
+
+
+def spoilt(rng, block):
+    """A block with another number at one of its ends or in its front, or without some of its octets."""
+    at = rng.choice([0, 4, 8, 12, 20, len(block) - 4])
+    change = rng.choice([rng.randbytes(4), bytes([block[at % len(block)] ^ 1]), bytes(4), b"\0\0\0\1", b"\xff" * 4])
+    return rng.choice([block[:at] + change + block[at + len(change):], block[:at] + block[at + 4:]])
 
 
 def ran(program, words, octets):

@@ -109,10 +109,10 @@ TEXT_FAULT = r"unknown language|text is empty|bad character at \d+|too many page
 ROW_FAULT = (r"row 0: too many rows|row [1-9]\d*: (?:columns|verb|number|unknown cell|named twice|unknown name"
              rf"|too many updates|too many rows|{TEXT_FAULT})")
 TAPE_FAULT = "tape is short|tape is long"
+LINK_FAULT = r"unknown link type \d+: known are 0, 1, 101, 108, 113, 228 and 276"
 FAULTS = {"page": TEXT_FAULT + "|text is not UTF-8|text is too long", "read": TAPE_FAULT, "pcap": TAPE_FAULT,
-          "tape": r"not a capture file|capture is pcapng: editcap -F pcap makes one that is read"
-                  r"|unknown link type \d+: known are 0, 1, 101, 108, 113, 228 and 276"
-                  r"|packet [1-9]\d*: (?:capture is short|block differs|steps back)",
+          "tape": rf"not a capture file|{LINK_FAULT}"
+                  rf"|packet [1-9]\d*: (?:{LINK_FAULT}|capture is short|wrong block|block differs|steps back)",
           "verify": rf"{ROW_FAULT}|{TAPE_FAULT}|differences: [1-9]\d*", **dict.fromkeys(OF_BOOKS, ROW_FAULT),
           "check": r"row 0: too many rows|(?:faults|remarks): [1-9]\d*", "texts": ROW_FAULT}
 DIFFERENCE = re.compile(

@@ -1,5 +1,6 @@
 pub mod Chunks
 pub mod TapeSteps
 pub mod SomeOutput
+pub mod PieceSteps
 pub mod PacketSteps
 pub mod ThereAndBack

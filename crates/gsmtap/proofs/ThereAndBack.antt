@@ -1,15 +1,16 @@
 -- The tape of the capture of a tape is the tape.
 use Rattle.std.proofs.Common.{◌≡◌, ℕ, ◌+◌, ◌*◌, ◌%◌, ◌<◌, ◌^◌, List, [], ◌∷◌, ◌++◌, length, map, take, drop, refl}
 use Rattle.std.proofs.Common.{suc, sym, ap, ◌∙◌, arith, append_assoc, append-nil, Option, Some, None, Result, Ok}
-use Rattle.std.proofs.Common.{replicate, Err, lit<}
+use Rattle.std.proofs.Common.{replicate, Err, lit<, lit≤, inl, subst}
 use Rattle.std.specs.List.{flat_map, AllByRecursion, slice_get}
 use Rattle.std.specs.Prelude.{slice_set, nat_lt, true}
 use Rattle.cbsp_wire.specs.declared.message.Cell.{Cell}
 use Rattle.gsmtap.specs.TapeOfCapture.{after_packet, after_packets, after_sent, blocks_in, nothing_known, taken}
 use Rattle.gsmtap.specs.declared.track.Track.{Track}
 use Rattle.byteorder.specs.Numbers.{big_number-reads_back}
-use Rattle.gsmtap.specs.File.{ArePackets, IsPacket, Packet, length_said, link_of, octets_of_packet, octets_of_packets}
-use Rattle.gsmtap.specs.File.{octet_order_of}
+use Rattle.gsmtap.specs.File.{Packet, link_number, link_numbered, octet_order_of}
+use Rattle.gsmtap.specs.Pieces.{BringAll, Brings, packets_in as brought_in}
+use Rattle.gsmtap.specs.Section.{Section}
 use Rattle.std.proofs.lemmas.Grind.{flat_map-append}
 use Rattle.gsmtap.specs.Capture.{blocks_in_slot, file_header, packets_of_blocks, packets_of_slot, packets_of_slots}
 use Rattle.gsmtap.specs.declared.capture.Slots.TheVariants.{All}
@@ -21,14 +22,13 @@ use Rattle.gsmtap.specs.declared.tape.Sender.{Sender}
 use Rattle.gsmtap.specs.declared.tape.Wanted.{Wanted}
 use Rattle.handset.specs.Tape.{cell_in, octets_of_blocks, tape_octets}
 use Rattle.gsmtap.specs.declared.fault.AirFaultKind.{AirFaultKind}
-use Rattle.gsmtap.specs.declared.file.Link.{Link}
-use Rattle.gsmtap.specs.declared.file.OctetOrder.{OctetOrder}
 use Rattle.gsmtap.specs.Packet.{datagram_header, frame_number, internet_header, packet, record_header, tap_header}
 use Rattle.std.proofs.lemmas.List.{length-append, length_push, take_all}
 use Rattle.gsmtap.specs.Track.{Known, ahead, followed, nearest, place_in, put, put_at, slot_of_frame, with_block}
 use Rattle.gsmtap.specs.Tap.{anyone, block_of, datagram_of, internet_of, payload_of, sent_in}
 use Rattle.gsmtap.specs.declared.file.Link.TheVariants.{Internet}
 use Rattle.gsmtap.specs.declared.file.OctetOrder.TheVariants.{LowFirst}
+use Rattle.gsmtap.specs.declared.pieces.Format.TheVariants.{Classic}
 use Rattle.gsmtap.specs.declared.packet.Channel.{Channel}
 use Rattle.gsmtap.specs.declared.packet.Channel.TheVariants.{BesideSdcch4, BesideSdcch8}
 use Rattle.gsmtap.specs.declared.packet.Place.{Place}
@@ -37,7 +37,7 @@ header_order : octet_order_of file_header ≡ Some LowFirst
 unfolding file_header
 header_order = refl
 
-header_link : link_of LowFirst file_header ≡ Some Internet
+header_link : link_number LowFirst file_header ≡ 228
 unfolding file_header
 header_link = refl
 
@@ -49,19 +49,6 @@ header_long = refl
 abbrev pub inside_of : Channel → Place → List ℕ → List ℕ
 inside_of channel place block =
     internet_header place ++ datagram_header ++ tap_header channel place ++ block
-
-inside_long : (channel : Channel) (place : Place) (block : List ℕ) → length block ≡ 23 →
-    length (inside_of channel place block) ≡ 67
-unfolding internet_header datagram_header tap_header
-inside_long channel place block long = rw long refl
-
-record_said : (place : Place) → length_said LowFirst (record_header place) ≡ 67
-unfolding record_header
-record_said place = refl
-
-record_long : (place : Place) → length (record_header place) ≡ 16
-unfolding record_header
-record_long place = refl
 
 frame_fits : (channel : Channel) (place : Place) → frame_number channel place < 256 ^ 4
 frame_fits channel place = omega arith
@@ -101,18 +88,22 @@ sent_there channel place block long =
 
 -- a packet of the capture
 abbrev pub packet_at : Channel → Place → List ℕ → Packet
-packet_at channel place block = record { header = record_header place; octets = inside_of channel place block }
+packet_at channel place block = record { link = 228; octets = inside_of channel place block }
 
-packet_is : (channel : Channel) (place : Place) (block : List ℕ) →
-    octets_of_packet (packet_at channel place block) ≡ packet channel place block
+-- the section that the capture is
+abbrev pub whole_file : Section
+whole_file = record { format = Classic 228; order = LowFirst; interfaces = [] }
+
+packet_brings : (channel : Channel) (place : Place) (block : List ℕ) → length block ≡ 23 →
+    Brings whole_file (packet channel place block)
+    (record { section = whole_file; packet = Some (packet_at channel place block) })
 unfolding packet record_header internet_header datagram_header tap_header
-packet_is channel place block = refl
-
-packet_whole : (channel : Channel) (place : Place) (block : List ℕ) → length block ≡ 23 →
-    IsPacket LowFirst (packet_at channel place block)
-packet_whole channel place block long = record {
-  sixteen = record_long place;
-  said = record_said place ∙ sym (inside_long channel place block long);
+packet_brings channel place block long = record {
+  is = record {
+    long = rw long (lit≤ tt);
+    whole = rw long refl;
+  };
+  brings = refl;
 }
 
 -- where it stands
@@ -193,7 +184,7 @@ next_packet : (channel : Channel) (cell : Cell) (slot block : ℕ) (octets : Lis
     (done : List (List ℕ)) (left : ℕ) → length octets ≡ 23 →
     block < 4 → nat_lt block 4 ≡ true → length done ≡ 4 * slot + block →
     followed track (slot % 6656) ≡ Some (record { first = 0; slot = slot }) →
-    after_packet Internet anyone (record { track = track; blocks = sofar done (suc left) })
+    after_packet anyone (record { track = track; blocks = sofar done (suc left) })
     (packet_at channel (at cell slot block) octets)
     ≡ Ok (record { track = Some (record { first = 0; slot = slot }); blocks = sofar (done ++ octets ∷ []) left })
 unfolding after_packet
@@ -202,82 +193,108 @@ next_packet channel cell slot block octets track done left long few few_is many 
     (sent_there channel (at cell slot block) octets long)
     ∙ with_next channel cell slot block octets track done left few few_is many leads
 
--- the packets of blocks of a slot, from this one on, and of slots
+-- the packets of blocks of a slot, from this one on
 abbrev pub packets_in : Channel → Cell → (slot block : ℕ) → List (List ℕ) → List Packet
 packets_in channel cell slot block [] = []
 packets_in channel cell slot block (octets ∷ rest) =
     packet_at channel (at cell slot block) octets ∷ packets_in channel cell slot (block + 1) rest
 
--- the packets of blocks that a slot sends on a channel
+-- the packets of slots
 abbrev pub packets_on : Channel → Cell → (slot : ℕ) → List (List ℕ) → List Packet
 packets_on channel cell slot [] = []
 packets_on channel cell slot (octets ∷ rest) =
     packets_in channel cell slot 0 (blocks_in_slot octets) ++ packets_on channel cell (slot + 1) rest
 
+-- their octets in the file, with their headers
+abbrev pub pieces_in : Channel → Cell → (slot block : ℕ) → List (List ℕ) → List (List ℕ)
+pieces_in channel cell slot block [] = []
+pieces_in channel cell slot block (octets ∷ rest) =
+    packet channel (at cell slot block) octets ∷ pieces_in channel cell slot (block + 1) rest
+
+-- those of slots
+abbrev pub pieces_on : Channel → Cell → (slot : ℕ) → List (List ℕ) → List (List ℕ)
+pieces_on channel cell slot [] = []
+pieces_on channel cell slot (octets ∷ rest) =
+    pieces_in channel cell slot 0 (blocks_in_slot octets) ++ pieces_on channel cell (slot + 1) rest
+
 in_joined : (channel : Channel) (cell : Cell) (slot block : ℕ) (blocks : List (List ℕ)) →
-    octets_of_packets (packets_in channel cell slot block blocks)
+    flat_map (λ piece. piece) (pieces_in channel cell slot block blocks)
     ≡ packets_of_blocks channel 0 cell slot block blocks
 in_joined channel cell slot block [] = refl
 in_joined channel cell slot block (octets ∷ rest) =
-    ap (λ xs. xs ++ octets_of_packets (packets_in channel cell slot (block + 1) rest))
-    (packet_is channel (at cell slot block) octets)
-    ∙ ap (λ xs. packet channel (at cell slot block) octets ++ xs) (in_joined channel cell slot (block + 1) rest)
+    ap (λ xs. packet channel (at cell slot block) octets ++ xs) (in_joined channel cell slot (block + 1) rest)
 
 slot_joined : (channel : Channel) (cell : Cell) (slot : ℕ) (octets : List ℕ) →
-    octets_of_packets (packets_in channel cell slot 0 (blocks_in_slot octets))
+    flat_map (λ piece. piece) (pieces_in channel cell slot 0 (blocks_in_slot octets))
     ≡ packets_of_slot channel 0 cell slot octets
 unfolding packets_of_slot
 slot_joined channel cell slot octets = in_joined channel cell slot 0 (blocks_in_slot octets)
 
 on_joined : (channel : Channel) (cell : Cell) (slot : ℕ) (slots : List (List ℕ)) →
-    octets_of_packets (packets_on channel cell slot slots)
+    flat_map (λ piece. piece) (pieces_on channel cell slot slots)
     ≡ packets_of_slots (record { channel = channel; slots = All }) 0 cell slot slots
 on_joined channel cell slot [] = refl
 on_joined channel cell slot (octets ∷ rest) =
-    let front : List Packet = packets_in channel cell slot 0 (blocks_in_slot octets) in
-    let back : List Packet = packets_on channel cell (slot + 1) rest in
-    flat_map-append octets_of_packet front back
-    ∙ ap (λ xs. xs ++ octets_of_packets back) (slot_joined channel cell slot octets)
+    let front : List (List ℕ) = pieces_in channel cell slot 0 (blocks_in_slot octets) in
+    let back : List (List ℕ) = pieces_on channel cell (slot + 1) rest in
+    flat_map-append (λ piece. piece) front back
+    ∙ ap (λ xs. xs ++ flat_map (λ piece. piece) back) (slot_joined channel cell slot octets)
     ∙ ap (λ xs. packets_of_slot channel 0 cell slot octets ++ xs) (on_joined channel cell (slot + 1) rest)
 
-are-append : (order : OctetOrder) (front back : List Packet) → ArePackets order front → ArePackets order back →
-    ArePackets order (front ++ back)
-are-append order [] back first second = second
-are-append order (packet ∷ front) back first second = (first.0, are-append order front back first.1 second)
+bring-append : (here : Section) (front : List (List ℕ)) (between : Section) (first : List Packet)
+    (back : List (List ℕ)) (there : Section) (second : List Packet) → BringAll here front between first →
+    BringAll between back there second → BringAll here (front ++ back) there (first ++ second)
+bring-append here [] between first back there second these those =
+    subst (λ packets. BringAll here back there (packets ++ second)) (sym these.1)
+    (subst (λ section. BringAll section back there second) these.0 those)
+bring-append here (piece ∷ front) between first back there second these those = (
+  these.0,
+  these.1 ++ second,
+  these.2,
+  ap (λ packets. packets ++ second) these.3 ∙ append_assoc (brought_in these.0.packet) these.1 second,
+  bring-append these.0.section front between these.1 back there second these.4 those,
+)
 
-in_whole : (channel : Channel) (cell : Cell) (slot block : ℕ) (blocks : List (List ℕ)) →
+in_brings : (channel : Channel) (cell : Cell) (slot block : ℕ) (blocks : List (List ℕ)) →
     AllByRecursion (λ block. length block ≡ 23) blocks →
-    ArePackets LowFirst (packets_in channel cell slot block blocks)
-in_whole channel cell slot block [] each = tt
-in_whole channel cell slot block (octets ∷ rest) each =
-    (packet_whole channel (at cell slot block) octets each.0, in_whole channel cell slot (block + 1) rest each.1)
+    BringAll whole_file (pieces_in channel cell slot block blocks) whole_file
+    (packets_in channel cell slot block blocks)
+in_brings channel cell slot block [] each = (refl, refl)
+in_brings channel cell slot block (octets ∷ rest) each = (
+  record { section = whole_file; packet = Some (packet_at channel (at cell slot block) octets) },
+  packets_in channel cell slot (block + 1) rest,
+  packet_brings channel (at cell slot block) octets each.0,
+  refl,
+  in_brings channel cell slot (block + 1) rest each.1,
+)
 
-on_whole : (channel : Channel) (cell : Cell) (slot : ℕ) (slots : List (List ℕ)) →
+on_brings : (channel : Channel) (cell : Cell) (slot : ℕ) (slots : List (List ℕ)) →
     AllByRecursion (λ slot. length slot ≡ 92) slots →
-    ArePackets LowFirst (packets_on channel cell slot slots)
-on_whole channel cell slot [] each = tt
-on_whole channel cell slot (octets ∷ rest) each =
-    are-append LowFirst (packets_in channel cell slot 0 (blocks_in_slot octets))
+    BringAll whole_file (pieces_on channel cell slot slots) whole_file (packets_on channel cell slot slots)
+on_brings channel cell slot [] each = (refl, refl)
+on_brings channel cell slot (octets ∷ rest) each =
+    bring-append whole_file (pieces_in channel cell slot 0 (blocks_in_slot octets)) whole_file
+    (packets_in channel cell slot 0 (blocks_in_slot octets)) (pieces_on channel cell (slot + 1) rest) whole_file
     (packets_on channel cell (slot + 1) rest)
-    (in_whole channel cell slot 0 (blocks_in_slot octets) (chunks_each 23 4 octets each.0))
-    (on_whole channel cell (slot + 1) rest each.1)
+    (in_brings channel cell slot 0 (blocks_in_slot octets) (chunks_each 23 4 octets each.0))
+    (on_brings channel cell (slot + 1) rest each.1)
 
 -- packets one after another
-after_append : (link : Link) (from : Sender) (number : ℕ) (state : Result Known AirFaultKind)
-    (front back : List Packet) (known : Known) → after_packets link from number state front ≡ Ok known →
-    after_packets link from number state (front ++ back)
-    ≡ after_packets link from (number + length front) (Ok known) back
-after_append link from number (Ok old) [] back known is =
+after_append : (from : Sender) (number : ℕ) (state : Result Known AirFaultKind)
+    (front back : List Packet) (known : Known) → after_packets from number state front ≡ Ok known →
+    after_packets from number state (front ++ back)
+    ≡ after_packets from (number + length front) (Ok known) back
+after_append from number (Ok old) [] back known is =
     let same : old ≡ known = cc in
     let here : number ≡ number + length {A = Packet} [] = omega arith in
-    ap (λ k. after_packets link from number (Ok k) back) same
-    ∙ ap (λ n. after_packets link from n (Ok known) back) here
-after_append link from number (Err why) [] back known is = cc
-after_append link from number (Ok old) (first ∷ front) back known is =
+    ap (λ k. after_packets from number (Ok k) back) same
+    ∙ ap (λ n. after_packets from n (Ok known) back) here
+after_append from number (Err why) [] back known is = cc
+after_append from number (Ok old) (first ∷ front) back known is =
     let next : number + 1 + length front ≡ number + length (first ∷ front) = omega arith in
-    after_append link from (number + 1) (after_packet link from old first) front back known is
-    ∙ ap (λ n. after_packets link from n (Ok known) back) next
-after_append link from number (Err why) (first ∷ front) back known is = cc
+    after_append from (number + 1) (after_packet from old first) front back known is
+    ∙ ap (λ n. after_packets from n (Ok known) back) next
+after_append from number (Err why) (first ∷ front) back known is = cc
 
 -- what is known after a slot
 abbrev pub known_at : (slot : ℕ) → (done : List (List ℕ)) (left : ℕ) → Known
@@ -286,7 +303,7 @@ known_at slot done left = record { track = Some (record { first = 0; slot = slot
 slot_taken : (channel : Channel) (cell : Cell) (slot number : ℕ) (octets : List ℕ) (track : Option Track)
     (done : List (List ℕ)) (left : ℕ) → length octets ≡ 92 → length done ≡ 4 * slot →
     followed track (slot % 6656) ≡ Some (record { first = 0; slot = slot }) →
-    after_packets Internet anyone number (Ok (record {
+    after_packets anyone number (Ok (record {
       track = track;
       blocks = sofar done (suc (suc (suc (suc left))));
     }))
@@ -307,14 +324,14 @@ slot_taken channel cell slot number octets track done left long many leads =
     let many3 : length three ≡ 4 * slot + 3 = length_push two c ∙ omega (arith, many2) in
     let whole : ((((done ++ a ∷ []) ++ b ∷ []) ++ c ∷ []) ++ d ∷ []) ≡ done ++ blocks_in_slot octets =
     simp append_assoc in
-    ap (λ state. after_packets Internet anyone (number + 1) state (packets_in channel cell slot 1 (b ∷ c ∷ d ∷ [])))
+    ap (λ state. after_packets anyone (number + 1) state (packets_in channel cell slot 1 (b ∷ c ∷ d ∷ [])))
     (next_packet channel cell slot 0 a track done (suc (suc (suc left))) each.0 (lit< tt) refl
     (omega (arith, many)) leads)
-    ∙ ap (λ state. after_packets Internet anyone (number + 1 + 1) state (packets_in channel cell slot 2 (c ∷ d ∷ [])))
+    ∙ ap (λ state. after_packets anyone (number + 1 + 1) state (packets_in channel cell slot 2 (c ∷ d ∷ [])))
     (next_packet channel cell slot 1 b track' one (suc (suc left)) each.1.0 (lit< tt) refl many1 (leads_same slot))
-    ∙ ap (λ state. after_packets Internet anyone (number + 1 + 1 + 1) state (packets_in channel cell slot 3 (d ∷ [])))
+    ∙ ap (λ state. after_packets anyone (number + 1 + 1 + 1) state (packets_in channel cell slot 3 (d ∷ [])))
     (next_packet channel cell slot 2 c track' two (suc left) each.1.1.0 (lit< tt) refl many2 (leads_same slot))
-    ∙ ap (λ state. after_packets Internet anyone (number + 1 + 1 + 1 + 1) state [])
+    ∙ ap (λ state. after_packets anyone (number + 1 + 1 + 1 + 1) state [])
     (next_packet channel cell slot 3 d track' three left each.1.1.1.0 (lit< tt) refl many3 (leads_same slot))
     ∙ ap (λ blocks. Ok (known_at slot blocks left)) whole
 
@@ -323,7 +340,7 @@ all_taken : (channel : Channel) (cell : Cell) (slot number : ℕ) (slots : List 
     (done : List (List ℕ)) → AllByRecursion (λ slot. length slot ≡ 92) slots → length done ≡ 4 * slot →
     followed track (slot % 6656) ≡ Some (record { first = 0; slot = slot }) →
     (known : Known)
-    × (after_packets Internet anyone number (Ok (record { track = track; blocks = sofar done (4 * length slots) }))
+    × (after_packets anyone number (Ok (record { track = track; blocks = sofar done (4 * length slots) }))
     (packets_on channel cell slot slots) ≡ Ok known)
     × (known.blocks ≡ map Some (done ++ blocks_of_slots slots))
 all_taken channel cell slot number [] track done each many leads = (
@@ -342,10 +359,10 @@ all_taken channel cell slot number (octets ∷ rest) track done each many leads 
     let others = all_taken channel cell (slot + 1) (number + length front) rest
     (Some (record { first = 0; slot = slot })) (done ++ blocks) each.1 after (leads_next slot) in (
       others.0,
-      ap (λ n. after_packets Internet anyone number (Ok (record { track = track; blocks = sofar done n }))
+      ap (λ n. after_packets anyone number (Ok (record { track = track; blocks = sofar done n }))
           (front ++ back))
           four
-          ∙ after_append Internet anyone number
+          ∙ after_append anyone number
           (Ok (record { track = track; blocks = sofar done (suc (suc (suc (suc left)))) })) front back
           (known_at slot (done ++ blocks) left)
           (slot_taken channel cell slot number octets track done left each.0 many leads)
@@ -359,15 +376,15 @@ all_known (block ∷ blocks) = ap (λ rest. block ∷ rest) (all_known blocks)
 
 packets_taken : (wanted : Wanted) (channel : Channel) (cell : Cell) (slots : List (List ℕ)) →
     wanted.from ≡ anyone → wanted.slots ≡ length slots → AllByRecursion (λ slot. length slot ≡ 92) slots →
-    (known : Known) × (taken wanted Internet (packets_on channel cell 0 slots) ≡ Ok known)
+    (known : Known) × (taken wanted (packets_on channel cell 0 slots) ≡ Ok known)
     × (known.blocks ≡ map Some (blocks_of_slots slots))
 unfolding taken
 packets_taken wanted channel cell slots anywhere many each =
     let all = all_taken channel cell 0 0 slots None [] each refl leads_first in (
       all.0,
-      ap (λ from. after_packets Internet from 0 (Ok (nothing_known wanted.slots)) (packets_on channel cell 0 slots))
+      ap (λ from. after_packets from 0 (Ok (nothing_known wanted.slots)) (packets_on channel cell 0 slots))
           anywhere
-          ∙ ap (λ n. after_packets Internet anyone 0 (Ok (nothing_known n)) (packets_on channel cell 0 slots)) many
+          ∙ ap (λ n. after_packets anyone 0 (Ok (nothing_known n)) (packets_on channel cell 0 slots)) many
           ∙ all.1,
       all.2,
     )
@@ -378,6 +395,7 @@ there_and_back cell channel slots few each =
     let wanted : Wanted = record { cell = cell; slots = length slots; from = anyone } in
     let settings : Settings = record { channel = channel; slots = All } in
     let said : Cell = cell_in (tape_octets cell (length slots) []) in
+    let pieces : List (List ℕ) = pieces_on channel said 0 slots in
     let packets : List Packet = packets_on channel said 0 slots in
     let taken_all = packets_taken wanted channel said slots refl refl each in
     let blocks : octets_of_blocks (blocks_in taken_all.0.blocks) ≡ flat_map (λ slot. slot) slots =
@@ -386,23 +404,32 @@ there_and_back cell channel slots few each =
     record {
       known = taken_all.0;
       file = record {
-        order = LowFirst;
-        link = Internet;
-        after = octets_of_packets packets;
-        opens = record {
+        here = whole_file;
+        after = flat_map (λ piece. piece) pieces;
+        opens = inl (record {
           header = file_header;
           split =
               ap (λ octets. file_header ++ octets)
               (append-nil (packets_of_slots settings 0 said 0 slots) ∙ sym (on_joined channel said 0 slots));
           long = header_long;
+          order = LowFirst;
           order_is = header_order;
-          link_is = header_link;
-        };
+          link = Internet;
+          link_is = ap link_numbered header_link;
+          section_is =
+              ap (λ link. record { format = Classic link; order = LowFirst; interfaces = [] }) (sym header_link);
+        });
         so = record {
-          packets = packets;
-          joined = refl;
-          whole = on_whole channel said 0 slots each;
-          are_taken = taken_all.1;
+          there = whole_file;
+          number = length packets;
+          are = record {
+            pieces = pieces;
+            packets = packets;
+            split = sym (append-nil (flat_map (λ piece. piece) pieces));
+            bring = on_brings channel said 0 slots each;
+            many = refl;
+            are_taken = taken_all.1;
+          };
         };
       };
       written = ap (λ octets. tape_octets cell (length slots) [] ++ octets) (sym blocks);

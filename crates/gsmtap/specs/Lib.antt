@@ -2,6 +2,10 @@ pub mod Packet
 pub mod Capture
 pub mod CaptureSteps
 pub mod File
+pub mod Section
+pub mod Blocks
+pub mod Pieces
+pub mod PieceSteps
 pub mod Tap
 pub mod Track
 pub mod TapeOfCapture

@@ -1,12 +1,12 @@
 -- The tape that a capture file is: a block that the file doesn't have is idle.
 use Rattle.std.specs.Prelude.{◌≡◌, ℕ, ◌+◌, ◌*◌, ◌<◌, ◌≤◌, ◌⊎◌, false, true, List, [], ◌∷◌, ◌++◌, length, map, replicate}
-use Rattle.std.specs.Prelude.{take}
-use Rattle.std.specs.Prelude.{unwrap_or}
-use Rattle.std.specs.Prelude.{Option, Some, None, Result, Ok, Err}
+use Rattle.std.specs.Prelude.{take, unwrap_or, Option, Some, None, Result, Ok, Err}
+use Rattle.std.specs.List.{flat_map}
 use Rattle.cbch_blocks.specs.Blocks.{idle_block}
 use Rattle.handset.specs.Tape.{tape_octets}
-use Rattle.gsmtap.specs.File.{ArePackets, IsCutPacket, Opens, Packet, is_pcapng, link_number, link_numbered}
-use Rattle.gsmtap.specs.File.{octet_order_of, octets_of_packets}
+use Rattle.gsmtap.specs.File.{Packet, is_pcapng, link_number, link_numbered, octet_order_of}
+use Rattle.gsmtap.specs.Pieces.{BringAll, IsCutPiece, IsWrongPiece}
+use Rattle.gsmtap.specs.Section.{Section}
 use Rattle.gsmtap.specs.Tap.{sent_in}
 use Rattle.gsmtap.specs.Track.{Known, with_block}
 use Rattle.gsmtap.specs.declared.fault.AirFault.{AirFault}
@@ -14,6 +14,8 @@ use Rattle.gsmtap.specs.declared.fault.AirFaultKind.{AirFaultKind}
 use Rattle.gsmtap.specs.declared.fault.AirFaultKind.TheVariants as kind
 use Rattle.gsmtap.specs.declared.file.Link.{Link}
 use Rattle.gsmtap.specs.declared.file.OctetOrder.{OctetOrder}
+use Rattle.gsmtap.specs.declared.file.OctetOrder.TheVariants.{LowFirst}
+use Rattle.gsmtap.specs.declared.pieces.Format.TheVariants.{Classic, Pcapng}
 use Rattle.gsmtap.specs.declared.tap.Sent.{Sent}
 use Rattle.gsmtap.specs.declared.tape.Sender.{Sender}
 use Rattle.gsmtap.specs.declared.tape.Wanted.{Wanted}
@@ -28,80 +30,115 @@ abbrev pub after_sent : Known → Option Sent → Result Known AirFaultKind
 after_sent known None = Ok known
 after_sent known (Some sent) = with_block known sent
 
-unfoldable pub after_packet : Link → Sender → Known → Packet → Result Known AirFaultKind
-after_packet link from known packet = after_sent known (sent_in link from packet.octets)
+-- a packet of a link type that isn't known is at fault
+abbrev pub after_linked : Sender → Known → Packet → Option Link → Result Known AirFaultKind
+after_linked from known packet None = Err (kind.OtherLink packet.link)
+after_linked from known packet (Some link) = after_sent known (sent_in link from packet.octets)
 
-abbrev pub after_packets : Link → Sender → (number : ℕ) → Result Known AirFaultKind → List Packet →
-    Result Known AirFault
-after_packets link from number (Ok known) [] = Ok known
-after_packets link from number (Err why) [] = Err (record { packet = number; kind = why })
-after_packets link from number (Ok known) (packet ∷ rest) =
-    after_packets link from (number + 1) (after_packet link from known packet) rest
-after_packets link from number (Err why) (packet ∷ rest) = Err (record { packet = number; kind = why })
+unfoldable pub after_packet : Sender → Known → Packet → Result Known AirFaultKind
+after_packet from known packet = after_linked from known packet (link_numbered packet.link)
+
+abbrev pub after_packets : Sender → (number : ℕ) → Result Known AirFaultKind → List Packet → Result Known AirFault
+after_packets from number (Ok known) [] = Ok known
+after_packets from number (Err why) [] = Err (record { packet = number; kind = why })
+after_packets from number (Ok known) (packet ∷ rest) =
+    after_packets from (number + 1) (after_packet from known packet) rest
+after_packets from number (Err why) (packet ∷ rest) = Err (record { packet = number; kind = why })
 
 -- packets of a file are taken from the first on, and this comes of them
-unfoldable pub taken : Wanted → Link → List Packet → Result Known AirFault
-taken wanted link packets = after_packets link wanted.from 0 (Ok (nothing_known wanted.slots)) packets
+unfoldable pub taken : Wanted → List Packet → Result Known AirFault
+taken wanted packets = after_packets wanted.from 0 (Ok (nothing_known wanted.slots)) packets
 
 -- the blocks of a tape
 abbrev pub blocks_in : List (Option (List ℕ)) → List (List ℕ)
 blocks_in blocks = map (λ block. unwrap_or block idle_block) blocks
 
--- octets are whole packets, of which this is known
-pub record AreKnown (wanted : Wanted) (order : OctetOrder) (link : Link) (octets : List ℕ) (known : Known) : Type 0
+-- octets begin with whole pieces, of which the first begins here, and whose packets are so many and no fault; then
+-- comes the rest. This is known of the file and of the tape after them
+pub record AreTaken (wanted : Wanted) (here : Section) (octets : List ℕ) (there : Section) (rest : List ℕ) (number : ℕ)
+    (known : Known) : Type 0
   where
+    pub pieces : List (List ℕ)
     pub packets : List Packet
-    pub joined : octets ≡ octets_of_packets packets
-    pub whole : ArePackets order packets
-    pub are_taken : taken wanted link packets ≡ Ok known
+    pub split : octets ≡ flat_map (λ piece. piece) pieces ++ rest
+    pub bring : BringAll here pieces there packets
+    pub many : length packets ≡ number
+    pub are_taken : taken wanted packets ≡ Ok known
 
--- octets begin with whole packets that are no fault, and end inside the next one, which has this number
-pub record HasShortPacket (wanted : Wanted) (order : OctetOrder) (link : Link) (octets : List ℕ) (number : ℕ) : Type 0
+-- octets are whole pieces, of which this is known
+pub record AreKnown (wanted : Wanted) (here : Section) (octets : List ℕ) (known : Known) : Type 0 where
+  pub there : Section
+  pub number : ℕ
+  pub are : AreTaken wanted here octets there [] number known
+
+-- octets begin with whole pieces that are no fault, and of the rest this is so. So many packets are before it, and one
+pub record EndsWith (wanted : Wanted) (here : Section) (octets : List ℕ) (IsSo : Section → List ℕ → Type 0)
+    (number : ℕ) : Type 0
   where
-    pub packets : List Packet
+    pub there : Section
     pub rest : List ℕ
-    pub split : octets ≡ octets_of_packets packets ++ rest
-    pub whole : ArePackets order packets
+    pub before : ℕ
     pub known : Known
-    pub are_taken : taken wanted link packets ≡ Ok known
-    pub cut : IsCutPacket order rest
-    pub numbered : number ≡ length packets + 1
+    pub are : AreTaken wanted here octets there rest before known
+    pub so : IsSo there rest
+    pub numbered : number ≡ before + 1
 
--- octets begin with whole packets, of which the last has this fault, and no earlier one is at fault
-pub record HasWrongPacket (wanted : Wanted) (order : OctetOrder) (link : Link) (octets : List ℕ) (fault : AirFault) :
-    Type 0
-  where
-    pub packets : List Packet
-    pub rest : List ℕ
-    pub split : octets ≡ octets_of_packets packets ++ rest
-    pub whole : ArePackets order packets
-    pub are_taken : taken wanted link packets ≡ Err fault
-    pub numbered : fault.packet ≡ length packets
+-- octets begin with whole pieces, whose last packet has this fault, and no earlier one is at fault
+pub record HasWrongPacket (wanted : Wanted) (here : Section) (octets : List ℕ) (fault : AirFault) : Type 0 where
+  pub pieces : List (List ℕ)
+  pub packets : List Packet
+  pub there : Section
+  pub rest : List ℕ
+  pub split : octets ≡ flat_map (λ piece. piece) pieces ++ rest
+  pub bring : BringAll here pieces there packets
+  pub are_taken : taken wanted packets ≡ Err fault
+  pub numbered : fault.packet ≡ length packets
 
--- the input is a capture file, in which this is so of the octets after the header
-pub record IsFileWith (input : List ℕ) (IsSo : OctetOrder → Link → List ℕ → Type 0) : Type 0 where
+-- a classic file begins with a header that is known, and goes on with these octets
+pub record OpensClassic (input : List ℕ) (section : Section) (rest : List ℕ) : Type 0 where
+  pub header : List ℕ
+  pub split : input ≡ header ++ rest
+  pub long : length header ≡ 24
   pub order : OctetOrder
+  pub order_is : octet_order_of header ≡ Some order
   pub link : Link
-  pub after : List ℕ
-  pub opens : Opens input order link after
-  pub so : IsSo order link after
+  pub link_is : link_numbered (link_number order header) ≡ Some link
+  pub section_is : section
+      ≡ record { format = Classic (link_number order header); order = order; interfaces = [] }
 
--- the input is a capture file of whole packets, and the output is the tape that they are
+-- before the first block, which says the order
+abbrev pub no_section : Section
+no_section = record { format = Pcapng; order = LowFirst; interfaces = [] }
+
+-- a file of pcapng has nothing before its blocks
+pub record OpensPcapng (input : List ℕ) (section : Section) (rest : List ℕ) : Type 0 where
+  pub begins : is_pcapng input ≡ true
+  pub rest_is : rest ≡ input
+  pub section_is : section ≡ no_section
+
+abbrev pub Opens : (input : List ℕ) → Section → (rest : List ℕ) → Type 0
+Opens input section rest = OpensClassic input section rest ⊎ OpensPcapng input section rest
+
+-- the input is a capture file, and this is so of the octets from its first piece on
+pub record IsFileWith (input : List ℕ) (IsSo : Section → List ℕ → Type 0) : Type 0 where
+  pub here : Section
+  pub after : List ℕ
+  pub opens : Opens input here after
+  pub so : IsSo here after
+
+-- the input is a capture file of whole pieces, and the output is the tape that their packets are
 pub record IsTapeOfCapture (wanted : Wanted) (input output : List ℕ) : Type 0 where
   pub known : Known
-  pub file : IsFileWith input (λ order link after. AreKnown wanted order link after known)
+  pub file : IsFileWith input (λ here after. AreKnown wanted here after known)
   pub written : output ≡ tape_octets wanted.cell wanted.slots (blocks_in known.blocks)
 
--- the header is cut, or its magic number isn't known, or is that of pcapng; or the link type isn't known
-abbrev pub IsNoCapture : List ℕ → Type 0
-IsNoCapture input = (length input < 24)
-    ⊎ ((octet_order_of (take 24 input) ≡ None) × (is_pcapng (take 24 input) ≡ false))
-
-pub record IsPcapng (input : List ℕ) : Type 0 where
-  pub long : 24 ≤ length input
-  pub begins : is_pcapng (take 24 input) ≡ true
+-- the header is cut, or its magic number isn't known, and it isn't that of pcapng; or the link type isn't known
+pub record IsNoCapture (input : List ℕ) : Type 0 where
+  pub classic : is_pcapng input ≡ false
+  pub unknown : (length input < 24) ⊎ (octet_order_of (take 24 input) ≡ None)
 
 pub record IsOtherLink (input : List ℕ) (number : ℕ) : Type 0 where
+  pub classic : is_pcapng input ≡ false
   pub long : 24 ≤ length input
   pub order : OctetOrder
   pub order_is : octet_order_of (take 24 input) ≡ Some order
@@ -111,15 +148,18 @@ pub record IsOtherLink (input : List ℕ) (number : ℕ) : Type 0 where
 -- why an input has no tape, but for out of memory
 abbrev pub IsAirFaultOf : Wanted → List ℕ → (packet : ℕ) → AirFaultKind → Type 0
 IsAirFaultOf wanted input packet kind.NoCapture = (packet ≡ 0) × IsNoCapture input
-IsAirFaultOf wanted input packet kind.Pcapng = (packet ≡ 0) × IsPcapng input
-IsAirFaultOf wanted input packet (kind.OtherLink number) = (packet ≡ 0) × IsOtherLink input number
+IsAirFaultOf wanted input packet (kind.OtherLink number) =
+    ((packet ≡ 0) × IsOtherLink input number)
+    ⊎ IsFileWith input (λ here after. HasWrongPacket wanted here after
+    (record { packet = packet; kind = kind.OtherLink number }))
 IsAirFaultOf wanted input packet kind.Short =
-    IsFileWith input (λ order link after. HasShortPacket wanted order link after packet)
+    IsFileWith input (λ here after. EndsWith wanted here after IsCutPiece packet)
+IsAirFaultOf wanted input packet kind.WrongBlock =
+    IsFileWith input (λ here after. EndsWith wanted here after IsWrongPiece packet)
 IsAirFaultOf wanted input packet kind.Differs =
-    IsFileWith input (λ order link after. HasWrongPacket wanted order link after
-    (record { packet = packet; kind = kind.Differs }))
+    IsFileWith input (λ here after. HasWrongPacket wanted here after (record { packet = packet; kind = kind.Differs }))
 IsAirFaultOf wanted input packet kind.StepsBack =
-    IsFileWith input (λ order link after. HasWrongPacket wanted order link after
+    IsFileWith input (λ here after. HasWrongPacket wanted here after
     (record { packet = packet; kind = kind.StepsBack }))
 IsAirFaultOf wanted input packet kind.Refused = packet ≡ 0
 

@@ -1,13 +1,15 @@
 -- Steps over the packets of a file. Contracts of private functions alone speak of it.
-use Rattle.std.specs.Prelude.{◌≡◌, ℕ, List, ◌++◌, Option, Some, None, if◌then◌else◌}
-use Rattle.gsmtap.specs.File.{IsPacket, Packet, is_pcapng, octets_of_packet}
-use Rattle.gsmtap.specs.TapeOfCapture.{HasShortPacket, HasWrongPacket}
+use Rattle.std.specs.Prelude.{◌≡◌, ℕ, List, Option, Some, None, Result, Ok, Err}
+use Rattle.gsmtap.specs.Pieces.{IsCutPiece, IsWrongPiece}
+use Rattle.gsmtap.specs.Section.{Section}
+use Rattle.gsmtap.specs.TapeOfCapture.{EndsWith, HasWrongPacket, IsNoCapture, IsOtherLink, after_packet}
 use Rattle.gsmtap.specs.Track.{Known}
 use Rattle.gsmtap.specs.declared.fault.AirFault.{AirFault}
 use Rattle.gsmtap.specs.declared.fault.AirFaultKind.{AirFaultKind}
 use Rattle.gsmtap.specs.declared.fault.AirFaultKind.TheVariants as kind
-use Rattle.gsmtap.specs.declared.file.Link.{Link}
-use Rattle.gsmtap.specs.declared.file.OctetOrder.{OctetOrder}
+use Rattle.gsmtap.specs.declared.pieces.Found.{Found}
+use Rattle.gsmtap.specs.declared.pieces.Found.TheVariants as found
+use Rattle.gsmtap.specs.declared.tape.Sender.{Sender}
 use Rattle.gsmtap.specs.declared.tape.Wanted.{Wanted}
 use Rattle.gsmtap.specs.declared.track.Air.{Air}
 use Rattle.gsmtap.specs.declared.track.Track.{Track}
@@ -21,38 +23,67 @@ abbrev pub last_slot : Option Track → ℕ
 last_slot None = 0
 last_slot (Some track) = track.slot
 
--- octets begin with a packet, of whose octets these are left, before the rest
-pub record BeginsWithPacket (order : OctetOrder) (octets inside rest : List ℕ) : Type 0 where
-  pub packet : Packet
-  pub is : IsPacket order packet
-  pub inside_is : inside ≡ packet.octets
-  pub split : octets ≡ octets_of_packet packet ++ rest
+-- how many packets were found
+abbrev pub count_of : Found → ℕ
+count_of (found.Packet packet) = 1
+count_of found.Nothing = 0
+count_of found.Wrong = 0
 
--- why octets are no packets that make a tape
-abbrev pub IsPacketFaultOf : Wanted → OctetOrder → Link → List ℕ → (packet : ℕ) → AirFaultKind → Type 0
-IsPacketFaultOf wanted order link octets packet kind.NoCapture = ⊥
-IsPacketFaultOf wanted order link octets packet kind.Pcapng = ⊥
-IsPacketFaultOf wanted order link octets packet (kind.OtherLink number) = ⊥
-IsPacketFaultOf wanted order link octets packet kind.Short = HasShortPacket wanted order link octets packet
-IsPacketFaultOf wanted order link octets packet kind.Differs =
-    HasWrongPacket wanted order link octets (record { packet = packet; kind = kind.Differs })
-IsPacketFaultOf wanted order link octets packet kind.StepsBack =
-    HasWrongPacket wanted order link octets (record { packet = packet; kind = kind.StepsBack })
-IsPacketFaultOf wanted order link octets packet kind.Refused = packet ≡ 0
+-- what is known after what was found in a piece
+abbrev pub after_found : Sender → Known → Found → Result Known AirFaultKind
+after_found from known (found.Packet packet) =
+    after_packet from known (record { link = packet.link; octets = packet.octets.now })
+after_found from known found.Nothing = Ok known
+after_found from known found.Wrong = Err kind.WrongBlock
 
-abbrev pub IsPacketFault : Wanted → OctetOrder → Link → List ℕ → AirFault → Type 0
-IsPacketFault wanted order link octets fault = IsPacketFaultOf wanted order link octets fault.packet fault.kind
+-- why octets are no pieces that make a tape
+abbrev pub IsPieceFaultOf : Wanted → Section → List ℕ → (packet : ℕ) → AirFaultKind → Type 0
+IsPieceFaultOf wanted here octets packet kind.NoCapture = ⊥
+IsPieceFaultOf wanted here octets packet (kind.OtherLink number) =
+    HasWrongPacket wanted here octets (record { packet = packet; kind = kind.OtherLink number })
+IsPieceFaultOf wanted here octets packet kind.Short = EndsWith wanted here octets IsCutPiece packet
+IsPieceFaultOf wanted here octets packet kind.WrongBlock = EndsWith wanted here octets IsWrongPiece packet
+IsPieceFaultOf wanted here octets packet kind.Differs =
+    HasWrongPacket wanted here octets (record { packet = packet; kind = kind.Differs })
+IsPieceFaultOf wanted here octets packet kind.StepsBack =
+    HasWrongPacket wanted here octets (record { packet = packet; kind = kind.StepsBack })
+IsPieceFaultOf wanted here octets packet kind.Refused = packet ≡ 0
+
+abbrev pub IsPieceFault : Wanted → Section → List ℕ → AirFault → Type 0
+IsPieceFault wanted here octets fault = IsPieceFaultOf wanted here octets fault.packet fault.kind
 
 -- a fault of a block, which is of one of two kinds
 abbrev pub IsBlockKind : AirFaultKind → Type 0
 IsBlockKind kind.NoCapture = ⊥
-IsBlockKind kind.Pcapng = ⊥
 IsBlockKind (kind.OtherLink number) = ⊥
 IsBlockKind kind.Short = ⊥
+IsBlockKind kind.WrongBlock = ⊥
 IsBlockKind kind.Differs = Unit {0}
 IsBlockKind kind.StepsBack = Unit {0}
 IsBlockKind kind.Refused = ⊥
 
--- what a header is whose magic number isn't known
-abbrev pub kind_of_unknown : List ℕ → AirFaultKind
-kind_of_unknown header = if is_pcapng header then kind.Pcapng else kind.NoCapture
+-- a fault of a packet
+abbrev pub IsPacketKind : AirFaultKind → Type 0
+IsPacketKind kind.NoCapture = ⊥
+IsPacketKind (kind.OtherLink number) = Unit {0}
+IsPacketKind kind.Short = ⊥
+IsPacketKind kind.WrongBlock = ⊥
+IsPacketKind kind.Differs = Unit {0}
+IsPacketKind kind.StepsBack = Unit {0}
+IsPacketKind kind.Refused = ⊥
+
+-- a fault of what was found in a piece
+abbrev pub IsFoundKind : Found → AirFaultKind → Type 0
+IsFoundKind (found.Packet packet) why = IsPacketKind why
+IsFoundKind found.Nothing why = ⊥
+IsFoundKind found.Wrong why = why ≡ kind.WrongBlock
+
+-- a fault of a file's begin
+abbrev pub IsBeginFault : List ℕ → AirFaultKind → Type 0
+IsBeginFault input kind.NoCapture = IsNoCapture input
+IsBeginFault input (kind.OtherLink number) = IsOtherLink input number
+IsBeginFault input kind.Short = ⊥
+IsBeginFault input kind.WrongBlock = ⊥
+IsBeginFault input kind.Differs = ⊥
+IsBeginFault input kind.StepsBack = ⊥
+IsBeginFault input kind.Refused = ⊥

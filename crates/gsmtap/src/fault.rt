@@ -10,18 +10,19 @@ use thiserror::Error;
 /// Why a capture file has no tape.
 #[derive(Clone, Copy, Debug, PartialEq, Eq, Error)]
 pub enum AirFaultKind {
-    /// The file doesn't begin with the header of a classic capture file.
+    /// The file begins neither with the header of a classic capture file nor as pcapng does.
     #[error("not a capture file")]
     NoCapture,
-    /// The file is of the newer format, pcapng, which Wireshark writes.
-    #[error("capture is pcapng: editcap -F pcap makes one that is read")]
-    Pcapng,
     /// The link type is this, and none of those that are known.
     #[error("unknown link type {0}: known are 0, 1, 101, 108, 113, 228 and 276")]
     OtherLink(u32),
-    /// The file ends inside a packet.
+    /// The file ends inside a packet, or inside a block of pcapng.
     #[error("capture is short")]
     Short,
+    /// A block of pcapng contradicts itself: its two lengths differ, or are under 12 or no multiple of 4; what it says
+    /// has no room in it; its section has another magic number, or its interface isn't described before it.
+    #[error("wrong block")]
+    WrongBlock,
     /// A block comes twice, with other octets.
     #[error("block differs")]
     Differs,
@@ -33,8 +34,9 @@ pub enum AirFaultKind {
     Refused,
 }
 
-/// Why a capture file has no tape, and its packet, from 1. The packet is 0 if the file's header is at fault, or memory
-/// was refused.
+/// Why a capture file has no tape, and its packet, from 1. The packet is 0 if the file is no capture, the header of a
+/// classic file is at fault, or memory was refused. A block of pcapng that is cut or contradicts itself has the number
+/// of the packet that would be next.
 #[derive(Clone, Copy, Debug, PartialEq, Eq)]
 pub struct AirFault {
     /// The packet, from 1.

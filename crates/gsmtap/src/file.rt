@@ -1,7 +1,8 @@
-//! Capture files in the classic format of libpcap: their header, and the packet that comes next.
+//! Capture files: their numbers and link types, and the header of the classic format of libpcap.
 
 ghost use Rattle.std.specs.Prelude.{◌≡◌, ◌<◌, ◌≤◌, length};
-ghost use Rattle.gsmtap.specs.File.{is_magic, is_pcapng, link_number, link_numbered, number_in, octet_order_of};
+ghost use Rattle.gsmtap.specs.File.{half_in, is_magic, is_pcapng, link_number, link_numbered, number_in};
+ghost use Rattle.gsmtap.specs.File.{octet_order_of};
 
 use byteorder::{BigEndian, ByteOrder, LittleEndian};
 
@@ -40,6 +41,17 @@ pub fn number_in(order: OctetOrder, octets: &[u8]) -> u32
     }
 }
 
+/// The number in the first two octets.
+pub fn half_in(order: OctetOrder, octets: &[u8]) -> u16
+    requires { 2 ≤ length octets.now }
+    ensures { result ≡ half_in order octets.now }
+{
+    match order {
+        OctetOrder::LowFirst => LittleEndian::read_u16(octets),
+        OctetOrder::HighFirst => BigEndian::read_u16(octets),
+    }
+}
+
 /// Whether a file begins with this number: one for microseconds, one for nanoseconds.
 fn is_magic(number: u32) -> bool
     ensures { result ≡ is_magic number }
@@ -47,12 +59,11 @@ fn is_magic(number: u32) -> bool
     number == 0xA1B2_C3D4 || number == 0xA1B2_3C4D
 }
 
-/// Whether octets begin as a file of pcapng does.
+/// Whether octets begin as a file of pcapng does, and each section header in it.
 pub fn is_pcapng(octets: &[u8]) -> bool
-    requires { 4 ≤ length octets.now }
     ensures { result ≡ is_pcapng octets.now }
 {
-    BigEndian::read_u32(octets) == 0x0A0D_0D0A
+    octets.len() >= 4 && BigEndian::read_u32(octets) == 0x0A0D_0D0A
 }
 
 /// The order of the octets of a file's numbers, by its header.

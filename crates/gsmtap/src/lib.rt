@@ -2,14 +2,16 @@
 //! format of libpcap, with IPv4, UDP and GSMTAP around each block.
 //!
 //! [`capture_of`] makes the capture of tapes, whose octets `specs/Capture.antt` says; [`tape_of_capture`] makes a tape
-//! of a capture that others made, as `specs/TapeOfCapture.antt` says.
+//! of a capture that others made, in that format or in pcapng, as `specs/TapeOfCapture.antt` says.
 #![tactic(auto)]
 
+mod blocks;
 pub mod capture;
 pub mod fault;
 pub mod file;
 mod laws;
 mod packet;
+mod pieces;
 mod tap;
 pub mod tape;
 mod track;

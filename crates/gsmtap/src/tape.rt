@@ -1,28 +1,24 @@
 //! The tape that a capture file is.
 
-ghost use Rattle.std.specs.Prelude.{◌≡◌, ◌+◌, ◌*◌, ◌<◌, ◌≤◌, ◌^◌, ◌++◌, ℕ, length, IfErr, IfOk, MatchOption, OnOk, Ok};
-ghost use Rattle.std.specs.Prelude.{Err};
-ghost use Rattle.std.specs.Prelude.{[]};
+ghost use Rattle.std.specs.Prelude.{◌≡◌, ◌+◌, ◌*◌, ◌<◌, ◌≤◌, ◌^◌, ◌++◌, ℕ, length, IfErr, IfOk, MatchResult, OnOk, Ok};
+ghost use Rattle.std.specs.Prelude.{Err, []};
 ghost use Rattle.handset.specs.Tape.{octets_of_blocks, tape_octets};
-ghost use Rattle.gsmtap.specs.File.{IsCutPacket};
-ghost use Rattle.gsmtap.specs.TapeOfCapture.{AreKnown, IsAirFault, IsTapeOfCapture, after_sent, blocks_in};
-ghost use Rattle.gsmtap.specs.TapeSteps.{kind_of_unknown};
-ghost use Rattle.gsmtap.specs.TapeSteps.{BeginsWithPacket, IsBlockKind, IsPacketFault, known_of, last_slot};
-ghost use Rattle.gsmtap.specs.Tap.{sent_in};
+ghost use Rattle.gsmtap.specs.PieceSteps.{section_of};
+ghost use Rattle.gsmtap.specs.TapeOfCapture.{AreKnown, IsAirFault, IsTapeOfCapture, Opens, after_packet, blocks_in};
+ghost use Rattle.gsmtap.specs.TapeSteps.{IsBeginFault, IsFoundKind, IsPacketKind, IsPieceFault, after_found};
+ghost use Rattle.gsmtap.specs.TapeSteps.{count_of, known_of, last_slot};
 
 use crate::fault::{AirFault, AirFaultKind};
-use crate::file::{Link, OctetOrder, is_pcapng, link_number, link_numbered, number_in, order_of};
+use crate::file::{is_pcapng, link_number, link_numbered, order_of};
+use crate::pieces::{Captured, Found, Reader};
 use crate::tap::sent_in;
 use crate::track::Air;
 use cbch_blocks::idle;
 use cbsp_wire::Cell;
 use std::alloc::{AllocError, Global};
 
-/// How many octets the header of a capture file has.
+/// How many octets the header of a capture file has in the classic format.
 const FILE_HEADER: usize = 24;
-
-/// How many octets the header of its packets has.
-const PACKET_HEADER: usize = 16;
 
 /// Whose packets are taken.
 #[derive(Clone, Copy, Debug, PartialEq, Eq)]
@@ -45,43 +41,46 @@ pub struct Wanted {
     pub from: Sender,
 }
 
-/// The tape that a capture file is: four blocks for each slot, idle where the file has none. Slot 0 is that of the
-/// first block; blocks after the last slot are passed over.
+/// The tape that a capture file is, in the classic format of libpcap or in pcapng: four blocks for each slot, idle
+/// where the file has none. Slot 0 is that of the first block; blocks after the last slot are passed over.
 ///
 /// # Errors
 ///
-/// Returns the fault of the first packet that has one, or of the file's header, which is packet 0, and out of memory.
+/// Returns the fault of the first packet or block that has one, or of the file's begin, which is packet 0, and out of
+/// memory.
 pub fn tape_of_capture(alloc: Global, input: &[u8], wanted: &Wanted) -> Result<Vec<u8>, AirFault>
     requires { length input.now < 2 ^ 48 }
     ensures tape { IfOk result (λ output. IsTapeOfCapture wanted.now input.now output.items) }
     ensures fault { IfErr result (IsAirFault wanted.now input.now) }
 {
-    if input.len() < FILE_HEADER {
-        return Err(fault_at(0, AirFaultKind::NoCapture));
-    }
-    let (header, packets) = input.split_at(FILE_HEADER);
-    let Some(order) = order_of(header) else {
-        return Err(fault_at(0, kind_of_unknown(header)));
+    let (reader, octets) = match opened(alloc, input) {
+        Ok(opened) => opened,
+        Err(kind) => return Err(fault_at(0, kind)),
     };
-    let number = link_number(order, header);
-    let Some(link) = link_numbered(number) else {
-        return Err(fault_at(0, AirFaultKind::OtherLink(number)));
-    };
-    match read_packets(alloc, wanted, order, link, packets) {
+    match read_pieces(alloc, wanted, reader, octets) {
         Ok(air) => Ok(tape_of(alloc, wanted, &air)?),
         Err(fault) => Err(fault),
     }
 }
 
-/// What a header is whose magic number isn't known.
-fn kind_of_unknown(header: &[u8]) -> AirFaultKind
-    requires { length header.now ≡ 24 }
-    ensures { result ≡ kind_of_unknown header.now }
+/// What is known of a capture file at its first packet or block, and the octets from there on.
+fn opened(alloc: Global, input: &[u8]) -> Result<(Reader, &[u8]), AirFaultKind>
+    ensures { MatchResult result (λ it. Opens input.now (section_of it.0) it.1.now) (IsBeginFault input.now) }
 {
-    if is_pcapng(header) {
-        AirFaultKind::Pcapng
-    } else {
-        AirFaultKind::NoCapture
+    if is_pcapng(input) {
+        return Ok((Reader::of_blocks(alloc), input));
+    }
+    if input.len() < FILE_HEADER {
+        return Err(AirFaultKind::NoCapture);
+    }
+    let (header, packets) = input.split_at(FILE_HEADER);
+    let Some(order) = order_of(header) else {
+        return Err(AirFaultKind::NoCapture);
+    };
+    let number = link_number(order, header);
+    match link_numbered(number) {
+        Some(_) => Ok((Reader::of_packets(alloc, order, number), packets)),
+        None => Err(AirFaultKind::OtherLink(number)),
     }
 }
 
@@ -92,61 +91,71 @@ fn fault_at(packet: u64, kind: AirFaultKind) -> AirFault
     AirFault { packet, kind }
 }
 
-/// What is known of a tape after all packets of a file.
-fn read_packets(
+/// What is known of a tape after all pieces of a file, from its first one on.
+fn read_pieces(
     alloc: Global,
     wanted: &Wanted,
-    order: OctetOrder,
-    link: Link,
+    mut reader: Reader,
     octets: &[u8],
 ) -> Result<Air, AirFault>
     requires { length octets.now < 2 ^ 48 }
-    ensures known { IfOk result (λ air. AreKnown wanted.now order link octets.now (known_of air)) }
-    ensures fault { IfErr result (IsPacketFault wanted.now order link octets.now) }
+    ensures known { IfOk result (λ air. AreKnown wanted.now (section_of reader) octets.now (known_of air)) }
+    ensures fault { IfErr result (IsPieceFault wanted.now (section_of reader) octets.now) }
 {
     let mut air = Air::new(alloc, wanted.slots)?;
     let mut left = octets;
     let mut number = 0;
-    'packets: while !left.is_empty() {
-        number += 1;
-        let Some((inside, rest)) = next_packet(order, left) else {
-            return Err(fault_at(number, AirFaultKind::Short));
+    'pieces: while !left.is_empty() {
+        let next = number + 1;
+        let (piece, rest) = match reader.split(left) {
+            Ok(split) => split,
+            Err(kind) => return Err(fault_at(next, kind)),
         };
-        if let Err(kind) = take(&mut air, link, wanted.from, inside) {
-            return Err(fault_at(number, kind));
+        let found = reader.enter(piece)?;
+        match take(&mut air, wanted.from, &found) {
+            Ok(packets) => number += packets,
+            Err(kind) => return Err(fault_at(next, kind)),
         }
         left = rest;
     }
     Ok(air)
 }
 
-/// The octets of the packet that octets begin with, and what follows it; none if they end inside it.
-fn next_packet(order: OctetOrder, octets: &[u8]) -> Option<(&[u8], &[u8])>
-    requires { 0 < length octets.now }
-    ensures { MatchOption result (IsCutPacket order octets.now)
-        (λ packet. BeginsWithPacket order octets.now packet.0.now packet.1.now) }
+/// Places the block that a packet carries, if one was found and it does, and returns how many packets there were.
+fn take(air: &mut Air, from: Sender, found: &Found) -> Result<u64, AirFaultKind>
+    requires { last_slot air.old.track < 2 ^ 60 }
+    ensures placed { OnOk result (after_found from (known_of air.old) found.now ≡ Ok (known_of air.new)) }
+    ensures many { IfOk result (λ packets. packets ≡ count_of found.now) }
+    ensures bound { OnOk result (last_slot air.new.track
+        ≤ last_slot air.old.track + 3328 * count_of found.now) }
+    ensures fault { IfErr result (λ kind. after_found from (known_of air.old) found.now ≡ Err kind) }
+    ensures kinds { IfErr result (IsFoundKind found.now) }
 {
-    if octets.len() < PACKET_HEADER {
-        return None;
+    match found {
+        Found::Packet(packet) => match take_packet(air, from, packet) {
+            Ok(()) => Ok(1),
+            Err(kind) => Err(kind),
+        },
+        Found::Nothing => Ok(0),
+        Found::Wrong => Err(AirFaultKind::WrongBlock),
     }
-    let (header, after) = octets.split_at(PACKET_HEADER);
-    let length = number_in(order, &header[8..]) as usize;
-    if after.len() < length {
-        return None;
-    }
-    Some(after.split_at(length))
 }
 
 /// Places the block that a packet carries, if it does.
-fn take(air: &mut Air, link: Link, from: Sender, octets: &[u8]) -> Result<(), AirFaultKind>
+#[tactic(auto, unfolding(crate::specs::TapeOfCapture::after_packet))]
+fn take_packet(air: &mut Air, from: Sender, packet: &Captured) -> Result<(), AirFaultKind>
     requires { last_slot air.old.track < 2 ^ 60 }
-    ensures placed { OnOk result (after_sent (known_of air.old) (sent_in link from octets.now)
-        ≡ Ok (known_of air.new)) }
+    ensures placed { OnOk result (after_packet from (known_of air.old)
+        (record { link = packet.now.link; octets = packet.now.octets.now }) ≡ Ok (known_of air.new)) }
     ensures bound { OnOk result (last_slot air.new.track ≤ last_slot air.old.track + 3328) }
-    ensures fault { IfErr result (λ kind. after_sent (known_of air.old) (sent_in link from octets.now) ≡ Err kind) }
-    ensures kinds { IfErr result IsBlockKind }
+    ensures fault { IfErr result (λ kind. after_packet from (known_of air.old)
+        (record { link = packet.now.link; octets = packet.now.octets.now }) ≡ Err kind) }
+    ensures kinds { IfErr result IsPacketKind }
 {
-    match sent_in(link, from, octets) {
+    let Some(link) = link_numbered(packet.link) else {
+        return Err(AirFaultKind::OtherLink(packet.link));
+    };
+    match sent_in(link, from, packet.octets) {
         Some(sent) => air.place(&sent),
         None => Ok(()),
     }

@@ -9,4 +9,6 @@ mod captures;
 #[cfg(test)]
 mod memory;
 #[cfg(test)]
+mod pcapng;
+#[cfg(test)]
 mod tapes;

@@ -36,12 +36,12 @@ fault_of_whole : (wanted : Wanted) (input read : List ℕ) (old new : Option (Li
     IsTapeCommandFault wanted input old new (fault_of_kind (record { packet = packet; kind = why }) why)
 fault_of_whole wanted input read old new packet kind.NoCapture is short told kept =
     fault_of_packet wanted input read old new packet kind.NoCapture is short told kept (λ e. cc)
-fault_of_whole wanted input read old new packet kind.Pcapng is short told kept =
-    fault_of_packet wanted input read old new packet kind.Pcapng is short told kept (λ e. cc)
 fault_of_whole wanted input read old new packet (kind.OtherLink number) is short told kept =
     fault_of_packet wanted input read old new packet (kind.OtherLink number) is short told kept (λ e. cc)
 fault_of_whole wanted input read old new packet kind.Short is short told kept =
     fault_of_packet wanted input read old new packet kind.Short is short told kept (λ e. cc)
+fault_of_whole wanted input read old new packet kind.WrongBlock is short told kept =
+    fault_of_packet wanted input read old new packet kind.WrongBlock is short told kept (λ e. cc)
 fault_of_whole wanted input read old new packet kind.Differs is short told kept =
     fault_of_packet wanted input read old new packet kind.Differs is short told kept (λ e. cc)
 fault_of_whole wanted input read old new packet kind.StepsBack is short told kept =

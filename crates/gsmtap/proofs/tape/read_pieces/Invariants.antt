@@ -1,0 +1,15 @@
+use Rattle.std.proofs.Common.{◌+◌, ◌*◌, ◌≤◌, length}
+use Rattle.gsmtap.specs.PieceSteps.{section_of}
+use Rattle.gsmtap.specs.TapeOfCapture.{AreTaken}
+use Rattle.gsmtap.specs.TapeSteps.{known_of, last_slot}
+use Rattle.gsmtap.proofs.tape.read_pieces.Given as goal
+
+abbrev pub invariant-pieces : goal.invariant-pieces
+invariant-pieces l = record {
+  taken : AreTaken l.wanted (section_of l.fn.reader) l.octets (section_of l.reader) l.left l.number (known_of l.air);
+  few : 12 * l.number + length l.left ≤ length l.octets;
+  near : last_slot l.air.track ≤ 3328 * l.number;
+}
+
+abbrev pub decreases-pieces : goal.decreases-pieces
+decreases-pieces l = length l.left
