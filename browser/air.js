@@ -45,7 +45,7 @@ function showAir() {
     if (state.pane !== "air") return;
     const isThere = state.groups.length > 0;
     $("a-none").hidden = isThere && !state.fault;
-    $("a-none").textContent = say(isThere ? "stale" : "noAir");
+    $("a-none").textContent = say(isThere ? "stale" : Desk.module ? "noAir" : "starting");
     $("a-all").hidden = !isThere;
     $("a-all").classList.toggle("stale", !!state.fault);
     if (!isThere) return;

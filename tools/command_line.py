@@ -3,7 +3,8 @@
 
 Usage: command_line.py              says which texts are stale, and fails if one is
        command_line.py --write      writes them
-       command_line.py PROGRAM      says also where the --help of a built program isn't as the source has it
+       command_line.py PROGRAM      says also where the --help of a built program isn't as the source has it, or is
+                                    wider than a terminal of 80 columns
        command_line.py --help       prints this
 
 The source is crates/warnc_cli/src/command.rt. The completions are written whole. Of the man page, docs/warnc.1, the
@@ -27,6 +28,8 @@ HELP = ("help", "Prints what a command takes")
 # a range of up to this many numbers is listed in completions
 FEW = 16
 WIDTH = 120
+# columns of a terminal; clap breaks no line, and a line of usage has as many words as the command takes
+TERMINAL, USAGE = 80, "Usage: "
 
 
 @dataclass
@@ -124,6 +127,9 @@ def unlike(program, commands):
         yield f"{program} --help lists other commands"
     for command in commands:
         said = said_by(program, command.name, "--help")
+        for line in said.splitlines():
+            if len(line) > TERMINAL and not line.startswith(USAGE):
+                yield f"{program} {command.name} --help has a line of {len(line)} columns: {line.strip()}"
         options = set(re.findall(r"^ +(?:-\w, )?--([\w-]+)", said, re.M)) - {"help"}
         if options != {it.name for it in command.options}:
             yield f"{program} {command.name} --help lists other options"

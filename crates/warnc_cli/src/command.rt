@@ -786,7 +786,7 @@ fn full<'a>(alloc: Global) -> Arg<'a> {
     flag(
         alloc,
         "full",
-        "Adds columns: after which slot a phone shows it first,\npages, period, share of the channel, cause in words",
+        "Adds columns: when a phone shows it first, pages,\nperiod, share of the channel, cause in words",
     )
 }
 
