@@ -26,7 +26,10 @@ from books import GROUP, Alert, Sending, cell_line, random_orders
 
 # the height of a full cell in the picture of the loads
 FULL = 1008
-ELEMENTS = set("html head meta title style body h1 h2 p details summary div b i bdi svg desc rect path span br".split())
+ELEMENTS = set("html head meta title style body h1 h2 p details summary div b i small bdi svg desc rect path span br"
+               .split())
+# the most marks of a message
+MOST_MARKS = 400
 TEXTS = [
     "Stay in!",
     "<script>document.title='wrong'</script>",
@@ -36,6 +39,8 @@ TEXTS = [
 ]
 TOP = os.path.dirname(os.path.dirname(os.path.realpath(__file__)))
 SLOTS_BY_HAND = 48
+# so long that some messages have more broadcasts than marks
+SLOTS_LONG = 1000
 # how many charts a browser opens, which takes it over a second each
 BROWSED = 10
 
@@ -67,9 +72,10 @@ class Page(html.parser.HTMLParser):
         if tag == "details":
             self.cells.append({"name": "", "lines": []})
         if tag == "div" and kind == "line":
-            self.cells[-1]["lines"].append({"text": "", "said": "", "title": ""})
+            self.cells[-1]["lines"].append({"text": "", "said": "", "title": "", "number": ""})
         if tag == "rect":
             self.cells[-1]["lines"][-1]["bar"] = (int(values["x"]), int(values["width"]))
+            self.cells[-1]["lines"][-1]["kind"] = kind
         if tag == "path":
             self.cells[-1]["lines"][-1][kind] = values["d"]
         if tag not in ("meta", "br", "img"):
@@ -85,8 +91,8 @@ class Page(html.parser.HTMLParser):
             self.cells[-1]["name"] += text
         elif inside == "title" and "svg" not in self.inside:
             self.title += text
-        elif inside in ("bdi", "desc", "title"):
-            name = {"bdi": "text", "desc": "said", "title": "title"}[inside]
+        elif inside in ("bdi", "desc", "title", "small"):
+            name = {"bdi": "text", "desc": "said", "title": "title", "small": "number"}[inside]
             self.cells[-1]["lines"][-1][name] += text
 
 
@@ -132,14 +138,24 @@ def expected(rows, shown):
     return cells
 
 
+def broadcasts_of(line):
+    """Returns how many whole broadcasts a message's line has: by its marks, or by the number that it says."""
+    marks = len(re.findall(r"M(\d+) 0v10", line["whole"]))
+    said = re.fullmatch(r"(\d+) broadcasts", line["number"])
+    if line["kind"] == "bar" and not line["number"] and marks <= MOST_MARKS:
+        return marks
+    is_many = line["kind"] == "bar many" and said and not line["whole"] and int(said[1]) > MOST_MARKS
+    return int(said[1]) if is_many else None
+
+
 def found(page):
     """Returns the same of a page."""
     cells = {}
     for cell in page.cells:
         for line in cell["lines"]:
             if "bar" in line:
-                marks = re.findall(r"M(\d+) 0v10", line["whole"])
-                cells.setdefault(cell["name"], []).append((line["title"], line["bar"], len(marks), line["text"]))
+                cells.setdefault(cell["name"], []).append(
+                    (line["title"], line["bar"], broadcasts_of(line), line["text"]))
             elif "refusal" in line:
                 slot = re.fullmatch(r"M(\d+) 0v10", line["refusal"])[1]
                 cause = re.search(r"\((..)\)$", line["said"])[1]
@@ -239,7 +255,8 @@ def main(words):
     books = [(book_by_hand(), []), *((random_book(chance), []) for _ in range(count))]
     books[5:5] = [(random_book(chance, 4 * GROUP), ["--network"]) for _ in range(-(-count // 10))]
     wrong = [it for number, (book, options) in enumerate(books)
-             for it in differences(program, browser if number < BROWSED else None, book, options)]
+             for it in differences(program, browser if number < BROWSED else None, book, options,
+                                   SLOTS_LONG if number % 4 == 3 else SLOTS_BY_HAND)]
     print("\n".join(wrong) or f"{len(books)} charts are as their reports{', in the browser too' if browser else ''}")
     return 1 if wrong else 0
 

@@ -1,7 +1,8 @@
 -- A message has as many marks as broadcasts of it were completed: its last page is aired as often, and never outside
 -- its reservation.
 use Rattle.std.proofs.Common.{◌≡◌, ◌<◌, ◌≤◌, ◌+◌, ◌-◌, ◌==◌, ◌∙◌, ◌∷◌, [], ℕ, suc, zero, Bool, true, false, List}
-use Rattle.std.proofs.Common.{Option, None, Some, ap, ap₂, cond, drop, get_or, length, min, refl, sym, take}
+use Rattle.std.proofs.Common.{Option, None, Some, All, ap, ap₂, cond, drop, get_or, if◌then◌else◌, length, min, nat_le}
+use Rattle.std.proofs.Common.{refl, sym, take}
 use native.Mathlib.Omega.{arith}
 use Rattle.std.specs.List.{Contains, count_by, range_with_len, slice_get}
 use Rattle.std.specs.Option.{option_map_or, unwrap_or}
@@ -18,10 +19,11 @@ use Rattle.scheduler.specs.Message.{ScheduledMessage, IsBeforeStop, release}
 use Rattle.scheduler.specs.Pages.{airs_page}
 use Rattle.bsc_table.specs.Claim.{end_of}
 use Rattle.bsc_table.specs.Guarantee.{ReservationsCoverBroadcasts}
-use Rattle.bsc_table.specs.Record.{Accepted, accepted_in, messages_in}
+use Rattle.bsc_table.specs.Legal.{IsLegal}
+use Rattle.bsc_table.specs.Record.{Accepted, Record, accepted_in, messages_in}
 use Rattle.bsc_table.specs.Written.{AcceptedHaveLoads, AcceptedRise}
-use Rattle.chart.specs.Laws.{MarksAreCompleted}
-use Rattle.chart.specs.Message.{end_within}
+use Rattle.chart.specs.Laws.{number_of_marks, MarksAreCompleted}
+use Rattle.chart.specs.Message.{are_many, end_within}
 
 -- the laws that are used
 pub record Laws : Type 0 where
@@ -120,9 +122,10 @@ in_reservation laws messages air m slots i rise here rule long within aired =
     before None is = omega (arith, within, long)
     before (Some end) is = omega (arith, within, long, is)
 
--- a message has a mark for each of its whole broadcasts
-pub marks_are_completed : Laws → MarksAreCompleted
-marks_are_completed laws r legal played k d within =
+-- each whole broadcast of a message has a mark
+each_has_a_mark : Laws → (r : Record) → IsLegal r → r.clock ≡ r.slots
+    → All (λ a. number_of_marks r.slots r.air a.message ≡ completed a.message r.air r.slots) (accepted_in r.log)
+each_has_a_mark laws r legal played k d within =
     let all : List Accepted = accepted_in r.log in
     let a : Accepted = get_or all k d in
     let m = a.message in
@@ -149,3 +152,13 @@ marks_are_completed laws r legal played k d within =
     ∙ ap (count_by p) (sym (take_all (length r.air) r.air (omega arith)))
     ∙ laws.last (messages_in r.log) r.air m (length r.air) rise there load.0 load.1 legal.aired (omega arith)
     ∙ ap (completed m r.air) slots
+
+-- a message has a mark for each of its whole broadcasts, where they are drawn
+pub marks_are_completed : Laws → MarksAreCompleted
+marks_are_completed laws r shown legal played k d within =
+    drawn (completed (get_or (accepted_in r.log) k d).message r.air r.slots) _
+    (each_has_a_mark laws r legal played k d within)
+  where
+    drawn : (whole number : ℕ) → number ≡ whole
+        → (if are_many whole then 0 else number) ≡ (if nat_le whole 400 then whole else 0)
+    drawn whole number is = grind (arith, is)

@@ -1,7 +1,7 @@
 -- The chart of a run: one page in HTML that stands alone (own). What is fixed in it are constants of the code; what is
 -- said here is what stands between them, and in which order.
 use Rattle.std.specs.Prelude.{ℕ, ◌-◌, ◌*◌, ◌/◌, ◌%◌, ◌==◌, ◌&&◌, Bool, true, if◌then◌else◌, Option, Some, None, List}
-use Rattle.std.specs.Prelude.{[], ◌∷◌, ◌++◌, codes}
+use Rattle.std.specs.Prelude.{[], ◌∷◌, ◌++◌}
 use Rattle.std.specs.Fmt.{decimal}
 use Rattle.std.specs.List.{flat_map}
 use Rattle.std.specs.Io.KnownBytes.{Appends}
@@ -28,7 +28,7 @@ use Rattle.chart.specs.declared.load.TheConstants as loads
 use Rattle.chart.specs.declared.time.TheConstants as times
 use Rattle.chart.specs.Escape.{escaped}
 use Rattle.chart.specs.Load.{load_line}
-use Rattle.chart.specs.Message.{category_words, marks_of, text_shown}
+use Rattle.chart.specs.Message.{are_many, category_words, drawn_marks, text_shown}
 
 -- the name of what a row is of: its identifier, and its serial number in hexadecimal
 unfoldable pub name_text : Row → List ℕ
@@ -49,23 +49,38 @@ description row outcome =
     lines.FROM.now ++ decimal row.start ++ lines.TO.now ++ decimal row.end ++ lines.WHOLE.now ++ decimal row.completed
     ++ outcome
 
--- its bar, from its start to its end, in slots; none where it never started
-unfoldable pub bar : Row → List ℕ
-bar row = lines.BAR.now ++ decimal row.start ++ lines.WIDTH.now ++ decimal (row.end - row.start) ++ lines.BAR_END.now
+-- its bar, from its start to its end, in slots; none where it never started. It is another one where the broadcasts are
+-- too many for marks
+abbrev pub bar_front : (whole : ℕ) → List ℕ
+bar_front whole = if are_many whole then lines.MANY.now else lines.BAR.now
 
--- what is said of it: its name, its category and its text
+unfoldable pub bar : Row → List ℕ
+bar row =
+    bar_front row.completed ++ decimal row.start ++ lines.WIDTH.now ++ decimal (row.end - row.start)
+    ++ lines.BAR_END.now
+
+-- what is said of it: its name, its category, how many broadcasts were whole, where they are too many for marks, and
+-- its text
 unfoldable pub message_name : Row → Option Accepted → List ℕ
 message_name row found =
-    lines.LINE.now ++ name_text row ++ lines.NAME_END.now ++ category_words found ++ lines.TEXT.now
+    lines.LINE.now ++ name_text row ++ lines.NAME_END.now ++ category_words found ++ lines.CATEGORY_END.now
+
+unfoldable pub number_text : (whole : ℕ) → List ℕ
+number_text whole = lines.NUMBER.now ++ decimal whole ++ lines.NUMBER_END.now
+
+abbrev pub many_text : (whole : ℕ) → List ℕ
+many_text whole = if are_many whole then number_text whole else []
 
 unfoldable pub message_front : Row → Option Accepted → (text : List ℕ) → List ℕ
-message_front row found text = message_name row found ++ escaped text ++ lines.TEXT_END.now
+message_front row found text =
+    message_name row found ++ many_text row.completed ++ lines.TEXT.now ++ escaped text ++ lines.TEXT_END.now
 
--- the line of an accepted message: what is said of it, and its picture, a bar with a mark for each whole broadcast
+-- the line of an accepted message: what is said of it, and its picture, a bar with a mark for each whole broadcast, or
+-- without marks where those are too many
 abbrev pub message_line : Record → Row → Option Accepted → (text outcome : List ℕ) → List ℕ
 message_line r row found text outcome =
     message_front row found text ++ picture_front r.slots row ++ description row outcome ++ bar row
-    ++ marks_of r.slots r.air found ++ lines.LINE_END.now
+    ++ drawn_marks row.completed r.slots r.air found ++ lines.LINE_END.now
 
 -- what a screen reader says of a refused order
 unfoldable pub refusal_description : Row → (number : ℕ) → List ℕ

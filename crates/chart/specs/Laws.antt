@@ -1,5 +1,5 @@
 -- What the marks and the loads of a chart promise (own).
-use Rattle.std.specs.Prelude.{◌≡◌, ℕ, ◌-◌, ◌≤◌, All, count_by}
+use Rattle.std.specs.Prelude.{◌≡◌, ℕ, ◌-◌, ◌*◌, ◌≤◌, All, List, count_by, if◌then◌else◌, nat_le}
 use Rattle.std.specs.List.{range_with_len}
 use Rattle.admission.specs.declared.measure.TheConstants.{SCALE}
 use Rattle.scheduler.specs.Air.{Air}
@@ -7,22 +7,31 @@ use Rattle.scheduler.specs.Completed.{completed}
 use Rattle.scheduler.specs.Message.{ScheduledMessage}
 use Rattle.bsc_table.specs.Legal.{IsLegal}
 use Rattle.bsc_table.specs.Record.{Record, accepted_in}
+use Rattle.handset.specs.Reception.{ShownMessage}
+use Rattle.report.specs.Rows.{message_row}
 use Rattle.chart.specs.Load.{height_of}
-use Rattle.chart.specs.Message.{end_within, is_marked}
-use Rattle.chart.specs.declared.load.TheConstants.{LOAD_HEIGHT}
+use Rattle.chart.specs.Message.{are_many, end_within, is_marked}
+use Rattle.chart.specs.declared.load.TheConstants.{LOAD_HEIGHT, LOAD_STEP}
 
 -- how many marks a message has
 abbrev pub number_of_marks : (slots : ℕ) → Air → ScheduledMessage → ℕ
 number_of_marks slots air m = count_by (is_marked air m) (range_with_len m.start (end_within slots m - m.start))
 
--- an accepted message has as many marks as broadcasts of it were completed
+-- how many are drawn of a message of which so many broadcasts are whole
+abbrev pub number_drawn : (whole slots : ℕ) → Air → ScheduledMessage → ℕ
+number_drawn whole slots air m = if are_many whole then 0 else number_of_marks slots air m
+
+-- an accepted message has as many marks as broadcasts of it were completed, if these are at most 400, and else none
 abbrev pub MarksAreCompleted : Type 0
-MarksAreCompleted = (r : Record)
+MarksAreCompleted = (r : Record) (shown : List ShownMessage)
     → IsLegal r
     → r.clock ≡ r.slots
-    → All (λ a. number_of_marks r.slots r.air a.message ≡ completed a.message r.air r.slots) (accepted_in r.log)
+    → All (λ a. let whole = completed a.message r.air r.slots in
+    (number_drawn (message_row r shown a).completed r.slots r.air a.message ≡ (if nat_le whole 400 then whole else 0)))
+    (accepted_in r.log)
 
--- a full cell is drawn at the picture's top, an empty one at its bottom, and more never lower than less
+-- a full cell is as high as the picture in steps, is drawn at its top, an empty one at its bottom, and more never lower
+-- than less
 abbrev pub HeightsAreOfLoads : Type 0
-HeightsAreOfLoads = (height_of SCALE ≡ 0) × (height_of 0 ≡ LOAD_HEIGHT)
+HeightsAreOfLoads = (LOAD_HEIGHT * LOAD_STEP ≡ SCALE) × (height_of SCALE ≡ 0) × (height_of 0 ≡ LOAD_HEIGHT)
     × ((load more : ℕ) → load ≤ more → height_of more ≤ height_of load)

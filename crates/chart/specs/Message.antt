@@ -1,6 +1,6 @@
 -- What is drawn of an accepted message beside its row (own).
 use Rattle.std.specs.Prelude.{ℕ, ◌+◌, ◌-◌, ◌==◌, ◌&&◌, if◌then◌else◌, min, Option, Some, None, List, [], ◌++◌, find}
-use Rattle.std.specs.Prelude.{Bool, false, slice_get}
+use Rattle.std.specs.Prelude.{Bool, false, nat_lt, slice_get}
 use Rattle.std.specs.Fmt.{decimal}
 use Rattle.std.specs.List.{flat_map, range_with_len}
 use Rattle.std.specs.Option.{option_map_or, unwrap_or}
@@ -12,7 +12,7 @@ use Rattle.scheduler.specs.declared.plan.Rank.TheVariants as ranks
 use Rattle.bsc_table.specs.Claim.{end_of}
 use Rattle.bsc_table.specs.Record.{Accepted}
 use Rattle.handset.specs.Reception.{ShownMessage}
-use Rattle.chart.specs.declared.message.TheConstants.{HIGH, NORMAL, BACKGROUND, MARK, MARK_END}
+use Rattle.chart.specs.declared.message.TheConstants.{HIGH, NORMAL, BACKGROUND, MARK, MARK_END, MOST_MARKS}
 
 -- the text that a handset shows of a message of this identifier and serial number, if it shows one
 abbrev pub text_shown : List ShownMessage → (id serial : ℕ) → List ℕ
@@ -44,3 +44,11 @@ abbrev pub marks_of : (slots : ℕ) → Air → Option Accepted → List ℕ
 marks_of slots air None = []
 marks_of slots air (Some a) =
     flat_map (mark_at air a.message) (range_with_len a.message.start (end_within slots a.message - a.message.start))
+
+-- whether a message has so many whole broadcasts that one couldn't see a mark for each
+abbrev pub are_many : (whole : ℕ) → Bool
+are_many whole = nat_lt MOST_MARKS whole
+
+-- the marks that are drawn of a message of which so many broadcasts are whole: all, or none
+abbrev pub drawn_marks : (whole slots : ℕ) → Air → Option Accepted → List ℕ
+drawn_marks whole slots air found = if are_many whole then [] else marks_of slots air found

@@ -42,12 +42,13 @@ h2{display:inline;font-size:1em}
 .line p{display:flex;gap:.3em;margin:0;overflow:hidden;white-space:nowrap}
 .line bdi,.cause{flex:1;min-width:0;overflow:hidden;text-overflow:ellipsis}
 .line:hover p,.line p:active{white-space:normal}
-.line i{color:var(--faint)}
+.line i,.line small{color:var(--faint);font-size:1em}
 svg{background:var(--lane);display:block;height:1.2em;width:100%}
 path{vector-effect:non-scaling-stroke}
 .loads{border-top:2px solid var(--refusal);height:4em}
 .bar,.load{fill:var(--bar)}
 .whole{stroke:var(--whole)}
+.many{fill:var(--whole)}
 .refusal{stroke:var(--refusal);stroke-width:4px}
 .line .axis{color:var(--faint);font-size:.85em;justify-content:space-between;overflow:visible}
 .axis span{width:0}
@@ -78,8 +79,8 @@ pub const SLOTS: &str = " slots of 1.883 s, ";
 /// What comes after their time.
 pub const INTRODUCTION: &str =
     r#" minutes. A bar is a message from its start to its end, with a mark wherever a
-broadcast of it is whole; a red mark is a refused order. Below is the load that the cell has reserved: at the red edge
-it is full.</p>
+broadcast of it is whole, or darker and with their number if there are over 400; a red mark is a refused order. Below is
+the load that the cell has reserved: at the red edge it is full.</p>
 "#;
 
 /// The end of the page.

@@ -9,10 +9,10 @@ pub fn chart_laws()
     // No text begins or ends a tag, or the value of an attribute.
     ensures escaped { EscapedIsPlain }
 
-    // A message has as many marks as broadcasts of it were completed.
+    // A message has as many marks as broadcasts of it were completed, and none if these are over 400.
     ensures marks { MarksAreCompleted }
 
-    // The picture of the loads is as high as a full cell.
+    // The picture of the loads is as high as a full cell, and in proportion.
     ensures heights { HeightsAreOfLoads }
 {
     bsc_table::guarantee();

@@ -7,13 +7,13 @@ ghost use Rattle.chart.specs.Message.{text_shown};
 ghost use Rattle.chart.specs.Kept.{accepted_kept};
 ghost use Rattle.std.specs.Option.{option_map};
 ghost use Rattle.handset.specs.Keeping.{messages_shown};
-ghost use Rattle.chart.specs.ChartText.{bar, description, line_of, message_front, message_line, message_name};
-ghost use Rattle.chart.specs.ChartText.{name_text, picture_front};
+ghost use Rattle.chart.specs.ChartText.{bar, bar_front, description, line_of, many_text, message_front, message_line};
+ghost use Rattle.chart.specs.ChartText.{message_name, name_text, number_text, picture_front};
 ghost use Rattle.chart.specs.ChartText.{refusal_description, refusal_front, refusal_line, refusal_picture};
 
 use crate::cause::push_cause;
 use crate::kept::{KeptMessage, named};
-use crate::message::{category_words, push_marks, text_shown};
+use crate::message::{are_many, category_words, push_drawn_marks, text_shown};
 use crate::page::Page;
 use bsc_table::CellRecord;
 use handset::Shown;
@@ -29,8 +29,17 @@ pub const SPACE: &str = " ";
 /// What comes after the name of a message.
 pub const NAME_END: &str = "</b> <i>";
 
+/// What comes after its category.
+pub const CATEGORY_END: &str = "</i> ";
+
+/// What comes before the number of its whole broadcasts, where they are too many for marks.
+pub const NUMBER: &str = "<small>";
+
+/// What comes after that number.
+pub const NUMBER_END: &str = " broadcasts</small> ";
+
 /// What comes before its text.
-pub const TEXT: &str = "</i> <bdi>";
+pub const TEXT: &str = "<bdi>";
 
 /// What comes after its text.
 pub const TEXT_END: &str = "</bdi></p>\n";
@@ -67,6 +76,9 @@ pub const NOT_SHOWN: &str = ", not shown";
 
 /// The front of the bar, up to its start.
 pub const BAR: &str = "</desc>\n<rect class=\"bar\" height=\"10\" x=\"";
+
+/// The same, where the broadcasts are too many for marks.
+pub const MANY: &str = "</desc>\n<rect class=\"bar many\" height=\"10\" x=\"";
 
 /// What comes before its width.
 pub const WIDTH: &str = "\" width=\"";
@@ -125,12 +137,19 @@ fn push_description(page: &mut Page, row: &Row, outcome: &'static str) -> Result
     page.markup(outcome)
 }
 
+/// The front of the bar of a message of which so many broadcasts are whole.
+fn bar_front(whole: u16) -> &'static str
+    ensures { result.now ≡ bar_front whole }
+{
+    if are_many(whole) { MANY } else { BAR }
+}
+
 /// Appends the bar of an accepted message.
 #[tactic(auto, unfolding(crate::specs::ChartText::bar))]
 fn push_bar(page: &mut Page, row: &Row) -> Result<(), AllocError>
     ensures { OnOk result (page.new ≡ page.old ++ bar row.now) }
 {
-    page.markup(BAR)?;
+    page.markup(bar_front(row.completed))?;
     page.number(u64::from(row.start))?;
     page.markup(WIDTH)?;
     page.number(u64::from(u32::from(row.end).saturating_sub(row.start)))?;
@@ -150,7 +169,28 @@ fn push_message_name(
     push_name(page, row)?;
     page.markup(NAME_END)?;
     page.markup(category_words(found))?;
-    page.markup(TEXT)
+    page.markup(CATEGORY_END)
+}
+
+/// Appends the number of a message's whole broadcasts in words.
+#[tactic(auto, unfolding(crate::specs::ChartText::number_text))]
+fn push_number(page: &mut Page, whole: u16) -> Result<(), AllocError>
+    ensures { OnOk result (page.new ≡ page.old ++ number_text whole) }
+{
+    page.markup(NUMBER)?;
+    page.number(u64::from(whole))?;
+    page.markup(NUMBER_END)
+}
+
+/// Appends it, where they are too many for marks.
+fn push_many(page: &mut Page, whole: u16) -> Result<(), AllocError>
+    ensures { OnOk result (page.new ≡ page.old ++ many_text whole) }
+{
+    if are_many(whole) {
+        push_number(page, whole)
+    } else {
+        Ok(())
+    }
 }
 
 /// Appends what is said of an accepted message.
@@ -165,6 +205,8 @@ fn push_message_front(
         ++ message_front row.now (option_map accepted_kept found) text.now) }
 {
     push_message_name(page, row, found)?;
+    push_many(page, row.completed)?;
+    page.markup(TEXT)?;
     page.text(text)?;
     page.markup(TEXT_END)
 }
@@ -233,7 +275,7 @@ impl<'a> CellContext<'a> {
         push_picture_front(page, self.run.slots(), row)?;
         push_description(page, row, outcome)?;
         push_bar(page, row)?;
-        push_marks(page, self.run.air(), found)?;
+        push_drawn_marks(page, row.completed, self.run.air(), found)?;
         page.markup(LINE_END)
     }
 

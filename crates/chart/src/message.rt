@@ -6,7 +6,7 @@ ghost use Rattle.scheduler.specs.Pages.{airs_page};
 ghost use Rattle.bsc_table.specs.Book.{air_pairs, aired_pair};
 ghost use Rattle.handset.specs.Keeping.{messages_shown};
 ghost use Rattle.chart.specs.Kept.{accepted_kept};
-ghost use Rattle.chart.specs.Message.{category_words, mark_at, marks_of, text_shown};
+ghost use Rattle.chart.specs.Message.{are_many, category_words, drawn_marks, mark_at, marks_of, text_shown};
 
 use crate::kept::KeptMessage;
 use crate::load::end_within;
@@ -30,6 +30,9 @@ pub const MARK: &str = "M";
 
 /// What comes after it: the mark is drawn downwards.
 pub const MARK_END: &str = " 0v10";
+
+/// The most marks of a message. One with more whole broadcasts has none, since they would run into one another.
+pub const MOST_MARKS: u16 = 400;
 
 /// The category of a message in words; nothing of none.
 pub(crate) fn category_words(found: Option<KeptMessage>) -> &'static str
@@ -86,8 +89,32 @@ fn push_mark(
     Ok(())
 }
 
+/// Whether a message has so many whole broadcasts that one couldn't see a mark for each.
+pub(crate) fn are_many(whole: u16) -> bool
+    ensures { result ≡ are_many whole }
+{
+    whole > MOST_MARKS
+}
+
+/// Appends the marks of a message of which so many broadcasts are whole: all, or none where they are too many.
+pub(crate) fn push_drawn_marks(
+    page: &mut Page,
+    whole: u16,
+    air: &[Option<Aired>],
+    found: Option<KeptMessage>,
+) -> Result<(), AllocError>
+    requires { IfSome found (λ k. 0 < k.period) }
+    ensures { OnOk result (page.new ≡ page.old
+        ++ drawn_marks whole (length air.now) (air_pairs air.now) (option_map accepted_kept found)) }
+{
+    if are_many(whole) {
+        return Ok(());
+    }
+    push_marks(page, air, found)
+}
+
 /// Appends the marks of a message: one for each broadcast, after the slot that makes it whole.
-pub(crate) fn push_marks(
+fn push_marks(
     page: &mut Page,
     air: &[Option<Aired>],
     found: Option<KeptMessage>,

@@ -76,6 +76,22 @@ past <rect class=\"bar\" height=\"10\" x=\"4\" width=\"4\"/> -> yes
 past d=\"M0 1008H0V252H1V0H8V1008z\" -> yes
 past </html> -> yes
 
+# a mark for each of 400 broadcasts, and none for 401
+in cell,1,1
+in write,0,a,1,0,1,en,0,1,0,*,One
+args chart --slots 400
+run -> 0
+past <i>high</i> <bdi>One</bdi> -> yes
+past <rect class=\"bar\" height=\"10\" x=\"0\" width=\"400\"/> -> yes
+past M398 0v10M399 0v10M400 0v10\"/> -> yes
+past </html> -> yes
+args chart --slots 401
+run -> 0
+past <i>high</i> <small>401 broadcasts</small> <bdi>One</bdi> -> yes
+past <rect class=\"bar many\" height=\"10\" x=\"0\" width=\"401\"/> -> yes
+out -> <path class=\"whole\" d=\"\"/></svg></div>
+past </html> -> yes
+
 # a cell that the book doesn't have, and a book without cells
 in cell,1,1
 args chart --slots 4 --cell=1-2
@@ -112,5 +128,5 @@ usage -> 2 error:
 
 #[test]
 fn books_give_charts(rt: HostRuntime) -> Result<(), Fail> {
-    expect_rows(&rt, CHART, 93)
+    expect_rows(&rt, CHART, 103)
 }

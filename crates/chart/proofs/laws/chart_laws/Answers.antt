@@ -13,5 +13,5 @@ returns c = record {
     order = c.air_laws.ensures.in_order;
     last = c.air_laws.ensures.last_page_counts;
   });
-  heights = (refl, refl, λ load more less. omega (arith, less));
+  heights = (refl, refl, refl, λ load more less. omega (arith, less));
 }
