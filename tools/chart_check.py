@@ -6,9 +6,11 @@ Usage: chart_check.py PROGRAM [BOOKS]            makes so many random books (20 
        chart_check.py PROGRAM --picture FILE     writes a picture of the chart of the book by hand (PNG)
 
 Of each chart the bars, marks, refusals, texts and loads are counted and compared with the rows of `report`, with what
-`read` shows of the tapes of `compile`; the lines of the loads have to stay within the cell's room. In the chart of a
-network each group has to hold its own cells. Chromium, where it is installed, opens each page: it has to find the same
-bars, and no element that the program didn't write, whatever the texts say.
+`read` shows of the tapes of `compile`; the lines of the loads have to stay within the cell's room. No two sections may
+have the same contents, and the overview has to have a strip for each, with the numbers that its heading has. In the
+chart of a network each group has to hold its own cells. Chromium, where it is installed, opens each page: it has to
+find the same bars, and no element that the program didn't write, whatever the texts say; and at three widths nothing
+may be wider than the window.
 """
 import csv
 import html.parser
@@ -26,8 +28,8 @@ from books import GROUP, Alert, Sending, cell_line, random_orders
 
 # the height of a full cell in the picture of the loads
 FULL = 1008
-ELEMENTS = set("html head meta title style body h1 h2 p details summary div b i small bdi svg desc rect path span br"
-               .split())
+ELEMENTS = set("html head meta title style body h1 h2 p nav a details summary div b i small bdi svg desc rect path span"
+               " br".split())
 # the most marks of a message
 MOST_MARKS = 400
 TEXTS = [
@@ -43,16 +45,21 @@ SLOTS_BY_HAND = 48
 SLOTS_LONG = 1000
 # how many charts a browser opens, which takes it over a second each
 BROWSED = 10
+# widths of windows in pixels
+WIDTHS = (320, 400, 1280)
 
 
 class Page(html.parser.HTMLParser):
-    """What stands in a page: its cells, each with its lines, in order, and the groups, each with its cells' names."""
+    """What stands in a page: its sections, each with its names, its contents and its lines, in order, its strips, and
+    the groups, each with its cells' names."""
 
     def __init__(self, text):
         super().__init__()
-        self.cells, self.elements, self.inside, self.title = [], set(), [], ""
+        self.cells, self.strips, self.elements, self.inside, self.title = [], [], set(), [], ""
         self.feed(text)
         self.groups = self.groups_taken_out()
+        for section, text in zip(self.cells, text.split("<details open")[1:]):
+            section["contents"] = text[text.index("</h2>"):text.index("</details>")]
 
     def groups_taken_out(self):
         """Returns the groups, which so far stand among the cells, and leaves the cells alone there."""
@@ -61,23 +68,25 @@ class Page(html.parser.HTMLParser):
             if section["name"].startswith("Group "):
                 groups.append((section["name"], []))
             elif groups:
-                groups[-1][1].append(section["name"])
+                groups[-1][1].extend(names_of(section["name"]))
         self.cells = [it for it in self.cells if not it["name"].startswith("Group ")]
-        return groups
+        return [(name, sorted(cells)) for name, cells in groups]
 
     def handle_starttag(self, tag, attributes):
         self.elements.add(tag)
         values = dict(attributes)
         kind = values.get("class")
+        if tag == "a":
+            self.strips.append({"to": values["href"], "name": "", "facts": ""})
         if tag == "details":
-            self.cells.append({"name": "", "lines": []})
+            self.cells.append({"id": values.get("id"), "name": "", "facts": "", "lines": []})
         if tag == "div" and kind == "line":
             self.cells[-1]["lines"].append({"text": "", "said": "", "title": "", "number": ""})
         if tag == "rect":
             self.cells[-1]["lines"][-1]["bar"] = (int(values["x"]), int(values["width"]))
             self.cells[-1]["lines"][-1]["kind"] = kind
         if tag == "path":
-            self.cells[-1]["lines"][-1][kind] = values["d"]
+            (self.strips if "nav" in self.inside else self.cells[-1]["lines"])[-1][kind] = values["d"]
         if tag not in ("meta", "br", "img"):
             self.inside.append(tag)
 
@@ -87,13 +96,27 @@ class Page(html.parser.HTMLParser):
 
     def handle_data(self, text):
         inside = self.inside[-1] if self.inside else ""
-        if inside == "h2":
-            self.cells[-1]["name"] += text
+        if "nav" in self.inside:
+            if inside in ("b", "i"):
+                self.strips[-1]["name" if inside == "b" else "facts"] += text
+        elif inside in ("h2", "summary"):
+            self.cells[-1]["name" if inside == "h2" else "facts"] += text.rstrip("\n")
         elif inside == "title" and "svg" not in self.inside:
             self.title += text
         elif inside in ("bdi", "desc", "title", "small"):
             name = {"bdi": "text", "desc": "said", "title": "title", "small": "number"}[inside]
             self.cells[-1]["lines"][-1][name] += text
+
+
+def names_of(heading):
+    """Returns the names of the cells that a heading names."""
+    if not heading.startswith("Cells "):
+        return [heading]
+    *names, number = heading.removeprefix("Cells ").split(", ")
+    span = re.fullmatch(r"(\d+)-(\d+) to \1-(\d+)", names[0])
+    if span:
+        names = [f"{span[1]}-{ci}" for ci in range(int(span[2]), int(span[3]) + 1)]
+    return [f"Cell {it}" for it in names] if number == f"{len(names)} cells" else []
 
 
 def run(program, words, given):
@@ -152,15 +175,67 @@ def found(page):
     """Returns the same of a page."""
     cells = {}
     for cell in page.cells:
+        lines = []
         for line in cell["lines"]:
             if "bar" in line:
-                cells.setdefault(cell["name"], []).append(
-                    (line["title"], line["bar"], broadcasts_of(line), line["text"]))
+                lines.append((line["title"], line["bar"], broadcasts_of(line), line["text"]))
             elif "refusal" in line:
                 slot = re.fullmatch(r"M(\d+) 0v10", line["refusal"])[1]
                 cause = re.search(r"\((..)\)$", line["said"])[1]
-                cells.setdefault(cell["name"], []).append((line["title"], "refusal", int(slot), cause))
+                lines.append((line["title"], "refusal", int(slot), cause))
+        if lines:
+            cells.update((name, lines) for name in names_of(cell["name"]))
     return cells
+
+
+def fullest_of(line):
+    """Returns how full a line of loads gets, in hundredths rounded up, and where that begins; the line has full steps
+    alone, so the share may be one more than that."""
+    steps = [(FULL - int(b), -int(a)) for a, b in re.findall(r"H(\d+)V(\d+)", line)]
+    most, slot = max(steps)
+    return (-(-most * 100 // FULL), -slot) if most else (0, 0)
+
+
+def wrong_facts(page):
+    """Yields what is wrong with the headings and the overview."""
+    if len(page.cells) != len({it["contents"] for it in page.cells}):
+        yield "two sections have the same contents"
+    pattern = r" messages: (\d+), refused: (\d+), fullest: ((\d+) % at (\d+)\.(\d) min)"
+    of_group = [cells for _, cells in page.groups] or [[it for each in page.cells for it in names_of(each["name"])]]
+    for section in page.cells:
+        facts = re.fullmatch(pattern, section["facts"])
+        lines = section["lines"]
+        share, slot = fullest_of(next(it["load"] for it in lines if "load" in it))
+        tenths = slot * 102 // 325
+        counts = [sum(kind in it for it in lines) for kind in ("bar", "refusal")]
+        if not facts or [int(facts[1]), int(facts[2])] != counts:
+            yield f"{section['name']}: {section['facts']} isn't of {counts} messages and refusals"
+        elif int(facts[4]) not in (share, share + 1) or int(facts[5]) * 10 + int(facts[6]) != tenths:
+            yield f"{section['name']}: {facts[3]} isn't {share} % at slot {slot}"
+        strips = [it for it in page.strips if it["to"] == f"#{section['id']}"]
+        first, *more = names_of(section["name"])
+        name = first.removeprefix("Cell ") + (f" and {len(more)} more" if more else "")
+        is_alone = [first] in of_group
+        wanted = [(name, f"{facts[3]}, refused: {facts[2]}")] if facts and not is_alone else []
+        if section["id"] != "c" + first.removeprefix("Cell "):
+            yield f"{section['name']} has the name {section['id']}"
+        if [(it["name"], it["facts"]) for it in strips] != wanted:
+            yield f"{section['name']}: the overview has {strips}"
+
+
+def too_wide(browser, path):
+    """Yields at which widths of a window something in the page is wider."""
+    frames = "".join(f'<iframe src="file://{path}" width="{width}" height="600" style="border:0"></iframe>'
+                     for width in WIDTHS)
+    said = "[...document.querySelectorAll('iframe')].map((it) => it.contentDocument.documentElement.scrollWidth).join()"
+    with tempfile.TemporaryDirectory() as folder:
+        frame = os.path.join(folder, "frames.html")
+        with open(frame, "w", encoding="utf-8") as file:
+            file.write(f"{frames}<script>onload = () => {{ document.title = {said}; }};</script>")
+        dom = dom_of(browser, frame, "--allow-file-access-from-files", "--hide-scrollbars")
+    found_widths = re.search(r"<title>([\d,]*)</title>", dom)
+    if not found_widths or found_widths[1] != ",".join(map(str, WIDTHS)):
+        yield f"windows of {WIDTHS} pixels have pages of {found_widths and found_widths[1]}"
 
 
 def wrong_loads(page, slots):
@@ -174,10 +249,10 @@ def wrong_loads(page, slots):
             yield f"{cell['name']}: {line} leaves the picture"
 
 
-def dom_of(browser, path):
+def dom_of(browser, path, *more):
     """Returns the page as a browser has it once it is loaded."""
     with tempfile.TemporaryDirectory() as profile:
-        words = [browser, "--headless=new", "--no-sandbox", "--disable-gpu", f"--user-data-dir={profile}"]
+        words = [browser, "--headless=new", "--no-sandbox", "--disable-gpu", f"--user-data-dir={profile}", *more]
         return subprocess.run([*words, "--virtual-time-budget=2000", "--dump-dom", f"file://{path}"],
                               stdout=subprocess.PIPE, stderr=subprocess.DEVNULL, check=True).stdout.decode()
 
@@ -191,7 +266,7 @@ def shown_of(program, given, options):
 def groups_of(book):
     """Returns the groups of a network book, each with its cells' names, in the order of the book."""
     names = [f"Cell {lac}-{ci}" for lac, ci in re.findall(r"^cell,(\d+),(\d+)$", book, re.M)]
-    return [(f"Group {first // GROUP}", names[first:first + GROUP]) for first in range(0, len(names), GROUP)]
+    return [(f"Group {first // GROUP}", sorted(names[first:first + GROUP])) for first in range(0, len(names), GROUP)]
 
 
 def differences(program, browser, book, options, slots=SLOTS_BY_HAND):
@@ -210,6 +285,7 @@ def differences(program, browser, book, options, slots=SLOTS_BY_HAND):
             with open(path, "wb") as file:
                 file.write(chart)
             pages.append(("the browser", Page(dom_of(browser, path))))
+            yield from too_wide(browser, path)
     for name, page in pages:
         if found(page) != wanted:
             yield f"{name} has {found(page)}, the report {wanted}"
@@ -220,6 +296,7 @@ def differences(program, browser, book, options, slots=SLOTS_BY_HAND):
         if page.title != "Warnings by cell":
             yield f"{name} has the title {page.title}"
         yield from wrong_loads(page, slots)
+        yield from wrong_facts(page)
 
 
 def book_by_hand():

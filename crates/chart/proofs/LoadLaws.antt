@@ -1,10 +1,16 @@
 -- What a message claims, by the slots of its reservation.
 use Rattle.std.proofs.Common.{◌≡◌, ◌<◌, ◌≤◌, ◌&&◌, ◌∙◌, ℕ, Bool, min, nat_le, nat_lt, if◌then◌else◌, Option, Some, None}
-use Rattle.std.proofs.Common.{ap, sym}
+use Rattle.std.proofs.Common.{List, All, ap, length, map, subst, sym}
 use native.Mathlib.Omega.{arith}
+use Rattle.std.specs.List.{range_with_len}
 use Rattle.std.specs.Option.{unwrap_or}
+use Rattle.std.proofs.lemmas.Grind.{get_or_default_zero}
+use Rattle.std.proofs.lemmas.List.FromFn.{fill_by_all}
+use Rattle.admission.specs.declared.measure.TheConstants.{SCALE}
+use Rattle.bsc_table.specs.Room.{ClaimsFit}
 use Rattle.admission.specs.Reservation.{is_before_end}
-use Rattle.bsc_table.specs.Claim.{Claim, claim_at, end_of, claim_share_at}
+use Rattle.bsc_table.specs.Claim.{Claim, claim_at, claimed_at, end_of, claim_share_at}
+use Rattle.chart.specs.Load.{AreLoads}
 use Rattle.chart.specs.Message.{end_within}
 
 before_end : (end : Option ℕ) (slots slot : ℕ) → slot < slots
@@ -34,3 +40,15 @@ claimed_so_far slots last slot c within past inside before =
     ap (λ (is : Bool). if is then claim_share_at slot c else 0)
     (same_slots c.accepted last (end_within slots c.message) slot past inside before)
     ∙ sym (claimed_within slots slot c within)
+
+-- the loads at all slots are a list
+pub all_loads : (claims : List Claim) (loads : List ℕ) (slots : ℕ) → length loads ≡ slots → AreLoads claims loads
+    → loads ≡ map (claimed_at claims) (range_with_len 0 slots)
+all_loads claims loads slots long are =
+    fill_by_all (claimed_at claims) loads slots 0 long (λ k inside. are k (subst (λ (n : ℕ). k < n) (sym long) inside))
+
+-- and none is more than the whole cell
+pub loads_fit : (claims : List Claim) (loads : List ℕ) → ClaimsFit claims → AreLoads claims loads
+    → All (λ load. load ≤ SCALE) loads
+loads_fit claims loads fit are k d inside =
+    subst (λ (n : ℕ). n ≤ SCALE) (sym (get_or_default_zero loads k d inside ∙ are k inside)) (fit k)

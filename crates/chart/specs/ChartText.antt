@@ -1,6 +1,6 @@
 -- The chart of a run: one page in HTML that stands alone (own). What is fixed in it are constants of the code; what is
 -- said here is what stands between them, and in which order.
-use Rattle.std.specs.Prelude.{ℕ, ◌-◌, ◌*◌, ◌/◌, ◌%◌, ◌==◌, ◌&&◌, Bool, true, if◌then◌else◌, Option, Some, None, List}
+use Rattle.std.specs.Prelude.{ℕ, ◌-◌, ◌==◌, ◌&&◌, Bool, true, if◌then◌else◌, Option, Some, None, List}
 use Rattle.std.specs.Prelude.{[], ◌∷◌, ◌++◌}
 use Rattle.std.specs.Fmt.{decimal}
 use Rattle.std.specs.List.{flat_map}
@@ -25,9 +25,14 @@ use Rattle.chart.specs.declared.cell.TheConstants as cells
 use Rattle.chart.specs.declared.chart.TheConstants as charts
 use Rattle.chart.specs.declared.line.TheConstants as lines
 use Rattle.chart.specs.declared.load.TheConstants as loads
-use Rattle.chart.specs.declared.time.TheConstants as times
+use Rattle.chart.specs.declared.facts.Facts.{Facts}
+use Rattle.chart.specs.declared.facts.TheConstants as facts_texts
+use Rattle.chart.specs.declared.panel.Panel.{Panel}
 use Rattle.chart.specs.Escape.{escaped}
-use Rattle.chart.specs.Load.{load_line}
+use Rattle.chart.specs.Facts.{facts_of, facts_text, fullest_text}
+use Rattle.chart.specs.Load.{load_line, loads_in}
+use Rattle.chart.specs.Panels.{sections_text}
+use Rattle.chart.specs.Time.{axis, minutes_text}
 use Rattle.chart.specs.Message.{are_many, category_words, drawn_marks, text_shown}
 
 -- the name of what a row is of: its identifier, and its serial number in hexadecimal
@@ -112,24 +117,9 @@ line_by r shown row (shown_status.Refused number) = refusal_line r.slots row num
 abbrev pub line_of : Record → List ShownMessage → Row → List ℕ
 line_of r shown row = line_by r shown row row.shown
 
--- the time of a slot in minutes, to the tenth: a slot lasts 8 * 51 frames of 120/26 ms (3GPP TS 45.002)
-unfoldable pub minutes_text : ℕ → List ℕ
-minutes_text slot =
-    let tenths = slot * 102 / 325 in decimal (tenths / 10) ++ times.POINT.now ++ decimal (tenths % 10)
-
--- the axis: the slots at each quarter of the run, and their times
-unfoldable pub tick : (slot : ℕ) → List ℕ
-tick slot = times.TICK.now ++ decimal slot ++ times.AT.now ++ minutes_text slot ++ times.TICK_END.now
-
-unfoldable pub ticks : (slots : ℕ) → List ℕ
-ticks slots = tick 0 ++ tick (slots / 4) ++ tick (slots / 2) ++ tick (slots * 3 / 4) ++ tick slots
-
-unfoldable pub axis : (slots : ℕ) → List ℕ
-axis slots = times.AXIS.now ++ ticks slots ++ times.AXIS_END.now
-
--- the loads that are reserved over the slots: the picture is as wide as the run
+-- the loads that are reserved over the slots, as a shape in a picture that is as wide as the run
 unfoldable pub load_width : (slots : ℕ) → List ℕ
-load_width slots = loads.LOAD.now ++ decimal slots ++ loads.LOAD_BOX.now
+load_width slots = decimal slots ++ loads.LOAD_BOX.now
 
 -- and as high as a full cell, whose load is at its upper edge; the line begins and ends at its bottom
 unfoldable pub load_front : (slots : ℕ) → List ℕ
@@ -137,36 +127,60 @@ load_front slots = load_width slots ++ decimal loads.LOAD_HEIGHT ++ loads.LOAD_P
 
 unfoldable pub load_end : (slots : ℕ) → List ℕ
 load_end slots =
-    loads.TO_SLOT.now ++ decimal slots ++ loads.TO_LOAD.now ++ decimal loads.LOAD_HEIGHT ++ loads.LOAD_END.now
+    loads.TO_SLOT.now ++ decimal slots ++ loads.TO_LOAD.now ++ decimal loads.LOAD_HEIGHT ++ loads.SHAPE_END.now
 
+abbrev pub load_shape : Record → List ℕ
+load_shape r = load_front r.slots ++ load_line r ++ load_end r.slots
+
+-- the line of the loads under those of the rows
 abbrev pub load_picture : Record → List ℕ
-load_picture r = load_front r.slots ++ load_line r ++ load_end r.slots
+load_picture r = loads.LOAD.now ++ load_shape r ++ loads.LOAD_END.now
 
--- a cell's name
-unfoldable pub cell_front : Cell → List ℕ
-cell_front cell =
-    cells.CELL.now ++ decimal cell.lac ++ cells.DASH.now ++ decimal cell.ci ++ cells.NAME_END.now
+-- what the overview has of a cell after its name: its loads, how full it gets, and how many orders it refused
+unfoldable pub strip_facts : Facts → List ℕ
+strip_facts facts =
+    cells.STRIP_FACTS.now ++ fullest_text facts ++ facts_texts.REFUSED.now ++ decimal facts.refused
+    ++ cells.STRIP_END.now
 
--- what is drawn of a cell: the rows of its report in their order, each a line, then its loads and the axis
-abbrev pub cell_section : Record → List ShownMessage → List ℕ
-cell_section r shown =
-    cell_front r.cell ++ flat_map (line_of r shown) (cell_rows r shown) ++ load_picture r ++ axis r.slots
-    ++ cells.CELL_END.now
+abbrev pub strip_text : Record → Facts → List ℕ
+strip_text r facts = load_shape r ++ strip_facts facts
+
+-- what its section has after its name: what counts of it, the rows of its report in their order, each a line, then its
+-- loads and the axis
+abbrev pub contents_text : Record → List ShownMessage → Facts → List ℕ
+contents_text r shown facts =
+    cells.NAME_END.now ++ facts_text facts ++ cells.FACTS_END.now ++ flat_map (line_of r shown) (cell_rows r shown)
+    ++ load_picture r ++ axis r.slots ++ cells.CELL_END.now
+
+-- what is drawn of a cell
+abbrev pub facts_in : Record → List ShownMessage → Facts
+facts_in r shown = facts_of (cell_rows r shown) (loads_in r)
+
+abbrev pub panel_of : Record → List ShownMessage → Panel
+panel_of r shown = record {
+  cell = r.cell;
+  strip = strip_text r (facts_in r shown);
+  contents = contents_text r shown (facts_in r shown);
+}
 
 -- the cells that are drawn: the one that is wanted, or all
 abbrev pub is_wanted : Option Cell → Cell → Bool
 is_wanted None cell = true
 is_wanted (Some wanted) cell = (wanted.lac == cell.lac) && (wanted.ci == cell.ci)
 
-abbrev pub section_if : Option Cell → Record → List ShownMessage → List ℕ
-section_if wanted r shown = if is_wanted wanted r.cell then cell_section r shown else []
+abbrev pub panel_if : Option Cell → Record → List ShownMessage → List Panel
+panel_if wanted r shown = if is_wanted wanted r.cell then panel_of r shown ∷ [] else []
 
--- the cells' sections, each with the reading of its blocks
+-- the panels of cells, each with the reading of its blocks
+abbrev pub panels_of : Option Cell → List Record → List TapeReading → List Panel
+panels_of wanted [] readings = []
+panels_of wanted (r ∷ records) [] = []
+panels_of wanted (r ∷ records) (reading ∷ readings) =
+    panel_if wanted r reading.shown ++ panels_of wanted records readings
+
+-- what is drawn of the cells
 abbrev pub sections_of : Option Cell → List Record → List TapeReading → List ℕ
-sections_of wanted [] readings = []
-sections_of wanted (r ∷ records) [] = []
-sections_of wanted (r ∷ records) (reading ∷ readings) =
-    section_if wanted r reading.shown ++ sections_of wanted records readings
+sections_of wanted records readings = sections_text (panels_of wanted records readings)
 
 -- the head of the page, and what its reader is told first
 unfoldable pub head : List ℕ

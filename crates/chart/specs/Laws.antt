@@ -1,5 +1,5 @@
--- What the marks and the loads of a chart promise (own).
-use Rattle.std.specs.Prelude.{◌≡◌, ℕ, ◌-◌, ◌*◌, ◌≤◌, All, List, count_by, if◌then◌else◌, nat_le}
+-- What the marks, the loads and the sections of a chart promise (own).
+use Rattle.std.specs.Prelude.{◌≡◌, ◌↔◌, ℕ, ◌-◌, ◌*◌, ◌≤◌, true, All, List, count_by, if◌then◌else◌, nat_le}
 use Rattle.std.specs.List.{range_with_len}
 use Rattle.admission.specs.declared.measure.TheConstants.{SCALE}
 use Rattle.scheduler.specs.Air.{Air}
@@ -11,6 +11,8 @@ use Rattle.handset.specs.Reception.{ShownMessage}
 use Rattle.report.specs.Rows.{message_row}
 use Rattle.chart.specs.Load.{height_of}
 use Rattle.chart.specs.Message.{are_many, end_within, is_marked}
+use Rattle.chart.specs.Panels.{is_like}
+use Rattle.chart.specs.declared.panel.Panel.{Panel}
 use Rattle.chart.specs.declared.load.TheConstants.{LOAD_HEIGHT, LOAD_STEP}
 
 -- how many marks a message has
@@ -35,3 +37,7 @@ MarksAreCompleted = (r : Record) (shown : List ShownMessage)
 abbrev pub HeightsAreOfLoads : Type 0
 HeightsAreOfLoads = (LOAD_HEIGHT * LOAD_STEP ≡ SCALE) × (height_of SCALE ≡ 0) × (height_of 0 ≡ LOAD_HEIGHT)
     × ((load more : ℕ) → load ≤ more → height_of more ≤ height_of load)
+
+-- cells have one section exactly if what stands in theirs is the same, octet by octet
+abbrev pub LikeAreTheSame : Type 0
+LikeAreTheSame = (p other : Panel) → (is_like p other ≡ true) ↔ (other.contents ≡ p.contents)

@@ -2,6 +2,9 @@ pub mod Escape
 pub mod Load
 pub mod Message
 pub mod ChartText
+pub mod Facts
+pub mod Panels
+pub mod Time
 pub mod Kept
 pub mod LineSteps
 pub mod Laws

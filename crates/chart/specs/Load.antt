@@ -1,5 +1,6 @@
 -- The loads that a cell has reserved, as a line over the slots (own).
-use Rattle.std.specs.Prelude.{◌≡◌, ℕ, ◌-◌, ◌/◌, ◌<◌, ◌==◌, if◌then◌else◌, List, [], ◌++◌, length, slice_index}
+use Rattle.std.specs.Prelude.{◌≡◌, ℕ, ◌-◌, ◌/◌, ◌<◌, ◌==◌, if◌then◌else◌, List, [], ◌++◌, length, map}
+use Rattle.std.specs.Prelude.{slice_index}
 use Rattle.std.specs.Fmt.{decimal}
 use Rattle.std.specs.List.{flat_map, range_with_len}
 use Rattle.bsc_table.specs.Claim.{Claim, claimed_at}
@@ -9,6 +10,10 @@ use Rattle.chart.specs.declared.load.TheConstants.{LOAD_HEIGHT, LOAD_STEP, TO_LO
 -- these are the loads that are reserved at the slots
 abbrev pub AreLoads : List Claim → List ℕ → Type 0
 AreLoads claims loads = (slot : ℕ) → slot < length loads → slice_index loads slot ≡ claimed_at claims slot
+
+-- the loads that are reserved at the slots of a run
+abbrev pub loads_in : Record → List ℕ
+loads_in r = map (claimed_at (claims_in r.log)) (range_with_len 0 r.slots)
 
 -- what is reserved before a slot
 abbrev pub claimed_before : List Claim → (slot : ℕ) → ℕ

@@ -1,54 +1,103 @@
 //! What is drawn of a cell.
 
-ghost use Rattle.std.specs.Prelude.{◌≡◌, ◌≢◌, ◌++◌, IfErr, OnOk};
+ghost use Rattle.std.specs.Prelude.{◌≡◌, ◌≢◌, ◌≤◌, ◌++◌, length, IfErr, IfOk, OnOk};
+ghost use Rattle.admission.specs.declared.measure.TheConstants.{SCALE};
+ghost use Rattle.bsc_table.specs.Record.{Record, claims_in};
 ghost use Rattle.handset.specs.Keeping.{messages_shown};
-ghost use Rattle.chart.specs.ChartText.{cell_front, cell_section};
+ghost use Rattle.report.specs.Rows.{cell_rows};
+ghost use Rattle.chart.specs.ChartText.{contents_text, panel_of, strip_facts, strip_text};
+ghost use Rattle.chart.specs.LineSteps.{IsContext};
+ghost use Rattle.chart.specs.Load.{AreLoads};
 
+use crate::facts::{Facts, REFUSED, facts_of, push_facts, push_fullest};
 use crate::kept::accepted_in;
 use crate::line::CellContext;
-use crate::load::{loads_of, push_loads};
+use crate::load::{loads_of, push_loads, push_shape};
 use crate::page::Page;
+use crate::panel::Panel;
 use crate::time::push_axis;
 use bsc_table::CellRecord;
-use cbsp_wire::Cell;
 use handset::Reading;
-use report::{ReportFault, rows};
+use report::{ReportFault, Row, rows};
 use std::alloc::{AllocError, Global};
 use std::slice;
 
-/// The front of a cell, up to its location area code.
-pub const CELL: &str = "<details open>\n<summary><h2>Cell ";
+/// What comes after the names of a section's cells.
+pub const NAME_END: &str = "</h2> ";
 
-/// Between the location area code and the cell identity.
-pub const DASH: &str = "-";
-
-/// What comes after a cell's name.
-pub const NAME_END: &str = "</h2></summary>\n";
+/// What comes after what counts of them.
+pub const FACTS_END: &str = "</summary>\n";
 
 /// The end of a cell.
 pub const CELL_END: &str = "</details>\n";
 
-/// Appends a cell's name.
-#[tactic(auto, unfolding(crate::specs::ChartText::cell_front))]
-fn push_name(page: &mut Page, cell: Cell) -> Result<(), AllocError>
-    ensures { OnOk result (page.new ≡ page.old ++ cell_front cell) }
+/// What comes after the loads of a strip.
+pub const STRIP_FACTS: &str = "\n<i>";
+
+/// The end of a strip.
+pub const STRIP_END: &str = "</i></a>\n";
+
+/// Appends what a strip says after its loads.
+#[tactic(auto, unfolding(crate::specs::ChartText::strip_facts))]
+fn push_strip_facts(page: &mut Page, facts: Facts) -> Result<(), AllocError>
+    requires { facts.most ≤ SCALE }
+    ensures { OnOk result (page.new ≡ page.old ++ strip_facts facts) }
 {
-    page.markup(CELL)?;
-    page.number(u64::from(cell.lac))?;
-    page.markup(DASH)?;
-    page.number(u64::from(cell.ci))?;
-    page.markup(NAME_END)
+    page.markup(STRIP_FACTS)?;
+    push_fullest(page, facts)?;
+    page.markup(REFUSED)?;
+    page.number(facts.refused as u64)?;
+    page.markup(STRIP_END)
 }
 
-/// Appends what is drawn of a cell: the rows of its report in their order, its loads and the axis.
-pub(crate) fn push_section(
+/// What a strip has after its name.
+fn strip_of(alloc: Global, slots: u16, loads: &[u64], facts: Facts) -> Result<Page, AllocError>
+    requires slots { length loads.now ≡ slots }
+    requires most { facts.most ≤ SCALE }
+    ensures { IfOk result (λ strip. (r : Record) → r.slots ≡ slots → AreLoads (claims_in r.log) loads.now
+        → strip ≡ strip_text r facts) }
+{
+    let mut strip = Page::new(alloc);
+    push_shape(&mut strip, slots, loads)?;
+    push_strip_facts(&mut strip, facts)?;
+    Ok(strip)
+}
+
+/// What a section has after its name: what counts of its cell, these rows, each a line, its loads and the axis.
+fn contents_of(
     alloc: Global,
-    page: &mut Page,
+    context: &CellContext,
+    rows: &[Row],
+    loads: &[u64],
+    facts: Facts,
+) -> Result<Page, AllocError>
+    requires context { IsContext context.now }
+    requires slots { length loads.now ≡ context.now.run.now.slots }
+    requires loads { AreLoads (claims_in context.now.run.now.log) loads.now }
+    requires most { facts.most ≤ SCALE }
+    ensures { IfOk result (λ contents. rows.now ≡ cell_rows context.now.run.now (messages_shown context.now.shown.now)
+        → contents ≡ contents_text context.now.run.now (messages_shown context.now.shown.now) facts) }
+{
+    let slots = context.run.slots();
+    let mut contents = Page::new(alloc);
+    contents.markup(NAME_END)?;
+    push_facts(&mut contents, facts)?;
+    contents.markup(FACTS_END)?;
+    context.push_lines(&mut contents, rows)?;
+    push_loads(&mut contents, slots, loads)?;
+    push_axis(&mut contents, slots)?;
+    contents.markup(CELL_END)?;
+    Ok(contents)
+}
+
+/// What is drawn of a cell.
+pub(crate) fn panel_of(
+    alloc: Global,
     run: &CellRecord,
     reading: &Reading,
-) -> Result<(), ReportFault>
-    ensures section { OnOk result (page.new
-        ≡ page.old ++ cell_section run.now (messages_shown reading.now.shown.items)) }
+) -> Result<Panel, ReportFault>
+    ensures panel { IfOk result (λ panel. panel
+        ≡ panel_of run.now (messages_shown reading.now.shown.items)) }
     ensures cells { IfErr result (λ fault. fault ≡ ReportFault.Cells → run.now.cell ≢ reading.now.cell) }
     ensures faults { IfErr result (λ fault. fault ≢ ReportFault.WriteFailed) }
 {
@@ -61,15 +110,17 @@ pub(crate) fn push_section(
     };
     let messages = accepted_in(alloc, run.log())?;
     let loads = loads_of(alloc, &messages, slots)?;
+    let facts = facts_of(&rows, &loads);
     let context = CellContext {
         run,
         shown: &reading.shown,
         messages: &messages,
     };
-    push_name(page, run.cell())?;
-    context.push_lines(page, &rows)?;
-    push_loads(page, slots, &loads)?;
-    push_axis(page, slots)?;
-    page.markup(CELL_END)?;
-    Ok(())
+    let strip = strip_of(alloc, slots, &loads, facts)?;
+    let contents = contents_of(alloc, &context, &rows, &loads, facts)?;
+    Ok(Panel {
+        cell: run.cell(),
+        strip,
+        contents,
+    })
 }

@@ -1,16 +1,18 @@
 //! The page of a chart, and how it is written.
 
-ghost use Rattle.std.specs.Prelude.{◌≡◌, ◌≢◌, ◌↔◌, ◌++◌, true, length, IfErr, IfOk, IsErrOf, IsTrue, OnOk};
+ghost use Rattle.std.specs.Prelude.{◌≡◌, ◌≢◌, ◌↔◌, ◌++◌, ◌∷◌, [], true, length, IfErr, IfOk, IsErrOf, IsTrue, OnOk};
 ghost use Rattle.device_ends.specs.Sink.{sink_failed};
 ghost use Rattle.handset.specs.Keeping.{messages_shown};
 ghost use Rattle.handset.specs.Tape.{readings_of};
 ghost use Rattle.report.specs.Rows.{AreOfOneCells};
 ghost use Rattle.chart.specs.ChartText.{chart_front, chart_part, chart_text, folded, foot_if, front_if_first};
 ghost use Rattle.chart.specs.ChartText.{group_front, head, introduction, is_wanted};
-ghost use Rattle.chart.specs.ChartText.{section_if, sections_of, WritesChart, WritesFront};
+ghost use Rattle.chart.specs.ChartText.{panel_if, panels_of, sections_of, WritesChart, WritesFront};
 
-use crate::cell::push_section;
+use crate::cell::panel_of;
 use crate::page::Page;
+use crate::panel::Panel;
+use crate::section::push_all;
 use crate::time::push_minutes;
 use bsc_table::CellRecord;
 use cbsp_wire::Cell;
@@ -36,9 +38,14 @@ pub const HEAD: &str = r#"<!DOCTYPE html>
 :root{--bar:#6fa8e0;--whole:#e3effb;--refusal:#ff8a80}
 }
 body{background:var(--ground);color:var(--text);font:15px/1.4 system-ui,sans-serif;margin:1.5em}
-summary{cursor:pointer;margin:.8em 0 .4em}
-h2{display:inline;font-size:1em}
-.line{align-items:center;display:grid;gap:.8em;grid-template-columns:minmax(8em,22em) 1fr;margin:.15em 0}
+summary{color:var(--faint);cursor:pointer;margin:.8em 0 .4em}
+h2{color:var(--text);display:inline;font-size:1em}
+nav{display:grid;gap:.15em 2em;grid-template-columns:repeat(auto-fill,minmax(min(31em,100%),1fr));margin:1em 0}
+nav a{align-items:center;color:inherit;display:grid;gap:.8em;grid-template-columns:12em 1fr 14em;text-decoration:none}
+nav a:hover{background:var(--lane)}
+nav a>*{overflow:hidden;text-overflow:ellipsis;white-space:nowrap}
+nav i{color:var(--faint);font-size:.85em;font-style:normal}
+.line{align-items:center;display:grid;gap:.8em;grid-template-columns:minmax(8em,26em) 1fr;margin:.15em 0}
 .line p{display:flex;gap:.3em;margin:0;overflow:hidden;white-space:nowrap}
 .line bdi,.cause{flex:1;min-width:0;overflow:hidden;text-overflow:ellipsis}
 .line:hover p,.line p:active{white-space:normal}
@@ -46,6 +53,7 @@ h2{display:inline;font-size:1em}
 svg{background:var(--lane);display:block;height:1.2em;width:100%}
 path{vector-effect:non-scaling-stroke}
 .loads{border-top:2px solid var(--refusal);height:4em}
+nav .loads{border-top-width:1px;height:1.4em}
 .bar,.load{fill:var(--bar)}
 .whole{stroke:var(--whole)}
 .many{fill:var(--whole)}
@@ -55,6 +63,8 @@ path{vector-effect:non-scaling-stroke}
 .axis span:last-child{margin-left:-5em;text-align:right;width:5em}
 @media(max-width:46em){
 body{margin:1em}
+nav a{gap:.1em .8em;grid-template-columns:1fr auto;margin:.2em 0}
+nav .loads{grid-column:1/3;grid-row:2}
 .line{gap:.1em;grid-template-columns:minmax(0,1fr);margin:.5em 0}
 .line p{flex-wrap:wrap;gap:0 .3em}
 .line p.axis{flex-wrap:nowrap;font-size:.75em}
@@ -105,24 +115,55 @@ fn is_wanted(wanted: Option<Cell>, cell: Cell) -> bool
     }
 }
 
-/// Appends the section of a cell, if it is wanted.
-fn push_if_wanted(
+/// Adds the panel of a cell, if it is wanted.
+fn add_if_wanted(
     alloc: Global,
-    page: &mut Page,
+    panels: &mut Vec<Panel>,
     wanted: Option<Cell>,
     run: &CellRecord,
     reading: &Reading,
 ) -> Result<(), ReportFault>
-    ensures section { OnOk result (page.new
-        ≡ page.old ++ section_if wanted run.now (messages_shown reading.now.shown.items)) }
+    ensures panel { OnOk result (panels.new.items
+        ≡ panels.old.items ++ panel_if wanted run.now (messages_shown reading.now.shown.items)) }
     ensures cells { IfErr result (λ fault. fault ≡ ReportFault.Cells → run.now.cell ≢ reading.now.cell) }
     ensures faults { IfErr result (λ fault. fault ≢ ReportFault.WriteFailed) }
 {
     if is_wanted(wanted, run.cell()) {
-        push_section(alloc, page, run, reading)
-    } else {
-        Ok(())
+        let panel = match panel_of(alloc, run, reading) {
+            Ok(panel) => panel,
+            Err(fault) => return Err(fault),
+        };
+        add(panels, panel)?;
     }
+    Ok(())
+}
+
+/// Adds a panel.
+fn add(panels: &mut Vec<Panel>, panel: Panel) -> Result<(), AllocError>
+    ensures { OnOk result (panels.new.items ≡ panels.old.items ++ panel ∷ []) }
+{
+    panels.push(panel)?;
+    Ok(())
+}
+
+/// The panels of the cells that are wanted.
+fn panels_of(
+    alloc: Global,
+    wanted: Option<Cell>,
+    records: &[CellRecord],
+    readings: &[Reading],
+) -> Result<Vec<Panel>, ReportFault>
+    requires { length records.now ≡ length readings.now }
+    ensures panels { IfOk result (λ panels. panels.items
+        ≡ panels_of wanted records.now (readings_of readings.now)) }
+    ensures cells { IsErrOf result ReportFault.Cells → ¬ AreOfOneCells records.now (readings_of readings.now) }
+    ensures faults { IfErr result (λ fault. fault ≢ ReportFault.WriteFailed) }
+{
+    let mut panels = Vec::new(alloc);
+    for (place, record) in records.iter().enumerate() {
+        add_if_wanted(alloc, &mut panels, wanted, record, &readings[place])?;
+    }
+    Ok(panels)
 }
 
 /// Appends the sections of the cells that are wanted.
@@ -139,9 +180,8 @@ fn push_sections(
     ensures cells { IsErrOf result ReportFault.Cells → ¬ AreOfOneCells records.now (readings_of readings.now) }
     ensures faults { IfErr result (λ fault. fault ≢ ReportFault.WriteFailed) }
 {
-    for (place, record) in records.iter().enumerate() {
-        push_if_wanted(alloc, page, wanted, record, &readings[place])?;
-    }
+    let panels = panels_of(alloc, wanted, records, readings)?;
+    push_all(alloc, page, &panels)?;
     Ok(())
 }
 

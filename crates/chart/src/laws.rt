@@ -1,10 +1,10 @@
 //! Laws of a chart.
 
 ghost use Rattle.chart.specs.Escape.{EscapedIsPlain};
-ghost use Rattle.chart.specs.Laws.{HeightsAreOfLoads, MarksAreCompleted};
+ghost use Rattle.chart.specs.Laws.{HeightsAreOfLoads, LikeAreTheSame, MarksAreCompleted};
 
-/// States, as its contract, what texts, marks and loads are in a page. Does nothing: its body names the laws that carry
-/// it.
+/// States, as its contract, what texts, marks, loads and sections are in a page. Does nothing: its body names the laws
+/// that carry it.
 pub fn chart_laws()
     // No text begins or ends a tag, or the value of an attribute.
     ensures escaped { EscapedIsPlain }
@@ -14,6 +14,9 @@ pub fn chart_laws()
 
     // The picture of the loads is as high as a full cell, and in proportion.
     ensures heights { HeightsAreOfLoads }
+
+    // Cells have one section exactly if what stands in theirs is the same.
+    ensures sections { LikeAreTheSame }
 {
     bsc_table::guarantee();
     bsc_table::legal_histories();

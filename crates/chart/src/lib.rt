@@ -2,19 +2,23 @@
 //! refused order a mark, and the loads that a cell has reserved a line.
 //!
 //! [`write_chart`] writes it, [`chart_octets`] makes it, and [`part_octets`] makes the part of a network's group.
-//! `specs/ChartText.antt` says which octets: of each cell the lines are those of the rows of
-//! its report, in their order, and every text of a message goes through `specs/Escape.antt`.
+//! `specs/ChartText.antt` says which octets: of each cell the lines are those of the rows of its report, in order, and
+//! every text of a message goes through `specs/Escape.antt`. Cells that look the same have one section
+//! (`specs/Panels.antt`).
 #![tactic(auto)]
 
 pub mod cause;
 pub mod cell;
 pub mod chart;
+pub mod facts;
 mod kept;
 mod laws;
 pub mod line;
 pub mod load;
 pub mod message;
 mod page;
+pub mod panel;
+pub mod section;
 pub mod time;
 
 pub use chart::{chart_octets, part_octets, write_chart};

@@ -1,13 +1,13 @@
 //! The loads that a cell has reserved, over the slots of its run.
 
-ghost use Rattle.std.specs.Prelude.{◌≡◌, ◌+◌, ◌<◌, ◌≤◌, ◌++◌, ℕ, List, length, slice_index, IfOk, OnOk};
+ghost use Rattle.std.specs.Prelude.{◌≡◌, ◌+◌, ◌<◌, ◌≤◌, ◌++◌, ℕ, List, length, map, slice_index, All, IfOk, OnOk};
 ghost use Rattle.std.specs.Fmt.{decimal};
 ghost use Rattle.std.specs.List.{flat_map, range_with_len};
 ghost use Rattle.admission.specs.declared.measure.TheConstants.{SCALE};
-ghost use Rattle.bsc_table.specs.Claim.{Claim, claim_at, claim_share_at};
+ghost use Rattle.bsc_table.specs.Claim.{Claim, claim_at, claim_share_at, claimed_at};
 ghost use Rattle.bsc_table.specs.Record.{Record, claim_of, claims_in, claims_of};
 ghost use Rattle.bsc_table.specs.Room.{ClaimsFit};
-ghost use Rattle.chart.specs.ChartText.{load_end, load_front, load_picture, load_width};
+ghost use Rattle.chart.specs.ChartText.{load_end, load_front, load_picture, load_shape, load_width};
 ghost use Rattle.chart.specs.Kept.{accepted_kept, all_kept, HavePeriods};
 ghost use Rattle.chart.specs.Load.{height_of, step_at, step_text, AreLoads};
 ghost use Rattle.chart.specs.declared.load.TheConstants.{LOAD_HEIGHT};
@@ -25,7 +25,7 @@ pub const LOAD_HEIGHT: u64 = 1008;
 /// How much load is drawn one step higher.
 pub const LOAD_STEP: u64 = SCALE / LOAD_HEIGHT;
 
-/// The front of the picture of the loads, up to its width.
+/// The front of the line of the loads, up to the width of their picture.
 pub const LOAD: &str =
     "<div class=\"line\"><p>Reserved load</p>\n<svg class=\"loads\" viewBox=\"0 0 ";
 
@@ -44,7 +44,10 @@ pub const TO_SLOT: &str = "H";
 pub const TO_LOAD: &str = "V";
 
 /// The end of the picture, after the bottom's height.
-pub const LOAD_END: &str = "z\"/></svg></div>\n";
+pub const SHAPE_END: &str = "z\"/></svg>";
+
+/// The end of the line of the loads.
+pub const LOAD_END: &str = "</div>\n";
 
 /// The first slot after a message's reservation, or after the run.
 pub(crate) fn end_within(kept: &KeptMessage, slots: usize) -> usize
@@ -86,13 +89,8 @@ fn add_claim(loads: &mut [u64], kept: &KeptMessage)
     }
 }
 
-/// The loads that these messages have reserved at each slot of a run, in parts of `SCALE`. The only error is out of
-/// memory.
-pub(crate) fn loads_of(
-    alloc: Global,
-    all: &[KeptMessage],
-    slots: u16,
-) -> Result<Vec<u64>, AllocError>
+/// What these messages reserve at each slot of a run, all together. The only error is out of memory.
+fn summed_loads(alloc: Global, all: &[KeptMessage], slots: u16) -> Result<Vec<u64>, AllocError>
     requires periods { HavePeriods all.now }
     requires fit { ClaimsFit (claims_of (all_kept all.now)) }
     ensures slots { IfOk result (λ loads. length loads.items ≡ slots) }
@@ -104,6 +102,25 @@ pub(crate) fn loads_of(
             add_claim(loads.as_mut_slice(), kept);
         }
     }
+    Ok(loads)
+}
+
+/// The loads that these messages have reserved at each slot of a run, in parts of `SCALE`. The only error is out of
+/// memory.
+pub(crate) fn loads_of(
+    alloc: Global,
+    all: &[KeptMessage],
+    slots: u16,
+) -> Result<Vec<u64>, AllocError>
+    requires periods { HavePeriods all.now }
+    requires fit { ClaimsFit (claims_of (all_kept all.now)) }
+    ensures slots { IfOk result (λ loads. length loads.items ≡ slots) }
+    ensures loads { IfOk result (λ loads. AreLoads (claims_of (all_kept all.now)) loads.items) }
+    ensures all { IfOk result (λ loads. loads.items
+        ≡ map (claimed_at (claims_of (all_kept all.now))) (range_with_len 0 slots)) }
+    ensures within { IfOk result (λ loads. All (λ load. load ≤ SCALE) loads.items) }
+{
+    let loads = summed_loads(alloc, all, slots)?;
     Ok(loads)
 }
 
@@ -147,12 +164,11 @@ fn push_bottom(page: &mut Page) -> Result<(), AllocError>
     page.number(LOAD_HEIGHT)
 }
 
-/// Appends the front of the picture of the loads, up to its height.
+/// Appends the size of the picture of the loads, up to its height.
 #[tactic(auto, unfolding(crate::specs::ChartText::load_width))]
 fn push_width(page: &mut Page, slots: u16) -> Result<(), AllocError>
     ensures { OnOk result (page.new ≡ page.old ++ load_width slots) }
 {
-    page.markup(LOAD)?;
     page.number(u64::from(slots))?;
     page.markup(LOAD_BOX)
 }
@@ -177,16 +193,27 @@ fn push_end(page: &mut Page, slots: u16) -> Result<(), AllocError>
     page.number(u64::from(slots))?;
     page.markup(TO_LOAD)?;
     push_bottom(page)?;
-    page.markup(LOAD_END)
+    page.markup(SHAPE_END)
 }
 
-/// Appends the picture of the loads that are reserved at each slot.
+/// Appends the loads that are reserved at each slot as a shape, from the width of its picture on.
+pub(crate) fn push_shape(page: &mut Page, slots: u16, loads: &[u64]) -> Result<(), AllocError>
+    requires { length loads.now ≡ slots }
+    ensures { OnOk result ((r : Record) → r.slots ≡ slots → AreLoads (claims_in r.log) loads.now
+        → page.new ≡ page.old ++ load_shape r) }
+{
+    push_front(page, slots)?;
+    push_line(page, loads)?;
+    push_end(page, slots)
+}
+
+/// Appends the line of the loads that are reserved at each slot.
 pub(crate) fn push_loads(page: &mut Page, slots: u16, loads: &[u64]) -> Result<(), AllocError>
     requires { length loads.now ≡ slots }
     ensures { OnOk result ((r : Record) → r.slots ≡ slots → AreLoads (claims_in r.log) loads.now
         → page.new ≡ page.old ++ load_picture r) }
 {
-    push_front(page, slots)?;
-    push_line(page, loads)?;
-    push_end(page, slots)
+    page.markup(LOAD)?;
+    push_shape(page, slots, loads)?;
+    page.markup(LOAD_END)
 }

@@ -1,7 +1,7 @@
 //! Slots in minutes, and the axis under a cell's lines.
 
 ghost use Rattle.std.specs.Prelude.{◌≡◌, ◌++◌, OnOk};
-ghost use Rattle.chart.specs.ChartText.{axis, minutes_text, tick, ticks};
+ghost use Rattle.chart.specs.Time.{axis, minutes_text, tick, ticks};
 
 use crate::page::Page;
 use std::alloc::AllocError;
@@ -26,7 +26,7 @@ pub const AXIS_END: &str = "</p></div>\n";
 
 /// Appends the time of a slot in minutes, to the tenth. A slot lasts 8 * 51 frames of 120/26 ms (3GPP TS 45.002), which
 /// are 102/325 tenths of a minute.
-#[tactic(auto, unfolding(crate::specs::ChartText::minutes_text))]
+#[tactic(auto, unfolding(crate::specs::Time::minutes_text))]
 pub(crate) fn push_minutes(page: &mut Page, slot: u32) -> Result<(), AllocError>
     ensures { OnOk result (page.new ≡ page.old ++ minutes_text slot) }
 {
@@ -37,7 +37,7 @@ pub(crate) fn push_minutes(page: &mut Page, slot: u32) -> Result<(), AllocError>
 }
 
 /// Appends the tick of a slot.
-#[tactic(auto, unfolding(crate::specs::ChartText::tick))]
+#[tactic(auto, unfolding(crate::specs::Time::tick))]
 fn push_tick(page: &mut Page, slot: u32) -> Result<(), AllocError>
     ensures { OnOk result (page.new ≡ page.old ++ tick slot) }
 {
@@ -49,7 +49,7 @@ fn push_tick(page: &mut Page, slot: u32) -> Result<(), AllocError>
 }
 
 /// Appends the ticks of an axis, at each quarter of the run.
-#[tactic(auto, unfolding(crate::specs::ChartText::ticks))]
+#[tactic(auto, unfolding(crate::specs::Time::ticks))]
 fn push_ticks(page: &mut Page, slots: u16) -> Result<(), AllocError>
     ensures { OnOk result (page.new ≡ page.old ++ ticks slots) }
 {
@@ -61,7 +61,7 @@ fn push_ticks(page: &mut Page, slots: u16) -> Result<(), AllocError>
 }
 
 /// Appends the axis.
-#[tactic(auto, unfolding(crate::specs::ChartText::axis))]
+#[tactic(auto, unfolding(crate::specs::Time::axis))]
 pub(crate) fn push_axis(page: &mut Page, slots: u16) -> Result<(), AllocError>
     ensures { OnOk result (page.new ≡ page.old ++ axis slots) }
 {

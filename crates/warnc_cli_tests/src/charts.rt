@@ -15,8 +15,8 @@ run -> 0
 out -> <!DOCTYPE html>
 past <p>A run of 4 slots of 1.883 s, 0.1 minutes. -> yes
 past it is full.</p> -> yes
-out -> <details open>
-out -> <summary><h2>Cell 1-1</h2></summary>
+out -> <details open id=\"c1-1\">
+out -> <summary><h2>Cell 1-1</h2> messages: 1, refused: 1, fullest: 100 % at 0.0 min</summary>
 out -> <div class=\"line\"><p><b>1 0010</b> <i>high</i> <bdi>One</bdi></p>
 out -> <svg viewBox=\"0 0 4 10\" preserveAspectRatio=\"none\" role=\"img\"><title>1 0010</title>
 out -> <desc>from slot 0 to slot 3, whole broadcasts: 3, shown</desc>
@@ -50,8 +50,8 @@ in update,1,a,en,2,2,0,*,<script>alert(\"1\")</script> & 'so'
 args chart --slots 4 --cell 1-2 --workers 2
 run -> 0
 past it is full.</p> -> yes
-out -> <details open>
-out -> <summary><h2>Cell 1-2</h2></summary>
+out -> <details open id=\"c1-2\">
+out -> <summary><h2>Cell 1-2</h2> messages: 3, refused: 0, fullest: 100 % at 0.0 min</summary>
 past <b>4370 0010</b> <i>normal</i> <bdi>One</bdi> -> yes
 past <rect class=\"bar\" height=\"10\" x=\"0\" width=\"1\"/> -> yes
 past <b>4371 0020</b> <i>background</i> <bdi>Two</bdi> -> yes
@@ -75,6 +75,42 @@ past <bdi>Three</bdi> -> yes
 past <rect class=\"bar\" height=\"10\" x=\"4\" width=\"4\"/> -> yes
 past d=\"M0 1008H0V252H1V0H8V1008z\" -> yes
 past </html> -> yes
+
+# cells whose sections have the same contents have one, whether they are in turn or not; the overview names the first.
+# The first alert takes a quarter of the cell, the second one half of it for two slots from the first whole minute on
+in cell,1,1
+in cell,1,2
+in cell,1,4
+in cell,1,3
+in cell,2,5
+in write,0,a,1,0,1,en,2,4,0,1-1 1-2,One
+in write,32,b,2,0,2,en,2,2,1,1-1 1-2,Two
+in write,33,c,3,0,3,en,2,2,0,1-1 1-2,Three
+args chart --slots 64
+run -> 0
+past it is full.</p> -> yes
+out -> <nav aria-label=\"Cells\">
+out -> <a href=\"#c1-1\"><b>1-1 and 1 more</b>
+out -> <svg class=\"loads\" viewBox=\"0 0 64 1008\" preserveAspectRatio=\"none\" role=\"img\"><title>Reserved load</title>
+out -> <path class=\"load\" d=\"M0 1008H0V756H32V252H34V756H64V1008z\"/></svg>
+out -> <i>75 % at 1.0 min, refused: 1</i></a>
+out -> <a href=\"#c1-4\"><b>1-4 and 2 more</b>
+out -> <svg class=\"loads\" viewBox=\"0 0 64 1008\" preserveAspectRatio=\"none\" role=\"img\"><title>Reserved load</title>
+out -> <path class=\"load\" d=\"M0 1008H64V1008z\"/></svg>
+out -> <i>0 % at 0.0 min, refused: 0</i></a>
+out -> </nav>
+out -> <details open id=\"c1-1\">
+out -> <summary><h2>Cells 1-1 to 1-2, 2 cells</h2> messages: 2, refused: 1, fullest: 75 % at 1.0 min</summary>
+past <bdi>One</bdi> -> yes
+past <bdi>Two</bdi> -> yes
+past refused: BSC capacity exceeded (06) -> yes
+past </details> -> yes
+out -> <details open id=\"c1-4\">
+out -> <summary><h2>Cells 1-4, 1-3, 2-5, 3 cells</h2> messages: 0, refused: 0, fullest: 0 % at 0.0 min</summary>
+out -> <div class=\"line\"><p>Reserved load</p>
+past </details> -> yes
+out -> </body>
+out -> </html>
 
 # a mark for each of 400 broadcasts, and none for 401
 in cell,1,1
@@ -128,5 +164,5 @@ usage -> 2 error:
 
 #[test]
 fn books_give_charts(rt: HostRuntime) -> Result<(), Fail> {
-    expect_rows(&rt, CHART, 103)
+    expect_rows(&rt, CHART, 126)
 }

@@ -1,4 +1,5 @@
 use Rattle.std.proofs.Common.{arith, refl}
+use Rattle.std.proofs.lemmas.Slice.Eq.{bytes_eq-Decides}
 use Rattle.chart.proofs.EscapeLaws.{escaped_is_plain}
 use Rattle.chart.proofs.MarkLaws.{marks_are_completed}
 use Rattle.chart.proofs.laws.chart_laws.Goals as goal
@@ -13,5 +14,6 @@ returns c = record {
     order = c.air_laws.ensures.in_order;
     last = c.air_laws.ensures.last_page_counts;
   });
+  sections = λ p other. bytes_eq-Decides other.contents p.contents;
   heights = (refl, refl, refl, λ load more less. omega (arith, less));
 }

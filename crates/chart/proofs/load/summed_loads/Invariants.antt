@@ -2,7 +2,7 @@ use Rattle.std.proofs.Common.{◌≡◌, ◌+◌, ◌<◌, ℕ, drop, length, sl
 use Rattle.bsc_table.specs.Claim.{claimed_at}
 use Rattle.bsc_table.specs.Record.{claims_of}
 use Rattle.chart.specs.Kept.{all_kept}
-use Rattle.chart.proofs.load.loads_of.Given as goal
+use Rattle.chart.proofs.load.summed_loads.Given as goal
 
 abbrev pub invariant-loop-kept : goal.invariant-loop-kept
 invariant-loop-kept l = record {

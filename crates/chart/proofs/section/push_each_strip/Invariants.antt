@@ -1,0 +1,9 @@
+use Rattle.std.proofs.Common.{◌≡◌, ◌-◌, ◌++◌, length}
+use Rattle.std.specs.List.{flat_map, range_with_len}
+use Rattle.chart.specs.Panels.{strip_at}
+use Rattle.chart.proofs.section.push_each_strip.Given as goal
+
+abbrev pub invariant-loop-place : goal.invariant-loop-place
+invariant-loop-place l =
+    l.page ++ flat_map (strip_at l.all) (range_with_len l.place (length l.all - l.place))
+    ≡ l.fn.page ++ flat_map (strip_at l.all) (range_with_len 0 (length l.all))
