@@ -145,18 +145,28 @@ def random_book(chance, most_cells=4):
     return "".join([*map(cell_line, cells), *(it.line() for it in orders)])
 
 
+def pace_of(row):
+    """Returns the class of a message's bar: how often it is sent, by its period and by what was sent."""
+    length, whole, period = int(row["end"]) - int(row["start"]), int(row["completed"]), int(row["period"] or 0)
+    for slots, kind in ((8, "f5"), (16, "f4"), (32, "f3"), (64, "f2")):
+        if whole and period <= slots and length <= slots * (whole + 1):
+            return kind
+    return "f1"
+
+
 def expected(rows, shown):
     """Returns by cell what the lines of its rows have to be: a bar, its marks and its text, or a refusal."""
     cells = {}
     for row in rows:
         cell = f"Cell {row['lac']}-{row['ci']}"
         start, end = int(row["start"]), int(row["end"])
+        pace = pace_of(row)
         title = f"{row['id']} {row['serial']}"
         if row["shown"].startswith("refused"):
             line = (title, "refusal", start, row["shown"][-2:])
         else:
             text = shown.get((row["lac"], row["ci"], row["id"], row["serial"]), "")
-            line = (title, (start, max(0, end - start)), int(row["completed"]), text)
+            line = (title, (start, max(0, end - start)), pace, int(row["completed"]), text)
         cells.setdefault(cell, []).append(line)
     return cells
 
@@ -165,9 +175,9 @@ def broadcasts_of(line):
     """Returns how many whole broadcasts a message's line has: by its marks, or by the number that it says."""
     marks = len(re.findall(r"M(\d+) 0v10", line["whole"]))
     said = re.fullmatch(r"(\d+) broadcasts", line["number"])
-    if line["kind"] == "bar" and not line["number"] and marks <= MOST_MARKS:
+    if not line["kind"].endswith(" many") and not line["number"] and marks <= MOST_MARKS:
         return marks
-    is_many = line["kind"] == "bar many" and said and not line["whole"] and int(said[1]) > MOST_MARKS
+    is_many = line["kind"].endswith(" many") and said and not line["whole"] and int(said[1]) > MOST_MARKS
     return int(said[1]) if is_many else None
 
 
@@ -178,7 +188,8 @@ def found(page):
         lines = []
         for line in cell["lines"]:
             if "bar" in line:
-                lines.append((line["title"], line["bar"], broadcasts_of(line), line["text"]))
+                pace = line["kind"].removeprefix("bar ").removesuffix(" many")
+                lines.append((line["title"], line["bar"], pace, broadcasts_of(line), line["text"]))
             elif "refusal" in line:
                 slot = re.fullmatch(r"M(\d+) 0v10", line["refusal"])[1]
                 cause = re.search(r"\((..)\)$", line["said"])[1]
@@ -272,7 +283,7 @@ def groups_of(book):
 def differences(program, browser, book, options, slots=SLOTS_BY_HAND):
     """Yields in what the chart of a book, or of a network book, differs from its report."""
     given, groups, length = book.encode(), groups_of(book) if "--network" in options else [], ["--slots", str(slots)]
-    rows = rows_of(program, ["report", *options, *length], given)
+    rows = rows_of(program, ["report", "--full", *options, *length], given)
     shown = {}
     for each in [["--group", str(it)] for it in range(len(groups))] or [options]:
         shown.update(shown_of(program, given, [*each, *length]))

@@ -33,7 +33,7 @@ use Rattle.chart.specs.Facts.{facts_of, facts_text, fullest_text}
 use Rattle.chart.specs.Load.{load_line, loads_in}
 use Rattle.chart.specs.Panels.{sections_text}
 use Rattle.chart.specs.Time.{axis, minutes_text}
-use Rattle.chart.specs.Message.{are_many, category_words, drawn_marks, text_shown}
+use Rattle.chart.specs.Message.{are_many, category_words, drawn_marks, pace_text, text_shown}
 
 -- the name of what a row is of: its identifier, and its serial number in hexadecimal
 unfoldable pub name_text : Row → List ℕ
@@ -54,15 +54,17 @@ description row outcome =
     lines.FROM.now ++ decimal row.start ++ lines.TO.now ++ decimal row.end ++ lines.WHOLE.now ++ decimal row.completed
     ++ outcome
 
--- its bar, from its start to its end, in slots; none where it never started. It is another one where the broadcasts are
--- too many for marks
-abbrev pub bar_front : (whole : ℕ) → List ℕ
-bar_front whole = if are_many whole then lines.MANY.now else lines.BAR.now
+-- its bar, from its start to its end, in slots; none where it never started. Its class says how often it is broadcast,
+-- and whether its broadcasts are too many for marks
+abbrev pub many_class : (whole : ℕ) → List ℕ
+many_class whole = if are_many whole then lines.MANY.now else []
+
+unfoldable pub bar_front : Row → List ℕ
+bar_front row = lines.BAR.now ++ pace_text row ++ many_class row.completed ++ lines.BAR_START.now
 
 unfoldable pub bar : Row → List ℕ
 bar row =
-    bar_front row.completed ++ decimal row.start ++ lines.WIDTH.now ++ decimal (row.end - row.start)
-    ++ lines.BAR_END.now
+    bar_front row ++ decimal row.start ++ lines.WIDTH.now ++ decimal (row.end - row.start) ++ lines.BAR_END.now
 
 -- what is said of it: its name, its category, how many broadcasts were whole, where they are too many for marks, and
 -- its text

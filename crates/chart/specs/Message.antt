@@ -1,6 +1,6 @@
 -- What is drawn of an accepted message beside its row (own).
 use Rattle.std.specs.Prelude.{ℕ, ◌+◌, ◌-◌, ◌==◌, ◌&&◌, if◌then◌else◌, min, Option, Some, None, List, [], ◌++◌, find}
-use Rattle.std.specs.Prelude.{Bool, false, nat_lt, slice_get}
+use Rattle.std.specs.Prelude.{Bool, false, ◌*◌, nat_le, nat_lt, slice_get}
 use Rattle.std.specs.Fmt.{decimal}
 use Rattle.std.specs.List.{flat_map, range_with_len}
 use Rattle.std.specs.Option.{option_map_or, unwrap_or}
@@ -12,7 +12,9 @@ use Rattle.scheduler.specs.declared.plan.Rank.TheVariants as ranks
 use Rattle.bsc_table.specs.Claim.{end_of}
 use Rattle.bsc_table.specs.Record.{Accepted}
 use Rattle.handset.specs.Reception.{ShownMessage}
+use Rattle.report.specs.declared.row.Row.{Row}
 use Rattle.chart.specs.declared.message.TheConstants.{HIGH, NORMAL, BACKGROUND, MARK, MARK_END, MOST_MARKS}
+use Rattle.chart.specs.declared.message.TheConstants.{EVERY_15_S, EVERY_30_S, EVERY_MINUTE, EVERY_2_MINUTES, RARER}
 
 -- the text that a handset shows of a message of this identifier and serial number, if it shows one
 abbrev pub text_shown : List ShownMessage → (id serial : ℕ) → List ℕ
@@ -52,3 +54,19 @@ are_many whole = nat_lt MOST_MARKS whole
 -- the marks that are drawn of a message of which so many broadcasts are whole: all, or none
 abbrev pub drawn_marks : (whole slots : ℕ) → Air → Option Accepted → List ℕ
 drawn_marks whole slots air found = if are_many whole then [] else marks_of slots air found
+
+-- whether a message is broadcast every so many slots, or more often: its period is no longer, and its whole broadcasts
+-- are no fewer from its start to its end, but for a last one
+abbrev pub is_every : (slots : ℕ) → Row → Bool
+is_every slots row =
+    nat_lt 0 row.completed && nat_le (option_map_or (λ demand. demand.period) row.demand 0) slots
+    && nat_le (row.end - row.start) (slots * (row.completed + 1))
+
+-- how often it is, in steps of about 15 s, 30 s, a minute and two minutes; a slot lasts 1.883 s
+abbrev pub pace_text : Row → List ℕ
+pace_text row =
+    if is_every 8 row then EVERY_15_S.now
+    else if is_every 16 row then EVERY_30_S.now
+    else if is_every 32 row then EVERY_MINUTE.now
+    else if is_every 64 row then EVERY_2_MINUTES.now
+    else RARER.now

@@ -32,16 +32,16 @@ pub const HEAD: &str = r#"<!DOCTYPE html>
 <title>Warnings by cell</title>
 <style>
 :root{color-scheme:light dark;--ground:#fff;--text:#1a1a1a;--faint:#666;--lane:#eef1f4}
-:root{--bar:#2f6fb3;--whole:#173f6e;--refusal:#b3261e}
+:root{--f1:#6288b5;--f2:#456f9f;--f3:#2a5588;--f4:#143c6a;--f5:#061d38;--mark:#dfeaf7;--load:#5e7688;--refusal:#b3261e}
 @media(prefers-color-scheme:dark){
 :root{--ground:#15181c;--text:#e6e6e6;--faint:#a0a6ac;--lane:#262c33}
-:root{--bar:#6fa8e0;--whole:#e3effb;--refusal:#ff8a80}
+:root{--f1:#5c7fa9;--f2:#7398c5;--f3:#8fb3dc;--f4:#b0cfef;--f5:#d9e9fa;--mark:#0e1318;--load:#7f95a6;--refusal:#ff8a80}
 }
 body{background:var(--ground);color:var(--text);font:15px/1.4 system-ui,sans-serif;margin:1.5em}
 summary{color:var(--faint);cursor:pointer;margin:.8em 0 .4em}
 h2{color:var(--text);display:inline;font-size:1em}
 nav{display:grid;gap:.15em 2em;grid-template-columns:repeat(auto-fill,minmax(min(31em,100%),1fr));margin:1em 0}
-nav a{align-items:center;color:inherit;display:grid;gap:.8em;grid-template-columns:12em 1fr 14em;text-decoration:none}
+nav a{align-items:center;color:inherit;display:grid;gap:.8em;grid-template-columns:13em 1fr 14em;text-decoration:none}
 nav a:hover{background:var(--lane)}
 nav a>*{overflow:hidden;text-overflow:ellipsis;white-space:nowrap}
 nav i{color:var(--faint);font-size:.85em;font-style:normal}
@@ -54,9 +54,16 @@ svg{background:var(--lane);display:block;height:1.2em;width:100%}
 path{vector-effect:non-scaling-stroke}
 .loads{border-top:2px solid var(--refusal);height:4em}
 nav .loads{border-top-width:1px;height:1.4em}
-.bar,.load{fill:var(--bar)}
-.whole{stroke:var(--whole)}
-.many{fill:var(--whole)}
+.load{fill:var(--load)}
+.f1{background:var(--f1);fill:var(--f1)}
+.f2{background:var(--f2);fill:var(--f2)}
+.f3{background:var(--f3);fill:var(--f3)}
+.f4{background:var(--f4);fill:var(--f4)}
+.f5{background:var(--f5);fill:var(--f5)}
+.f1.many,.f2.many{fill:var(--f3)}
+.whole{stroke:var(--f5)}
+.f4~.whole,.f5~.whole{stroke:var(--mark);stroke-opacity:.5}
+.pace b{display:inline-block;height:.8em;margin:0 .3em 0 .9em;width:2em}
 .refusal{stroke:var(--refusal);stroke-width:4px}
 .line .axis{color:var(--faint);font-size:.85em;justify-content:space-between;overflow:visible}
 .axis span{width:0}
@@ -87,10 +94,12 @@ svg{border:1px solid var(--faint);print-color-adjust:exact;-webkit-print-color-a
 pub const SLOTS: &str = " slots of 1.883 s, ";
 
 /// What comes after their time.
-pub const INTRODUCTION: &str =
-    r#" minutes. A bar is a message from its start to its end, with a mark wherever a
-broadcast of it is whole, or darker and with their number if there are over 400; a red mark is a refused order. Below is
-the load that the cell has reserved: at the red edge it is full.</p>
+pub const INTRODUCTION: &str = r#" minutes.</p>
+<p class="pace">A message is sent every <b class="f5"></b>15 s <b class="f4"></b>30 s <b class="f3"></b>minute
+<b class="f2"></b>2 minutes <b class="f1"></b>or less often</p>
+<p>A bar is a message from its start to its end, with a mark wherever a broadcast of it is whole, or with their number
+if there are over 400; a red mark is a refused order. Below is the load that the cell has reserved: at the red edge it
+is full.</p>
 "#;
 
 /// The end of the page.

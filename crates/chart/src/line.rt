@@ -7,13 +7,13 @@ ghost use Rattle.chart.specs.Message.{text_shown};
 ghost use Rattle.chart.specs.Kept.{accepted_kept};
 ghost use Rattle.std.specs.Option.{option_map};
 ghost use Rattle.handset.specs.Keeping.{messages_shown};
-ghost use Rattle.chart.specs.ChartText.{bar, bar_front, description, line_of, many_text, message_front, message_line};
-ghost use Rattle.chart.specs.ChartText.{message_name, name_text, number_text, picture_front};
+ghost use Rattle.chart.specs.ChartText.{bar, bar_front, description, line_of, many_class, many_text, message_front};
+ghost use Rattle.chart.specs.ChartText.{message_line, message_name, name_text, number_text, picture_front};
 ghost use Rattle.chart.specs.ChartText.{refusal_description, refusal_front, refusal_line, refusal_picture};
 
 use crate::cause::push_cause;
 use crate::kept::{KeptMessage, named};
-use crate::message::{are_many, category_words, push_drawn_marks, text_shown};
+use crate::message::{are_many, category_words, pace, push_drawn_marks, text_shown};
 use crate::page::Page;
 use bsc_table::CellRecord;
 use handset::Shown;
@@ -74,11 +74,14 @@ pub const SHOWN: &str = ", shown";
 /// The same where they don't.
 pub const NOT_SHOWN: &str = ", not shown";
 
-/// The front of the bar, up to its start.
-pub const BAR: &str = "</desc>\n<rect class=\"bar\" height=\"10\" x=\"";
+/// The front of the bar, up to its classes.
+pub const BAR: &str = "</desc>\n<rect class=\"bar";
 
-/// The same, where the broadcasts are too many for marks.
-pub const MANY: &str = "</desc>\n<rect class=\"bar many\" height=\"10\" x=\"";
+/// Its class where the broadcasts are too many for marks.
+pub const MANY: &str = " many";
+
+/// What comes before its start.
+pub const BAR_START: &str = "\" height=\"10\" x=\"";
 
 /// What comes before its width.
 pub const WIDTH: &str = "\" width=\"";
@@ -137,11 +140,22 @@ fn push_description(page: &mut Page, row: &Row, outcome: &'static str) -> Result
     page.markup(outcome)
 }
 
-/// The front of the bar of a message of which so many broadcasts are whole.
-fn bar_front(whole: u16) -> &'static str
-    ensures { result.now ≡ bar_front whole }
+/// The class of a bar of which so many broadcasts are whole, where they are too many for marks.
+fn many_class(whole: u16) -> &'static str
+    ensures { result.now ≡ many_class whole }
 {
-    if are_many(whole) { MANY } else { BAR }
+    if are_many(whole) { MANY } else { "" }
+}
+
+/// Appends the front of the bar of an accepted message, up to its start.
+#[tactic(auto, unfolding(crate::specs::ChartText::bar_front))]
+fn push_bar_front(page: &mut Page, row: &Row) -> Result<(), AllocError>
+    ensures { OnOk result (page.new ≡ page.old ++ bar_front row.now) }
+{
+    page.markup(BAR)?;
+    page.markup(pace(row))?;
+    page.markup(many_class(row.completed))?;
+    page.markup(BAR_START)
 }
 
 /// Appends the bar of an accepted message.
@@ -149,7 +163,7 @@ fn bar_front(whole: u16) -> &'static str
 fn push_bar(page: &mut Page, row: &Row) -> Result<(), AllocError>
     ensures { OnOk result (page.new ≡ page.old ++ bar row.now) }
 {
-    page.markup(bar_front(row.completed))?;
+    push_bar_front(page, row)?;
     page.number(u64::from(row.start))?;
     page.markup(WIDTH)?;
     page.number(u64::from(u32::from(row.end).saturating_sub(row.start)))?;

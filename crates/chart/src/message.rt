@@ -6,7 +6,8 @@ ghost use Rattle.scheduler.specs.Pages.{airs_page};
 ghost use Rattle.bsc_table.specs.Book.{air_pairs, aired_pair};
 ghost use Rattle.handset.specs.Keeping.{messages_shown};
 ghost use Rattle.chart.specs.Kept.{accepted_kept};
-ghost use Rattle.chart.specs.Message.{are_many, category_words, drawn_marks, mark_at, marks_of, text_shown};
+ghost use Rattle.chart.specs.Message.{are_many, category_words, drawn_marks, is_every, mark_at, marks_of, pace_text};
+ghost use Rattle.chart.specs.Message.{text_shown};
 
 use crate::kept::KeptMessage;
 use crate::load::end_within;
@@ -14,6 +15,7 @@ use crate::page::Page;
 use bsc_table::{Aired, Category};
 use cbs_page::Serial;
 use handset::Shown;
+use report::{Demand, Row};
 use std::alloc::AllocError;
 
 /// The high category.
@@ -33,6 +35,21 @@ pub const MARK_END: &str = " 0v10";
 
 /// The most marks of a message. One with more whole broadcasts has none, since they would run into one another.
 pub const MOST_MARKS: u16 = 400;
+
+/// The class of the bar of a message that is broadcast every 8 slots, or more often.
+pub const EVERY_15_S: &str = " f5";
+
+/// The same of 16 slots.
+pub const EVERY_30_S: &str = " f4";
+
+/// The same of 32 slots.
+pub const EVERY_MINUTE: &str = " f3";
+
+/// The same of 64 slots.
+pub const EVERY_2_MINUTES: &str = " f2";
+
+/// The class of one that is broadcast more rarely.
+pub const RARER: &str = " f1";
 
 /// The category of a message in words; nothing of none.
 pub(crate) fn category_words(found: Option<KeptMessage>) -> &'static str
@@ -87,6 +104,43 @@ fn push_mark(
         page.markup(MARK_END)?;
     }
     Ok(())
+}
+
+/// The period of a message; 0 of none.
+fn period_of(demand: Option<Demand>) -> u16
+    ensures { result ≡ option_map_or (λ demand. demand.period) demand 0 }
+{
+    match demand {
+        None => 0,
+        Some(demand) => demand.period,
+    }
+}
+
+/// Whether a message is broadcast every so many slots, or more often. The last of its broadcasts may be cut off.
+fn is_every(slots: u16, row: &Row) -> bool
+    ensures { result ≡ is_every slots row.now }
+{
+    let length = u32::from(row.end).saturating_sub(row.start);
+    row.completed > 0
+        && period_of(row.demand) <= slots
+        && length <= u32::from(slots) * (u32::from(row.completed) + 1)
+}
+
+/// How often a message is broadcast, as the class of its bar.
+pub(crate) fn pace(row: &Row) -> &'static str
+    ensures { result.now ≡ pace_text row.now }
+{
+    if is_every(8, row) {
+        EVERY_15_S
+    } else if is_every(16, row) {
+        EVERY_30_S
+    } else if is_every(32, row) {
+        EVERY_MINUTE
+    } else if is_every(64, row) {
+        EVERY_2_MINUTES
+    } else {
+        RARER
+    }
 }
 
 /// Whether a message has so many whole broadcasts that one couldn't see a mark for each.

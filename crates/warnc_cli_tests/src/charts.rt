@@ -14,13 +14,13 @@ args chart --slots 4
 run -> 0
 out -> <!DOCTYPE html>
 past <p>A run of 4 slots of 1.883 s, 0.1 minutes. -> yes
-past it is full.</p> -> yes
+past is full.</p> -> yes
 out -> <details open id=\"c1-1\">
 out -> <summary><h2>Cell 1-1</h2> messages: 1, refused: 1, fullest: 100 % at 0.0 min</summary>
 out -> <div class=\"line\"><p><b>1 0010</b> <i>high</i> <bdi>One</bdi></p>
 out -> <svg viewBox=\"0 0 4 10\" preserveAspectRatio=\"none\" role=\"img\"><title>1 0010</title>
 out -> <desc>from slot 0 to slot 3, whole broadcasts: 3, shown</desc>
-out -> <rect class=\"bar\" height=\"10\" x=\"0\" width=\"3\"/>
+out -> <rect class=\"bar f5\" height=\"10\" x=\"0\" width=\"3\"/>
 out -> <path class=\"whole\" d=\"M1 0v10M2 0v10M3 0v10\"/></svg></div>
 out -> <div class=\"line\"><p><b>2 0020</b> <span class=\"cause\">refused: BSC capacity exceeded (06)</span></p>
 out -> <svg viewBox=\"0 0 4 10\" preserveAspectRatio=\"none\" role=\"img\"><title>2 0020</title>
@@ -49,15 +49,15 @@ in write,0,b,4371,0,2,en,1,2,0,1-2,Two
 in update,1,a,en,2,2,0,*,<script>alert(\"1\")</script> & 'so'
 args chart --slots 4 --cell 1-2 --workers 2
 run -> 0
-past it is full.</p> -> yes
+past is full.</p> -> yes
 out -> <details open id=\"c1-2\">
 out -> <summary><h2>Cell 1-2</h2> messages: 3, refused: 0, fullest: 100 % at 0.0 min</summary>
 past <b>4370 0010</b> <i>normal</i> <bdi>One</bdi> -> yes
-past <rect class=\"bar\" height=\"10\" x=\"0\" width=\"1\"/> -> yes
+past <rect class=\"bar f5\" height=\"10\" x=\"0\" width=\"1\"/> -> yes
 past <b>4371 0020</b> <i>background</i> <bdi>Two</bdi> -> yes
-past <rect class=\"bar\" height=\"10\" x=\"0\" width=\"4\"/> -> yes
+past <rect class=\"bar f5\" height=\"10\" x=\"0\" width=\"4\"/> -> yes
 past <i>normal</i> <bdi>&lt;script&gt;alert(&quot;1&quot;)&lt;/script&gt; &amp; &#39;so&#39;</bdi> -> yes
-past <rect class=\"bar\" height=\"10\" x=\"1\" width=\"3\"/> -> yes
+past <rect class=\"bar f5\" height=\"10\" x=\"1\" width=\"3\"/> -> yes
 past d=\"M0 1008H0V504H1V0H2V504H4V1008z\" -> yes
 past </details> -> yes
 out -> </body>
@@ -72,7 +72,7 @@ in update,1,a,en,2,2,0,*,Three
 args chart --slots 8
 run -> 0
 past <bdi>Three</bdi> -> yes
-past <rect class=\"bar\" height=\"10\" x=\"4\" width=\"4\"/> -> yes
+past <rect class=\"bar f5\" height=\"10\" x=\"4\" width=\"4\"/> -> yes
 past d=\"M0 1008H0V252H1V0H8V1008z\" -> yes
 past </html> -> yes
 
@@ -88,7 +88,7 @@ in write,32,b,2,0,2,en,2,2,1,1-1 1-2,Two
 in write,33,c,3,0,3,en,2,2,0,1-1 1-2,Three
 args chart --slots 64
 run -> 0
-past it is full.</p> -> yes
+past is full.</p> -> yes
 out -> <nav aria-label=\"Cells\">
 out -> <a href=\"#c1-1\"><b>1-1 and 1 more</b>
 out -> <svg class=\"loads\" viewBox=\"0 0 64 1008\" preserveAspectRatio=\"none\" role=\"img\"><title>Reserved load</title>
@@ -112,19 +112,51 @@ past </details> -> yes
 out -> </body>
 out -> </html>
 
+# five steps of how often a message is sent: the longest periods of four of them, and the shortest of the fifth
+in cell,1,1
+in write,0,a,1,0,1,en,2,8,0,*,One
+in write,0,b,2,0,2,en,2,16,0,*,Two
+in write,0,c,3,0,3,en,2,32,0,*,Three
+in write,0,d,4,0,4,en,2,64,0,*,Four
+in write,0,e,5,0,5,en,2,65,0,*,Five
+args chart --slots 640
+run -> 0
+past <rect class=\"bar f5\" height=\"10\" x=\"0\" width=\"640\"/> -> yes
+past <rect class=\"bar f4\" height=\"10\" x=\"0\" width=\"640\"/> -> yes
+past <rect class=\"bar f3\" height=\"10\" x=\"0\" width=\"640\"/> -> yes
+past <rect class=\"bar f2\" height=\"10\" x=\"0\" width=\"640\"/> -> yes
+past <rect class=\"bar f1\" height=\"10\" x=\"0\" width=\"640\"/> -> yes
+past </html> -> yes
+
+# a background alert that seldom finds a free slot is sent less often than its period says, or not at all
+in cell,1,1
+in write,0,a,1,0,1,en,2,1,60,*,One
+in write,0,b,2,0,2,en,1,8,0,*,Two
+args chart --slots 64
+run -> 0
+past <rect class=\"bar f5\" height=\"10\" x=\"0\" width=\"60\"/> -> yes
+past <rect class=\"bar f3\" height=\"10\" x=\"0\" width=\"64\"/> -> yes
+past </html> -> yes
+args chart --slots 60
+run -> 0
+past <rect class=\"bar f5\" height=\"10\" x=\"0\" width=\"60\"/> -> yes
+past <rect class=\"bar f1\" height=\"10\" x=\"0\" width=\"60\"/> -> yes
+out -> <path class=\"whole\" d=\"\"/></svg></div>
+past </html> -> yes
+
 # a mark for each of 400 broadcasts, and none for 401
 in cell,1,1
 in write,0,a,1,0,1,en,0,1,0,*,One
 args chart --slots 400
 run -> 0
 past <i>high</i> <bdi>One</bdi> -> yes
-past <rect class=\"bar\" height=\"10\" x=\"0\" width=\"400\"/> -> yes
+past <rect class=\"bar f5\" height=\"10\" x=\"0\" width=\"400\"/> -> yes
 past M398 0v10M399 0v10M400 0v10\"/> -> yes
 past </html> -> yes
 args chart --slots 401
 run -> 0
 past <i>high</i> <small>401 broadcasts</small> <bdi>One</bdi> -> yes
-past <rect class=\"bar many\" height=\"10\" x=\"0\" width=\"401\"/> -> yes
+past <rect class=\"bar f5 many\" height=\"10\" x=\"0\" width=\"401\"/> -> yes
 out -> <path class=\"whole\" d=\"\"/></svg></div>
 past </html> -> yes
 
@@ -132,14 +164,14 @@ past </html> -> yes
 in cell,1,1
 args chart --slots 4 --cell=1-2
 run -> 0
-past it is full.</p> -> yes
+past is full.</p> -> yes
 out -> </body>
 out -> </html>
 args chart --slots 1
 in-none
 run -> 0
 past A run of 1 slots of 1.883 s, 0.0 minutes -> yes
-past it is full.</p> -> yes
+past is full.</p> -> yes
 out -> </body>
 out -> </html>
 
@@ -164,5 +196,5 @@ usage -> 2 error:
 
 #[test]
 fn books_give_charts(rt: HostRuntime) -> Result<(), Fail> {
-    expect_rows(&rt, CHART, 126)
+    expect_rows(&rt, CHART, 141)
 }

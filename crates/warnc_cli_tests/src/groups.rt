@@ -71,7 +71,7 @@ all -> lac,ci,id,serial,start,end,completed,shown
 args chart --slots 2 --network --cell 1-64
 run -> 0
 out -> <!DOCTYPE html>
-past it is full.</p> -> yes
+past is full.</p> -> yes
 out -> <details>
 out -> <summary><h2>Group 1</h2></summary>
 out -> <details open id=\"c1-64\">
@@ -91,7 +91,7 @@ past <summary><h2>Cell 1-64</h2> messages: 1, refused: 0, fullest: 50 % at 0.0 m
 past </html> -> yes
 args chart --slots 2 --group 1
 run -> 0
-past it is full.</p> -> yes
+past is full.</p> -> yes
 out -> <details open id=\"c1-64\">
 out -> <summary><h2>Cell 1-64</h2> messages: 1, refused: 0, fullest: 50 % at 0.0 min</summary>
 past </html> -> yes
