@@ -18,8 +18,9 @@ function nameOfGroup({ cells }) {
     return isRow ? say("cellsTo", cells[0].key, cells.at(-1).key) : cells.map((cell) => cell.key).join(", ");
 }
 const loadAt = (group, slot) => (group.loads.findLast(([from]) => from <= slot) || [0, 0])[1];
-function gapOf({ marks, period }) {
-    return marks.length > 1 ? (marks.at(-1) - marks[0]) / (marks.length - 1) : period || Infinity;
+function gapOf({ start, end, marks, whole, period }) {
+    if (marks.length > 1) return (marks.at(-1) - marks[0]) / (marks.length - 1);
+    return whole > 1 ? (end - start) / whole : period || Infinity;
 }
 const everyOf = (message) => message.period || gapOf(message);
 const nameOf = (message) => message.name || `${message.id} ${message.serial}`;
@@ -244,6 +245,15 @@ function showTime() {
         showChannel(group);
     }, 180);
 }
+// Gives a message that is sent so often that the chart has no marks of it those that its cell's tape has: after each
+// slot that sends a last page.
+function markByTape(message, { air, page }) {
+    const key = message.id * 0x10000 + parseInt(message.serial, 16), marks = [];
+    for (let slot = message.start; slot < Math.min(message.end, air.length); slot++) {
+        if (air[slot] === key && page[slot] >> 4 === (page[slot] & 15)) marks.push(slot + 1);
+    }
+    message.marks = Uint32Array.from(marks);
+}
 async function showChannel(group) { // asked once for each cell
     const cell = group.cells.find((it) => it.key === state.cell);
     if (!cell || under || state.air?.asked === state.cell) return;
@@ -256,6 +266,9 @@ async function showChannel(group) { // asked once for each cell
             return;
         }
         state.air = { key: cell.key, ...result };
+        const unmarked = group.messages.filter((it) => it.whole > 0 && !it.isRefused && !it.marks.length);
+        unmarked.forEach((it) => markByTape(it, result));
+        if (unmarked.length) drawChart();
     }
     const slot = Math.min(state.at, state.slots - 1), key = state.air.air?.[slot], page = state.air.page?.[slot];
     const isOf = (it) => !it.isRefused && it.id === key >>> 16 && parseInt(it.serial, 16) === (key & 0xffff);

@@ -1,6 +1,6 @@
 // In a worker: what the page shows and the program doesn't say yet. Which row of the book a line of the report is of,
-// which orders came to nothing, the load as numbers, when a phone shows a message first, the text of each page, and
-// which page is on the channel in a slot. All of it is read of the program's report, chart and tapes (docs/formats.md).
+// which orders came to nothing, the load as numbers, the text of each page, and which page is on the channel in a slot.
+// All of it is read of the program's report, chart and tapes (docs/formats.md).
 const WHOLE_CELL = 1008; // the height of a full cell in the chart
 // causes of CBSP with which a cell refuses a stop: not identified, its log is full, the run is over
 const NOT_IDENTIFIED = "02", REFUSALS_OF_STOPS = [NOT_IDENTIFIED, "08", "0a"];
@@ -43,17 +43,17 @@ function between(text, front, end) {
     return at < 0 ? "" : text.slice(at + front.length, text.indexOf(end, at + front.length));
 }
 
-// Returns a message or a refused order: a line of the report, and the chart's line of it. A mark stands after the slot
-// that sends a last page, so the first one is when a phone shows the message.
+// Returns a message or a refused order: a line of the full report, and the chart's line of it. A phone shows a message
+// after a slot, and a mark stands after the slot that sends a last page; one that is sent very often has no marks.
 function messageOf(fields, box) {
-    const [, , id, serial, start, end, whole, shown] = fields, isRefused = shown.startsWith("refused");
+    const [, , id, serial, start, end, whole, shown, first, , period] = fields;
+    const isShown = shown === "yes", isRefused = shown.startsWith("refused");
     const path = between(box, '<path class="whole" d="', '"');
     const marks = path ? Uint32Array.from(path.slice(1, -3).split("v10M"), parseFloat) : new Uint32Array(0);
-    const isShown = shown === "yes";
     return {
-        id: +id, serial, start: +start, end: +end, whole: +whole, isShown, isRefused, marks,
+        id: +id, serial, start: +start, end: +end, whole: +whole, period: +period, isShown, isRefused, marks,
         cause: isRefused ? shown.slice(8) : "", category: between(box, "<i>", "</i>"),
-        text: plain(between(box, "<bdi>", "</bdi>")), first: isShown && marks.length ? marks[0] : -1,
+        text: plain(between(box, "<bdi>", "</bdi>")), first: isShown ? +first + 1 : -1,
     };
 }
 
@@ -119,7 +119,7 @@ class Judge {
         const live = new Map();
         let next = 0, clock = 0;
         this.book.orders.forEach((order, k) => {
-            const verdict = this.verdicts[k], { row, name, verb, period } = order;
+            const verdict = this.verdicts[k], { row, name, verb } = order;
             if (!this.wheres[k].has(cell)) return;
             if (verb !== "write" && !live.has(name)) {
                 verdict.nothing.push(cell);
@@ -137,7 +137,7 @@ class Judge {
             if (!isOf || (verb === "stop" && !isRefusedHere)) return;
             next++;
             this.count(verdict, cell, message);
-            if (isFirst) Object.assign(message, { row, name, verb, period: +period });
+            if (isFirst) Object.assign(message, { row, name, verb });
             if (!message.isRefused) live.set(name, serial);
             else if (message.cause === NOT_IDENTIFIED) live.delete(name);
         });

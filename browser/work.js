@@ -36,7 +36,7 @@ const jobs = {
         const words = ["--slots", slots, "--workers", 1], octets = encode(text);
         tapes = null;
         say(1);
-        const report = run(["report", ...words], octets);
+        const report = run(["report", "--full", ...words], octets);
         if (report.status) return { fault: report.says, faults: tableOf(decode(run(["check"], octets).out)) };
         say(2);
         const chart = run(["chart", ...words], octets);
