@@ -73,24 +73,28 @@ function loadOf(body) {
     return { loads, fullest };
 }
 
-// Returns the groups of cells whose charts have the same octets, with their messages and loads.
-function groupsOf(chart, report) {
-    const lines = report.split("\n").slice(1, -1).map((line) => line.split(",")), groups = new Map();
-    let at = 0, index = 0;
-    for (const part of chart.split("<details open>").slice(1)) {
-        const key = between(part, "<summary><h2>Cell ", "</h2>");
-        const body = part.slice(part.indexOf("</summary>"), part.indexOf("</details>"));
-        let end = at;
-        while (end < lines.length && `${lines[end][0]}-${lines[end][1]}` === key) end++;
-        if (!groups.has(body)) {
-            const boxes = body.split('<div class="line">').slice(1);
-            const messages = lines.slice(at, end).map((fields, k) => messageOf(fields, boxes[k]));
-            groups.set(body, { cells: [], messages, ...loadOf(body) });
-        }
-        groups.get(body).cells.push({ key, index: index++ });
-        at = end;
+// Returns the cells that a heading of the chart names: "Cell 1-2", "Cells 1-2, 3-4" or "Cells 1-2 to 1-9, 8 cells".
+function cellsNamed(heading) {
+    const names = heading.replace(/^Cells? /, "").split(", "), [from, to] = names[0].split(" to ");
+    if (!to) return names;
+    const [lac, first] = from.split("-"), last = to.split("-")[1];
+    return Array.from({ length: last - first + 1 }, (_, k) => `${lac}-${+first + k}`);
+}
+
+// Returns the groups of cells that the chart draws once, with their messages and loads.
+function groupsOf(chart, report, book) {
+    const places = new Map(book.cells.map(({ key }, index) => [key, index])), lines = new Map();
+    for (const line of report.split("\n").slice(1, -1)) {
+        const fields = line.split(","), key = `${fields[0]}-${fields[1]}`;
+        if (!lines.has(key)) lines.set(key, []);
+        lines.get(key).push(fields);
     }
-    return [...groups.values()];
+    return chart.split("<details open").slice(1).map((part) => {
+        const cells = cellsNamed(between(part, "<h2>", "</h2>")).map((key) => ({ key, index: places.get(key) }));
+        const body = part.slice(part.indexOf("</summary>"), part.indexOf("</details>"));
+        const boxes = body.split('<div class="line">').slice(1), said = lines.get(cells[0].key) || [];
+        return { cells, messages: said.map((fields, k) => messageOf(fields, boxes[k])), ...loadOf(body) };
+    });
 }
 
 // Finds for each message the order of the book that it is of, and for each order what became of it in its cells. A

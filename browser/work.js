@@ -42,8 +42,8 @@ const jobs = {
         const chart = run(["chart", ...words], octets);
         if (chart.status) return { fault: chart.says, faults: [] };
         say(3);
-        const groups = groupsOf(decode(chart.out), decode(report.out));
-        return { groups, verdicts: judge(readBook(text), groups, slots) };
+        const book = readBook(text), groups = groupsOf(decode(chart.out), decode(report.out), book);
+        return { groups, verdicts: judge(book, groups, slots) };
     },
 
     costs: ({ text }) => ({ costs: tableOf(decode(run(["texts"], encode(text)).out)) }),
