@@ -69,6 +69,7 @@ class Page(html.parser.HTMLParser):
                 groups.append((section["name"], []))
             elif groups:
                 groups[-1][1].extend(names_of(section["name"]))
+            section["group"] = len(groups)
         self.cells = [it for it in self.cells if not it["name"].startswith("Group ")]
         return [(name, sorted(cells)) for name, cells in groups]
 
@@ -209,7 +210,7 @@ def fullest_of(line):
 
 def wrong_facts(page):
     """Yields what is wrong with the headings and the overview."""
-    if len(page.cells) != len({it["contents"] for it in page.cells}):
+    if len(page.cells) != len({(it["group"], it["contents"]) for it in page.cells}):
         yield "two sections have the same contents"
     pattern = r" messages: (\d+), refused: (\d+), fullest: ((\d+) % at (\d+)\.(\d) min)"
     of_group = [cells for _, cells in page.groups] or [[it for each in page.cells for it in names_of(each["name"])]]

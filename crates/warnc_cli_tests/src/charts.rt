@@ -196,5 +196,5 @@ usage -> 2 error:
 
 #[test]
 fn books_give_charts(rt: HostRuntime) -> Result<(), Fail> {
-    expect_rows(&rt, CHART, 141)
+    expect_rows(&rt, CHART, 168)
 }
