@@ -1,5 +1,5 @@
 #!/usr/bin/env python3
-"""Runs each command that README, three pages of docs/ and the man page print, and compares what it writes with what
+"""Runs each command that README, four pages of docs/ and the man page print, and compares what it writes with what
 they print after it.
 
 Usage: examples.py [PROGRAM]      PROGRAM is the warnc that is run; that of ./warnc, if it isn't given
@@ -18,7 +18,7 @@ import sys
 import tempfile
 
 TOP = os.path.dirname(os.path.dirname(os.path.realpath(__file__)))
-TEXTS = ("README.md", "docs/planning.md", "docs/usage.md", "docs/cap.md", "docs/warnc.1")
+TEXTS = ("README.md", "docs/planning.md", "docs/usage.md", "docs/cap.md", "docs/real-equipment.md", "docs/warnc.1")
 # what not every machine has, and commands that run it
 NEEDS = {"tshark": "tshark", "xxd": "xxd", "cluster/parallel.sh": "parallel"}
 SECONDS = 100
