@@ -51,8 +51,8 @@ def internet(source, target, identity, payload, protocol=17):
     return header[:10] + struct.pack(">H", ones_sum(header) ^ 0xFFFF) + header[12:] + payload
 
 
-def gsmtap(frame, channel, block, arfcn=0):
-    return struct.pack(">BBBBHbbIBBBB", 2, 4, 1, 0, arfcn, 0, 0, frame, channel, 0, 2, 0) + block
+def gsmtap(frame, channel, block, arfcn=0, slot=2):
+    return struct.pack(">BBBBHbbIBBBB", 2, 4, 1, 0, arfcn, 0, 0, frame, channel, 0, slot, 0) + block
 
 
 def datagram(payload, port=4729):
@@ -195,7 +195,7 @@ def linked(rng, link, octets):
     return rng.randbytes(12 if link == 1 else 14) + tags + kind + octets
 
 
-def block_in(link, octets, source, channel):
+def block_in(link, octets, source, channel, is_sdcch):
     """Returns the frame number and the block that a packet carries, or None."""
     octets = internet_in(link, octets)
     if len(octets) < 20 or octets[0] >> 4 != 4 or octets[9] != 17:
@@ -214,8 +214,10 @@ def block_in(link, octets, source, channel):
     octets = octets[8:size]
     if len(octets) < 16:
         return None
-    version, words, kind, _, arfcn, _, _, frame, sent_on = struct.unpack_from(">BBBBHbbIB", octets)
-    if (version, kind) != (2, 1) or words < 4 or arfcn & 0x4000 or sent_on not in (12, 15):
+    version, words, kind, _, arfcn, _, _, frame, sent_on, _, slot, _ = struct.unpack_from(">BBBBHbbIBBBB", octets)
+    if (version, kind) != (2, 1) or words < 4 or arfcn & 0x4000:
+        return None
+    if (sent_on, slot) not in ((7, 2), (8, 2)) if is_sdcch else sent_on not in (12, 15):
         return None
     if channel is not None and arfcn & 0x3FFF != channel:
         return None
@@ -224,12 +226,12 @@ def block_in(link, octets, source, channel):
     return frame, octets[4 * words:]
 
 
-def tape_of(octets, lac, cell, slots, source=None, channel=None):
+def tape_of(octets, lac, cell, slots, source=None, channel=None, is_sdcch=False):
     blocks, first, last = {}, None, None
     for number, link, inside in packets_of(octets):
         if link not in LINKS:
             raise Refused(f"packet {number}: {unknown(link)}")
-        found = block_in(link, inside, source, channel)
+        found = block_in(link, inside, source, channel, is_sdcch)
         if found is None:
             continue
         frame, block = found
@@ -268,7 +270,7 @@ def foreign(rng):
         internet(source, target, 1, datagram(good + b"+")),
         internet(source, target, 1, datagram(gsmtap(at, 15, block, 0x4000))),
         internet(source, target, 1, datagram(gsmtap(at, 15, block, rng.choice([1, 0x8000, 1023])))),
-        internet(source, target, 1, datagram(gsmtap(at, 7, block))),
+        internet(source, target, 1, datagram(gsmtap(at, rng.choice([7, 8]), block, slot=rng.choice([1, 2])))),
         internet(source, target, 1, datagram(b"\1" + good[1:])),
         internet(source, target, 1, datagram(good[:2] + b"\2" + good[3:])),
         internet(source, target, 1, datagram(good), 6),
@@ -296,11 +298,13 @@ def disturbed(rng, packets):
     return out
 
 
-def random_file(rng, tape):
-    """A capture of a tape with another header, order, time and disturbance."""
+def random_file(rng, tape, is_sdcch=False):
+    """A capture of a tape with another header, order, time and disturbance, and maybe marked as SDCCH."""
     order, magic = rng.choice("<>"), rng.choice([0xA1B2C3D4, 0xA1B23C4D])
     link = rng.choice(LINKS)
     inside = [it for _, _, it in packets_of(capture_of(tape, rng.random() < 0.3, rng.choice([12, 15])))]
+    if is_sdcch:
+        inside = [it[:40] + rng.choice([b"\7", b"\x08"]) + it[41:] for it in inside]
     if rng.random() < 0.7:
         inside = disturbed(rng, inside)
     if rng.random() < 0.5:
@@ -409,13 +413,15 @@ def compare(program, runs):
         back = ["tape", "--cell", f"{lac}-{cell}", "--slots"]
         whole = ran(program, ["pcap", "--channel", str(channel)], tape)
         assert ran(program, [*back, str(slots)], whole) == tape, f"run {run}: there and back"
-        file = random_file(rng, tape)
+        is_sdcch = rng.random() < 0.2
+        file = random_file(rng, tape, is_sdcch != (rng.random() < 0.1))
         wanted = rng.choice([slots, slots, max(1, slots - 1), slots + 3])
         source = rng.choice([None, None, tape[:4], b"\x0A\0\0\1"])
         channel = rng.choice([None, None, 0, 1])
         back += [str(wanted)] + ([] if source is None else ["--from", ".".join(map(str, source))])
         back += [] if channel is None else ["--arfcn", str(channel)]
-        mine = made(tape_of, file, lac, cell, wanted, source, channel)
+        back += ["--channel", "sdcch"] if is_sdcch else rng.choice([[], [], ["--channel", "cbch"]])
+        mine = made(tape_of, file, lac, cell, wanted, source, channel, is_sdcch)
         assert ran(program, back, file) == mine, f"run {run}: {back}: {mine if isinstance(mine, str) else 'a tape'}"
         kind = "a tape" if isinstance(mine, bytes) else mine.split(": ")[-1]
         counts[kind] = counts.get(kind, 0) + 1

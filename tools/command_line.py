@@ -289,7 +289,11 @@ def bash(commands):
     names = " ".join(it.name for it in commands)
     options = [f"            {it.name}) words=\"{' '.join(f'--{one.name}' for one in it.options)} -h --help\" ;;"
                .replace('" -h', '"-h') for it in commands]
-    values = [f"        --{it.name}) words=\"{' '.join(it.choices)}\" ;;" for it in every if it.choices]
+    # an option of two commands is completed with the values of both
+    choices = {}
+    for it in (one for command in commands for one in command.options):
+        choices.setdefault(it.name, {}).update(dict.fromkeys(it.choices))
+    values = [f"        --{it.name}) words=\"{' '.join(choices[it.name])}\" ;;" for it in every if choices[it.name]]
     return head("bash. To install it, source it in ~/.bashrc.") + BASH.format(
         flags=" | ".join(f"--{it.name}" for it in every if not it.value), commands=f"{names} {HELP[0]}",
         values="\n".join(values), files=" | ".join(f"--{it.name}" for it in every if it.value == "FILE"),

@@ -19,7 +19,7 @@ _warnc() {
         --lang) words="de en it fr es nl sv da pt fi no el tr hu pl und cs he ar ru is" ;;
         --scope) words="0 1 2 3" ;;
         --update) words="0 1 2 3 4 5 6 7 8 9 10 11 12 13 14 15" ;;
-        --channel) words="51 52" ;;
+        --channel) words="51 52 cbch sdcch" ;;
         --book)
             mapfile -t COMPREPLY < <(compgen -f -- "$word")
             compopt -o filenames
@@ -40,7 +40,7 @@ _warnc() {
             page) words="--lang --id --scope --code --update -h --help" ;;
             live) words="--slots --group --network --sessions --workers -h --help" ;;
             pcap) words="--used --channel -h --help" ;;
-            tape) words="--cell --slots --from --arfcn -h --help" ;;
+            tape) words="--cell --slots --from --arfcn --channel -h --help" ;;
             groups) words="-h --help" ;;
             help) words="check texts compile report chart read verify page live pcap tape groups" ;;
             esac

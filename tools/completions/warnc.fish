@@ -59,4 +59,6 @@ complete -c warnc -n '__fish_seen_subcommand_from tape' -x -l cell -d 'The cell 
 complete -c warnc -n '__fish_seen_subcommand_from tape' -x -l slots -d 'How many slots the tape has, 1 to 65535, each 1.883 s'
 complete -c warnc -n '__fish_seen_subcommand_from tape' -x -l from -d 'Takes the packets from this IPv4 address alone, as 127.0.0.1; all if it isn\'t given'
 complete -c warnc -n '__fish_seen_subcommand_from tape' -x -l arfcn -d 'Takes the packets of this radio channel alone, 0 to 1023; all if it isn\'t given'
+complete -c warnc -n '__fish_seen_subcommand_from tape' -x -l channel -d 'The channel that packets name, by its own type or, as receivers do that know none, SDCCH' \
+    -a 'cbch sdcch'
 complete -c warnc -n '__fish_seen_subcommand_from help' -a 'check texts compile report chart read verify page live pcap tape groups'

@@ -66,7 +66,7 @@ payload_there channel place block long =
     rw long (ap (λ xs. Some (tap_header channel place ++ xs)) (take_all 23 block (omega (arith, long))))
 
 block_there : (channel : Channel) (place : Place) (block : List ℕ) → length block ≡ 23 →
-    block_of None (tap_header channel place ++ block) ≡ Some (record
+    block_of anyone (tap_header channel place ++ block) ≡ Some (record
     { frame = frame_number channel place; block = block })
 unfolding tap_header block_of
 block_there BesideSdcch4 place block long =

@@ -7,6 +7,8 @@ use Rattle.byteorder.specs.Endian.{big_number, little_number}
 use Rattle.gsmtap.specs.declared.file.Link.{Link}
 use Rattle.gsmtap.specs.declared.file.Link.TheVariants.{Cooked, CookedTwo, Ethernet, Internet, Loopback}
 use Rattle.gsmtap.specs.declared.tap.Sent.{Sent}
+use Rattle.gsmtap.specs.declared.tape.ChannelType.{ChannelType}
+use Rattle.gsmtap.specs.declared.tape.ChannelType.TheVariants.{Cbch, Sdcch}
 use Rattle.gsmtap.specs.declared.tape.Sender.{Sender}
 
 -- what follows a tag of a virtual network, of two octets that say that it is one and two more (IEEE 802.1Q)
@@ -76,14 +78,20 @@ abbrev pub is_on : Option ℕ → List ℕ → Bool
 is_on None octets = true
 is_on (Some arfcn) octets = big_number 2 (drop 4 octets) % 0x4000 == arfcn
 
+-- it is marked as a block of a cell broadcast channel: by the channel's own types, CBCH52 and CBCH51; or, by receivers
+-- that know none, as one of the channel in whose place it stands, SDCCH/4 or SDCCH/8 number 2 (types 7 and 8, and
+-- sub-slot 2; 3GPP TS 45.002, clause 7)
+abbrev pub is_marked : ChannelType → List ℕ → Bool
+is_marked Cbch octets = slice_index octets 12 == 12 || slice_index octets 12 == 15
+is_marked Sdcch octets = (slice_index octets 12 == 7 || slice_index octets 12 == 8) && slice_index octets 14 == 2
+
 -- the block in GSMTAP: version 2, a header of four words at least, type 1 (a block of the Um interface), downlink (bit
--- 14 of the ARFCN is 0), channel 12 or 15, and 23 octets after the header. It has the number of its frame
-unfoldable pub block_of : Option ℕ → List ℕ → Option Sent
-block_of arfcn octets =
+-- 14 of the ARFCN is 0), the wanted channel, and 23 octets after the header. It has the number of its frame
+unfoldable pub block_of : Sender → List ℕ → Option Sent
+block_of from octets =
     if nat_le 16 (length octets) && slice_index octets 0 == 2 && nat_le 4 (slice_index octets 1)
-    && slice_index octets 2 == 1 && slice_index octets 4 / 64 % 2 == 0 && is_on arfcn octets
-    && (slice_index octets 12 == 12 || slice_index octets 12 == 15)
-    && length octets == 4 * slice_index octets 1 + 23
+    && slice_index octets 2 == 1 && slice_index octets 4 / 64 % 2 == 0 && is_on from.arfcn octets
+    && is_marked from.channel octets && length octets == 4 * slice_index octets 1 + 23
     then Some (record {
       frame = big_number 4 (drop 8 octets);
       block = drop (4 * slice_index octets 1) octets;
@@ -92,10 +100,9 @@ block_of arfcn octets =
 -- the block that a packet carries
 unfoldable pub sent_in : Link → Sender → List ℕ → Option Sent
 sent_in link from octets =
-    option_and_then (λ internet. option_and_then (λ datagram. option_and_then (block_of from.arfcn)
-    (payload_of datagram))
+    option_and_then (λ internet. option_and_then (λ datagram. option_and_then (block_of from) (payload_of datagram))
     (datagram_of from.address internet)) (internet_of link octets)
 
--- whoever sends
+-- whoever sends, on a channel that is marked as what it is
 abbrev pub anyone : Sender
-anyone = record { address = None; arfcn = None }
+anyone = record { address = None; arfcn = None; channel = Cbch }

@@ -20,4 +20,4 @@ pub use capture::{CaptureFault, Settings, Slots, capture_of};
 pub use fault::{AirFault, AirFaultKind};
 pub use laws::capture_laws;
 pub use packet::{Channel, Place, push_packet};
-pub use tape::{Sender, Wanted, tape_of_capture};
+pub use tape::{ChannelType, Sender, Wanted, tape_of_capture};

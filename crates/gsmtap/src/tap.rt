@@ -2,10 +2,10 @@
 
 ghost use Rattle.std.specs.Prelude.{◌≡◌, ◌≤◌, length, option_copied, option_map};
 ghost use Rattle.gsmtap.specs.Tap.{after_cooked_two, after_family, after_header, after_type, block_of, datagram_of};
-ghost use Rattle.gsmtap.specs.Tap.{internet_of, is_from, is_on, is_tag, payload_of, sent_in, without_tag};
+ghost use Rattle.gsmtap.specs.Tap.{internet_of, is_from, is_marked, is_on, is_tag, payload_of, sent_in, without_tag};
 
 use crate::file::Link;
-use crate::tape::Sender;
+use crate::tape::{ChannelType, Sender};
 use byteorder::{BigEndian, ByteOrder, LittleEndian};
 
 /// The port of GSMTAP.
@@ -34,7 +34,7 @@ pub fn sent_in(link: Link, from: Sender, octets: &[u8]) -> Option<Sent>
     let internet = internet_of(link, octets)?;
     let datagram = datagram_of(from.address, internet)?;
     let payload = payload_of(datagram)?;
-    block_of(from.arfcn, payload)
+    block_of(from, payload)
 }
 
 /// The IPv4 packet in a packet.
@@ -181,10 +181,21 @@ fn is_on(arfcn: Option<u16>, octets: &[u8]) -> bool
     }
 }
 
+/// Whether GSMTAP marks a block of a cell broadcast channel so.
+fn is_marked(channel: ChannelType, octets: &[u8]) -> bool
+    requires { 16 ≤ length octets.now }
+    ensures { result ≡ is_marked channel octets.now }
+{
+    match channel {
+        ChannelType::Cbch => octets[12] == 12 || octets[12] == 15,
+        ChannelType::Sdcch => (octets[12] == 7 || octets[12] == 8) && octets[14] == 2,
+    }
+}
+
 /// The block in GSMTAP.
 #[tactic(auto, unfolding(crate::specs::Tap::block_of))]
-fn block_of(arfcn: Option<u16>, octets: &[u8]) -> Option<Sent>
-    ensures { result ≡ block_of arfcn octets.now }
+fn block_of(from: Sender, octets: &[u8]) -> Option<Sent>
+    ensures { result ≡ block_of from octets.now }
 {
     if octets.len() < 16 {
         return None;
@@ -194,8 +205,8 @@ fn block_of(arfcn: Option<u16>, octets: &[u8]) -> Option<Sent>
         && octets[1] >= 4
         && octets[2] == 1
         && octets[4] / 64 % 2 == 0
-        && is_on(arfcn, octets)
-        && (octets[12] == 12 || octets[12] == 15)
+        && is_on(from.arfcn, octets)
+        && is_marked(from.channel, octets)
         && octets.len() == header + 23
     {
         let mut block = [0; 23];

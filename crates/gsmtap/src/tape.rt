@@ -20,6 +20,16 @@ use std::alloc::{AllocError, Global};
 /// How many octets the header of a capture file has in the classic format.
 const FILE_HEADER: usize = 24;
 
+/// As blocks of which channel the blocks of a cell broadcast channel are marked.
+#[derive(Clone, Copy, Debug, PartialEq, Eq)]
+pub enum ChannelType {
+    /// A cell broadcast channel, beside SDCCH/4 or SDCCH/8: GSMTAP's types 15 and 12.
+    Cbch,
+    /// SDCCH/4 or SDCCH/8 number 2, in whose place it stands: types 7 and 8, and sub-slot 2. Some receivers know no
+    /// cell broadcast channel.
+    Sdcch,
+}
+
 /// Whose packets are taken.
 #[derive(Clone, Copy, Debug, PartialEq, Eq)]
 pub struct Sender {
@@ -28,6 +38,8 @@ pub struct Sender {
     /// The number of the radio channel (ARFCN) that they name, 0 to 1,023, if one alone is wanted: base stations on one
     /// host have one address.
     pub arfcn: Option<u16>,
+    /// How they mark a block of a cell broadcast channel.
+    pub channel: ChannelType,
 }
 
 /// Which tape is wanted of a capture file.

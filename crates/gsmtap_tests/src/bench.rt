@@ -4,13 +4,14 @@
 //! times, and `new` begins anew. `want DIGITS ..` adds octets with which an output is compared.
 //!
 //! `capture SLOTS CHANNEL` makes the capture of the octets, of `all` slots or the `used` ones, for channel 51 or 52;
-//! `tape LAC CI N` their tape of N slots, and `tape LAC CI N ADDRESS` that of the packets from the address of these
-//! eight digits. The answer is `as wanted`, or how many octets come out, or the fault. An output that is as wanted
-//! becomes the octets, and nothing more is wanted. After `scarce` hardly any memory is left to either, and more and
-//! more until that is enough: the answer is then `refused; ` and what came in the end. `fronts N M LAC CI SLOTS` makes
-//! tapes of each front of N to M octets, and the answer is that of all of them.
+//! `tape LAC CI N` their tape of N slots, and `tape LAC CI N ADDRESS ARFCN sdcch` that of the packets from the address
+//! of these eight digits, on this radio channel, and marked as SDCCH; `-` is any. The answer is `as wanted`, or how
+//! many octets come out, or the fault. An output that is as wanted becomes the octets, and nothing more is wanted.
+//! After `scarce` hardly any memory is left to either, and more and more until that is enough: the answer is then
+//! `refused; ` and what came in the end. `fronts N M LAC CI SLOTS` makes tapes of each front of N to M octets, and the
+//! answer is that of all of them.
 
-use gsmtap::{Channel, Sender, Settings, Slots, Wanted, capture_of, tape_of_capture};
+use gsmtap::{Channel, ChannelType, Sender, Settings, Slots, Wanted, capture_of, tape_of_capture};
 use std::alloc::Global;
 use std::process::Abort;
 use std::test::Fail;
@@ -95,18 +96,26 @@ fn wanted_in(words: &mut Words) -> Result<Wanted, Fail> {
     })
 }
 
-/// Whose packets are wanted: an address in eight hexadecimal digits, or `-` for any, and a radio channel; nothing for
-/// anyone.
+/// Whose packets are wanted: an address in eight hexadecimal digits, a radio channel, each `-` for any, and `sdcch` for
+/// those that are marked so; nothing for anyone.
 fn sender_in(words: &mut Words) -> Result<Sender, Fail> {
     let address = match words.word() {
         "" | "-" => None,
         address => Some(u32::from_str_radix(address, 16)?),
     };
     let arfcn = match words.word() {
-        "" => None,
+        "" | "-" => None,
         arfcn => Some(arfcn.parse::<u16>()?),
     };
-    Ok(Sender { address, arfcn })
+    let channel = match words.word() {
+        "sdcch" => ChannelType::Sdcch,
+        _ => ChannelType::Cbch,
+    };
+    Ok(Sender {
+        address,
+        arfcn,
+        channel,
+    })
 }
 
 /// The tape of octets, or the text of the fault.

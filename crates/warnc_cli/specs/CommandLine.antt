@@ -17,6 +17,8 @@ use Rattle.gsmtap.specs.declared.capture.Slots.TheVariants.{All, Used}
 use Rattle.gsmtap.specs.declared.packet.Channel.{Channel}
 use Rattle.gsmtap.specs.declared.tape.Wanted.{Wanted}
 use Rattle.gsmtap.specs.declared.packet.Channel.TheVariants.{BesideSdcch4, BesideSdcch8}
+use Rattle.gsmtap.specs.declared.tape.ChannelType.{ChannelType}
+use Rattle.gsmtap.specs.declared.tape.ChannelType.TheVariants.{Cbch, Sdcch}
 use Rattle.report.specs.declared.row.Columns.{Columns}
 use Rattle.report.specs.declared.row.Columns.TheVariants.{Full, Plain}
 use Rattle.warnc_run.specs.declared.run.Books.{Books}
@@ -175,6 +177,13 @@ abbrev pub GivesArfcn : (words : List (List ℕ)) → Option ℕ → Type 0
 GivesArfcn words None = is_given words (codes "--arfcn") ≡ false
 GivesArfcn words (Some arfcn) = GivesNumber words (codes "--arfcn") arfcn
 
+-- the words give the channel as whose blocks packets mark those of a cell broadcast channel: its own, which it is if no
+-- word begins with the option's name, or SDCCH
+abbrev pub GivesChannelType : (words : List (List ℕ)) → ChannelType → Type 0
+GivesChannelType words Cbch =
+    GivesValue words (codes "--channel") (codes "cbch") ⊎ (is_given words (codes "--channel") ≡ false)
+GivesChannelType words Sdcch = GivesValue words (codes "--channel") (codes "sdcch")
+
 -- the words ask for `tape`
 pub record AsksForTape (words : List (List ℕ)) (wanted : Wanted) : Type 0 where
   pub command : slice_get words 1 ≡ Some (codes "tape")
@@ -182,6 +191,7 @@ pub record AsksForTape (words : List (List ℕ)) (wanted : Wanted) : Type 0 wher
   pub slots_given : GivesSlots words wanted.slots
   pub from_given : GivesFrom words wanted.from.address
   pub arfcn_given : GivesArfcn words wanted.from.arfcn
+  pub channel_given : GivesChannelType words wanted.from.channel
 
 -- which books the words want: of a network book each group, where a word begins with the name `--network`
 abbrev pub GivesBooks : (words : List (List ℕ)) → Books → Type 0

@@ -3,7 +3,7 @@
 ghost use Rattle.std.specs.Prelude.{◌≡◌, ◌<◌, ◌∷◌, ◌++◌, ◌⊎◌, false, true, IfOk, IfSome, OnSome, Some, codes, map};
 ghost use Rattle.std.specs.Prelude.{slice_get};
 ghost use Rattle.warnc_cli.specs.CommandLine.{asks_for_text, begins_with, is_given, is_text_word, GivesNumber};
-ghost use Rattle.warnc_cli.specs.CommandLine.{GivesChannel, GivesSlots, GivesThreads, GivesValue};
+ghost use Rattle.warnc_cli.specs.CommandLine.{GivesChannel, GivesChannelType, GivesSlots, GivesThreads, GivesValue};
 ghost use Rattle.warnc_cli.specs.CommandLine.{GivesArfcn, GivesCell, GivesFrom, GivesWanted, IsAddress, IsCell};
 ghost use Rattle.warnc_cli.specs.CommandLine.{columns_given, slots_given, GivesBooks, GivesOrigin, GivesPages};
 ghost use Rattle.warnc_cli.specs.CommandLine.{GivesProduct, IsNumber};
@@ -12,8 +12,9 @@ ghost use Rattle.warnc_cli.specs.Tasks.{IsTaskOf};
 use alert_book::Origin;
 use cbs_page::Serial;
 use cbsp_wire::Cell;
+use clap::builder::ValueParser;
 use clap::{Arg, ArgAction, Command, Error, value_parser};
-use gsmtap::{Channel, Sender, Settings, Slots, Wanted};
+use gsmtap::{Channel, ChannelType, Sender, Settings, Slots, Wanted};
 use report::Columns;
 use std::alloc::{AllocError, Global};
 use std::convert::AsStr;
@@ -21,6 +22,9 @@ use warnc_run::{Books, Product, Run, Sessions, Workers};
 
 /// The version of the program, and on a line of its own what `rt version` says of the toolchain that proved it.
 const VERSION: &str = "1.4.0\nrattle-kit-13f logic dac8208d650f15bf";
+
+/// The words for the channel that packets name.
+const CHANNEL_TYPES: &[&str] = &["cbch", "sdcch"];
 
 /// What the words ask for.
 #[derive(Clone, Copy, Debug, PartialEq, Eq)]
@@ -109,6 +113,7 @@ fn task_in<'a, S: AsStr>(words: &'a [S]) -> Option<Task<'a>>
             from: Sender {
                 address: from_in(words)?,
                 arfcn: arfcn_in(words)?,
+                channel: channel_type_in(words)?,
             },
         })),
         "groups" => Some(Task::Groups),
@@ -278,6 +283,20 @@ fn arfcn_in<S: AsStr>(words: &[S]) -> Option<Option<u16>>
     }
     let arfcn = number_of(words, "--arfcn")?;
     Some(Some(arfcn))
+}
+
+/// The channel that packets name for a cell broadcast channel, by the words: its own if they give none.
+fn channel_type_in<S: AsStr>(words: &[S]) -> Option<ChannelType>
+    ensures { IfSome result (GivesChannelType (map S.text words.now)) }
+{
+    if !is_given(words, "--channel") {
+        return Some(ChannelType::Cbch);
+    }
+    match value_of(words, "--channel")? {
+        "cbch" => Some(ChannelType::Cbch),
+        "sdcch" => Some(ChannelType::Sdcch),
+        _ => None,
+    }
 }
 
 /// The address that the words give, if they give one.
@@ -626,7 +645,8 @@ fn tape<'a>(alloc: Global) -> Result<Command<'a>, AllocError> {
         .arg(cell(alloc))?
         .arg(tape_slots(alloc))?
         .arg(from(alloc))?
-        .arg(arfcn(alloc))
+        .arg(arfcn(alloc))?
+        .arg(channel_type(alloc))
 }
 
 /// The command line of `groups`.
@@ -841,6 +861,18 @@ fn arfcn<'a>(alloc: Global) -> Arg<'a> {
         "Takes the packets of this radio channel alone, 0 to\n1023; all if it isn't given",
     )
     .value_parser(value_parser!(u16).range(0..=1023))
+}
+
+/// The option of the channel that packets name for a cell broadcast channel.
+fn channel_type<'a>(alloc: Global) -> Arg<'a> {
+    optional(
+        alloc,
+        "channel",
+        "CHANNEL",
+        "The channel that packets name, by its own type or, as\nreceivers do that know none, SDCCH: cbch or sdcch",
+    )
+    .value_parser(ValueParser::Names(CHANNEL_TYPES))
+    .hide_possible_values(true)
 }
 
 /// An option `--name` without a value.

@@ -149,6 +149,39 @@ worked-hex 2f2b2b2b2b2b2b2b2b2b2b2b2b2b2b2b2b2b2b2b2b2b2b
 run -> 0
 all -> worked
 
+# marked as SDCCH there is nothing; and a block that is marked so, in pcapng
+args tape --channel sdcch --slots 1 --cell 65535-65534
+worked-hex ffff fffe 00000001
+worked-hex 2f2b2b2b2b2b2b2b2b2b2b2b2b2b2b2b2b2b2b2b2b2b2b
+worked-hex 2f2b2b2b2b2b2b2b2b2b2b2b2b2b2b2b2b2b2b2b2b2b2b
+worked-hex 2f2b2b2b2b2b2b2b2b2b2b2b2b2b2b2b2b2b2b2b2b2b2b
+worked-hex 2f2b2b2b2b2b2b2b2b2b2b2b2b2b2b2b2b2b2b2b2b2b2b
+run -> 0
+all -> worked
+args tape --cell 1-1 --slots 1 --channel=sdcch
+in-hex 0a0d0d0a1c000000 4d3c2b1a01000000ffffffffffffffff 1c000000
+in-hex 0100000014000000 6500000000000000 14000000
+in-hex 0600000064000000 0000000000000000000000004300000043000000
+in-hex 4500004300000000401170a9000100010a000000
+in-hex 12791279002f0000 02040100000000000000002007000200 200010111201118046a3d168341a8d46a3d168341a8d46
+in-hex 00 64000000
+worked-hex 0001 0001 00000001
+worked-hex 200010111201118046a3d168341a8d46a3d168341a8d46
+worked-hex 2f2b2b2b2b2b2b2b2b2b2b2b2b2b2b2b2b2b2b2b2b2b2b
+worked-hex 2f2b2b2b2b2b2b2b2b2b2b2b2b2b2b2b2b2b2b2b2b2b2b
+worked-hex 2f2b2b2b2b2b2b2b2b2b2b2b2b2b2b2b2b2b2b2b2b2b2b
+run -> 0
+all -> worked
+fronts 49 147 -> 1 warnc: packet 1: capture is short
+args tape --cell 1-1 --slots 1 --channel cbch
+worked-hex 0001 0001 00000001
+worked-hex 2f2b2b2b2b2b2b2b2b2b2b2b2b2b2b2b2b2b2b2b2b2b2b
+worked-hex 2f2b2b2b2b2b2b2b2b2b2b2b2b2b2b2b2b2b2b2b2b2b2b
+worked-hex 2f2b2b2b2b2b2b2b2b2b2b2b2b2b2b2b2b2b2b2b2b2b2b
+worked-hex 2f2b2b2b2b2b2b2b2b2b2b2b2b2b2b2b2b2b2b2b2b2b2b
+run -> 0
+all -> worked
+
 # the first block again with another octet, two slots back, another link type, and no capture at all
 args tape --cell 1-1 --slots 2
 in-hex d4c3b2a1020004000000000000000000ffff0000e4000000
@@ -182,6 +215,8 @@ args tape --cell 1-2-3 --slots 2
 fails -> 2 warnc: no such cell or address: --cell is as 1-2, --from as 127.0.0.1
 args tape --cell 1-1 --slots 2 --arfcn 1024
 usage -> 2 error:
+args tape --cell 1-1 --slots 2 --channel 51
+usage -> 2 error:
 args tape --cell 1-1 --slots 2 --from 1.2.3
 fails -> 2 warnc: no such cell or address: --cell is as 1-2, --from as 127.0.0.1
 args tape --cell 1-1 --slots 2 --from 1.2.3.256
@@ -198,5 +233,5 @@ fn tapes_give_captures(rt: HostRuntime) -> Result<(), Fail> {
 
 #[test]
 fn captures_give_tapes(rt: HostRuntime) -> Result<(), Fail> {
-    expect_rows(&rt, TAPE, 89)
+    expect_rows(&rt, TAPE, 122)
 }
