@@ -1,0 +1,3 @@
+pub mod WholePage
+pub mod Slots
+pub mod Laws

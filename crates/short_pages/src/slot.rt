@@ -1,0 +1,64 @@
+//! Slots with short pages (3GPP TS 44.012, 3.3).
+
+ghost use Rattle.std.specs.Prelude.{◌≡◌, ◌≤◌, ◌==◌, ◌*◌, None, Some, length, take, if◌then◌else◌};
+ghost use Rattle.handset.specs.Reception.{page_octets};
+ghost use Rattle.short_pages.specs.Slots.{completed_slot, short_page};
+
+use crate::page::whole_page;
+use arrayvec::ArrayVec;
+use cbch_blocks::cut;
+
+/// The type of a block that is a page alone: number 0, and the last.
+const ALONE: u8 = 0x30;
+
+/// The type of the first block of a page of several.
+const FIRST: u8 = 0x20;
+
+/// The type of the second block, which more follow.
+const SECOND: u8 = 0x21;
+
+/// The type of the second block of a page of two.
+const LAST_OF_TWO: u8 = 0x31;
+
+/// The type of the third block of a page of three.
+const LAST_OF_THREE: u8 = 0x32;
+
+/// The four blocks of a slot. A page of one to three blocks gets those of the page of four that shows the characters
+/// that came whole (3GPP TS 44.012, 3.3); any other slot keeps its own.
+pub fn completed_slot(slot: &[[u8; 23]; 4]) -> [[u8; 23]; 4]
+    ensures { result ≡ completed_slot slot.now }
+{
+    let count = short_count(slot);
+    if count == 0 {
+        return *slot;
+    }
+    let came = octets_of(&slot[..count]);
+    cut(&whole_page(&came))
+}
+
+/// How many blocks the short page of a slot has; 0 if there is none.
+fn short_count(slot: &[[u8; 23]; 4]) -> usize
+    ensures few { result ≤ 3 }
+    ensures page { short_page slot.now ≡ (if result == 0 then None else Some (page_octets (take result slot.now))) }
+{
+    let [first, second, third, _] = slot;
+    match (first[0], second[0], third[0]) {
+        (ALONE, _, _) => 1,
+        (FIRST, LAST_OF_TWO, _) => 2,
+        (FIRST, SECOND, LAST_OF_THREE) => 3,
+        _ => 0,
+    }
+}
+
+/// The octets that some of a slot's blocks carry: all but the type of each.
+fn octets_of(blocks: &[[u8; 23]]) -> ArrayVec<u8, 88>
+    requires { length blocks.now ≤ 4 }
+    ensures octets { result.items ≡ page_octets blocks.now }
+    ensures long { length result.items ≡ 22 * length blocks.now }
+{
+    let mut octets = ArrayVec::new();
+    for block in blocks {
+        let _ = octets.try_extend_from_slice(&block[1..]);
+    }
+    octets
+}
