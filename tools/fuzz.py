@@ -1205,6 +1205,8 @@ def capture_options(chance):
 def tape_options(chance, command):
     """Returns the options of `read` and `pcap`."""
     options = {}
+    if command == "read" and chance.random() < 0.5:
+        options["--short"] = None
     if command == "pcap" and chance.random() < 0.5:
         options["--used"] = None
     if command == "pcap" and chance.random() < 0.5:

@@ -10,7 +10,7 @@ _warnc() {
         before=${COMP_WORDS[COMP_CWORD - 2]}
     fi
     # after an option without a value comes another option
-    case $before in --strict | --network | --full | --used) before= ;; esac
+    case $before in --strict | --network | --full | --short | --used) before= ;; esac
     if [ "$COMP_CWORD" -eq 1 ]; then
         words="check texts compile report chart read verify page live pcap tape groups help -h --help -V --version"
     else
@@ -35,7 +35,7 @@ _warnc() {
             compile) words="--slots --group --network --workers -h --help" ;;
             report) words="--slots --group --network --full --workers -h --help" ;;
             chart) words="--slots --group --network --cell --workers -h --help" ;;
-            read) words="-h --help" ;;
+            read) words="--short -h --help" ;;
             verify) words="--book --slots --group --workers -h --help" ;;
             page) words="--lang --id --scope --code --update -h --help" ;;
             live) words="--slots --group --network --sessions --workers -h --help" ;;

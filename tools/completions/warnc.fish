@@ -37,6 +37,7 @@ complete -c warnc -n '__fish_seen_subcommand_from chart' -x -l group -d 'Takes t
 complete -c warnc -n '__fish_seen_subcommand_from chart' -l network -d 'Takes the book for a network book, and writes what --group writes of each of its groups, in order'
 complete -c warnc -n '__fish_seen_subcommand_from chart' -x -l cell -d 'Draws this cell alone, as 1-2; all if it isn\'t given'
 complete -c warnc -n '__fish_seen_subcommand_from chart' -x -l workers -d 'How many workers play cells and make tapes, or run groups, side by side, 1 to 64'
+complete -c warnc -n '__fish_seen_subcommand_from read' -l short -d 'Reads pages of one to three blocks, too, as networks send that cut a page after its text'
 complete -c warnc -n '__fish_seen_subcommand_from verify' -r -F -l book -d 'The file of the book; the tapes are the input'
 complete -c warnc -n '__fish_seen_subcommand_from verify' -x -l slots -d 'How many slots each cell\'s run has, 1 to 65535, each 1.883 s'
 complete -c warnc -n '__fish_seen_subcommand_from verify' -x -l group -d 'Takes the book for a network book, and of it the group of this number, from 0'

@@ -20,7 +20,7 @@ writes : (t : Task) (book input old new : Option (List ℕ)) → IsSilent t → 
     → WritesAll t book input old new
 writes (task.Verify from slots file workers) book input old new one wrote = absurd one
 writes (task.Page language id serial) book input old new one wrote = wrote
-writes task.Read book input old new one wrote = wrote
+writes (task.Read wanted) book input old new one wrote = wrote
 writes (task.Pcap settings) book input old new one wrote = wrote
 writes (task.Tape wanted) book input old new one wrote = wrote
 writes task.Groups book input old new one wrote = wrote
@@ -34,7 +34,7 @@ refuses : (t : Task) (book input : Option (List ℕ)) → IsSilent t → IfSome 
     → Refuses t book input
 refuses (task.Verify from slots file workers) book input one refused = absurd one
 refuses (task.Page language id serial) book input one refused = refused
-refuses task.Read book input one refused = refused
+refuses (task.Read wanted) book input one refused = refused
 refuses (task.Pcap settings) book input one refused = refused
 refuses (task.Tape wanted) book input one refused = refused
 refuses task.Groups book input one refused = refused
@@ -48,7 +48,7 @@ groups : (t : Task) (book input old new : Option (List ℕ)) → WritesFirstGrou
     → WritesFirstGroups t book input old new
 groups (task.Verify from slots file workers) book input old new wrote = wrote
 groups (task.Page language id serial) book input old new wrote = wrote
-groups task.Read book input old new wrote = wrote
+groups (task.Read wanted) book input old new wrote = wrote
 groups (task.Pcap settings) book input old new wrote = wrote
 groups (task.Tape wanted) book input old new wrote = wrote
 groups task.Groups book input old new wrote = wrote
@@ -69,7 +69,7 @@ unseen : (t : Task) (book input old new : Option (List ℕ)) → IsSilent t → 
     → KeepsUnseen t book input old new
 unseen (task.Verify from slots file workers) book input old new one kept = absurd one
 unseen (task.Page language id serial) book input old new one kept = (tt, kept)
-unseen task.Read book input old new one kept = (tt, kept)
+unseen (task.Read wanted) book input old new one kept = (tt, kept)
 unseen (task.Pcap settings) book input old new one kept = (tt, kept)
 unseen (task.Tape wanted) book input old new one kept = (tt, kept)
 unseen task.Groups book input old new one kept = (tt, kept)

@@ -21,6 +21,8 @@ use Rattle.gsmtap.specs.declared.tape.ChannelType.{ChannelType}
 use Rattle.gsmtap.specs.declared.tape.ChannelType.TheVariants.{Cbch, Sdcch}
 use Rattle.report.specs.declared.row.Columns.{Columns}
 use Rattle.report.specs.declared.row.Columns.TheVariants.{Full, Plain}
+use Rattle.warnc_inspect.specs.declared.read.Pages.{Pages}
+use Rattle.warnc_inspect.specs.declared.read.Pages.TheVariants.{OfAny, OfFour}
 use Rattle.warnc_run.specs.declared.run.Books.{Books}
 use Rattle.warnc_run.specs.declared.run.Books.TheVariants as books
 use Rattle.warnc_run.specs.declared.product.Product.{Product}
@@ -61,9 +63,14 @@ pub record AsksForPage (words : List (List ℕ)) (language : List ℕ) (id seria
   pub in_range : AreSerialFields scope code update
   pub numbered : serial ≡ serial_number scope code update
 
--- the words ask for `read`
-abbrev pub AsksForRead : (words : List (List ℕ)) → Type 0
-AsksForRead words = slice_get words 1 ≡ Some (codes "read")
+-- which pages the words want to be read
+abbrev pub pages_given : (words : List (List ℕ)) → Pages
+pages_given words = if is_given words (codes "--short") then OfAny else OfFour
+
+-- the words ask for `read` of these pages
+pub record AsksForRead (words : List (List ℕ)) (wanted : Pages) : Type 0 where
+  pub command : slice_get words 1 ≡ Some (codes "read")
+  pub wanted_given : wanted ≡ pages_given words
 
 -- the words ask for `check` of the rows alone
 pub record AsksForCheck (words : List (List ℕ)) : Type 0 where

@@ -39,7 +39,7 @@ use Rattle.warnc_cli.specs.declared.command.Task.TheVariants as task
 -- the words ask for this task
 abbrev pub IsTaskOf : (words : List (List ℕ)) → Task → Type 0
 IsTaskOf words (task.Page language id serial) = AsksForPage words language.now id serial
-IsTaskOf words task.Read = AsksForRead words
+IsTaskOf words (task.Read wanted) = AsksForRead words wanted
 IsTaskOf words (task.Pcap settings) = AsksForPcap words settings
 IsTaskOf words (task.Tape wanted) = AsksForTape words wanted
 IsTaskOf words task.Groups = AsksForGroups words
@@ -54,7 +54,7 @@ IsTaskOf words (task.Verify from slots file workers) = AsksForVerify words from 
 -- what a command of one input makes of it
 abbrev pub Means : Task → (input output : List ℕ) → Type 0
 Means (task.Page language id serial) = IsPageOutput language.now id serial
-Means task.Read = IsReadOutput
+Means (task.Read wanted) = IsReadOutput wanted
 Means (task.Pcap settings) = IsCapture settings
 Means (task.Tape wanted) = IsTapeOfCapture wanted
 Means task.Groups = IsGroupCount
@@ -168,7 +168,7 @@ IsNotVerified from slots book tapes = IsNoRun from slots 1 book
 -- the input that a command of one input refuses
 abbrev pub RefusesOne : Task → (input : List ℕ) → Type 0
 RefusesOne (task.Page language id serial) = IsRefused language.now
-RefusesOne task.Read = IsNoTapes
+RefusesOne (task.Read wanted) = IsNoTapes
 RefusesOne (task.Pcap settings) = IsNoTapes
 RefusesOne (task.Tape wanted) = IsNoAir wanted
 RefusesOne task.Groups = IsNoNetwork 0

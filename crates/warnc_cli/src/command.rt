@@ -6,7 +6,7 @@ ghost use Rattle.warnc_cli.specs.CommandLine.{asks_for_text, begins_with, is_giv
 ghost use Rattle.warnc_cli.specs.CommandLine.{GivesChannel, GivesChannelType, GivesSlots, GivesThreads, GivesValue};
 ghost use Rattle.warnc_cli.specs.CommandLine.{GivesArfcn, GivesCell, GivesFrom, GivesWanted, IsAddress, IsCell};
 ghost use Rattle.warnc_cli.specs.CommandLine.{columns_given, slots_given, GivesBooks, GivesOrigin, GivesPages};
-ghost use Rattle.warnc_cli.specs.CommandLine.{GivesProduct, IsNumber};
+ghost use Rattle.warnc_cli.specs.CommandLine.{pages_given, GivesProduct, IsNumber};
 ghost use Rattle.warnc_cli.specs.Tasks.{IsTaskOf};
 
 use alert_book::Origin;
@@ -18,6 +18,7 @@ use gsmtap::{Channel, ChannelType, Sender, Settings, Slots, Wanted};
 use report::Columns;
 use std::alloc::{AllocError, Global};
 use std::convert::AsStr;
+use warnc_inspect::read::Pages;
 use warnc_run::{Books, Product, Run, Sessions, Workers};
 
 /// The version of the program, and on a line of its own what `rt version` says of the toolchain that proved it.
@@ -39,7 +40,7 @@ pub enum Task<'a> {
         serial: Serial,
     },
     /// `read`.
-    Read,
+    Read(Pages),
     /// `pcap`.
     Pcap(Settings),
     /// `tape`.
@@ -102,7 +103,7 @@ fn task_in<'a, S: AsStr>(words: &'a [S]) -> Option<Task<'a>>
     let command = words.get(1)?;
     match command.as_str() {
         "page" => page_in(words),
-        "read" => Some(Task::Read),
+        "read" => Some(Task::Read(wanted_pages(words))),
         "pcap" => Some(Task::Pcap(Settings {
             channel: channel_in(words)?,
             slots: captured_slots(words),
@@ -198,6 +199,17 @@ fn channel_in<S: AsStr>(words: &[S]) -> Option<Channel>
         51 => Some(Channel::BesideSdcch4),
         52 => Some(Channel::BesideSdcch8),
         _ => None,
+    }
+}
+
+/// The pages that the words want to be read.
+fn wanted_pages<S: AsStr>(words: &[S]) -> Pages
+    ensures { result ≡ pages_given (map S.text words.now) }
+{
+    if is_given(words, "--short") {
+        Pages::OfAny
+    } else {
+        Pages::OfFour
     }
 }
 
@@ -503,7 +515,7 @@ fn warnc<'a>(alloc: Global) -> Result<Command<'a>, AllocError> {
         .subcommand(compile(alloc)?)?
         .subcommand(report(alloc)?)?
         .subcommand(chart(alloc)?)?
-        .subcommand(read(alloc))?
+        .subcommand(read(alloc)?)?
         .subcommand(verify(alloc)?)?
         .subcommand(page(alloc)?)?
         .subcommand(live(alloc)?)?
@@ -552,10 +564,11 @@ fn chart<'a>(alloc: Global) -> Result<Command<'a>, AllocError> {
 }
 
 /// The command line of `read`.
-fn read<'a>(alloc: Global) -> Command<'a> {
+fn read<'a>(alloc: Global) -> Result<Command<'a>, AllocError> {
     Command::new(alloc, "read")
         .about("Reads tapes of blocks and writes a table of what a handset shows of\nthem, as CSV")
-        .after_help("Example: warnc read < tapes")
+        .after_help("Example: warnc read --short < tapes")
+        .arg(short(alloc))
 }
 
 /// The command line of `verify`.
@@ -794,6 +807,15 @@ fn update<'a>(alloc: Global) -> Arg<'a> {
     option(alloc, "update", "UPDATE", "The update number, 0 to 15").value_parser(value_parser!(
         u8
     ).range(0..=15))
+}
+
+/// The option of pages of fewer blocks.
+fn short<'a>(alloc: Global) -> Arg<'a> {
+    flag(
+        alloc,
+        "short",
+        "Reads pages of one to three blocks, too, as networks\nsend that cut a page after its text",
+    )
 }
 
 /// The option that leaves idle slots out of a capture.

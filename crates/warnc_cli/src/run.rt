@@ -34,7 +34,7 @@ use std::thread::Threads;
 use warnc_air::pcap::pcap_stream;
 use warnc_air::tape::tape_stream;
 use warnc_inspect::page::page_stream;
-use warnc_inspect::read::read_stream;
+use warnc_inspect::read::{Pages, read_stream};
 use warnc_run::{Product, Run, Workers, groups_stream, run_product};
 use warnc_verify::verify_stream;
 
@@ -152,7 +152,7 @@ fn run_task<T: AllocGlobal + Threads + Wait + Sync, B: Read, R: Read, W: Write, 
             id,
             serial,
         } => run_page(alloc, language, id, serial, source, sink, faults),
-        Task::Read => run_read(alloc, source, sink, faults),
+        Task::Read(wanted) => run_read(alloc, wanted, source, sink, faults),
         Task::Pcap(settings) => run_pcap(alloc, settings, source, sink, faults),
         Task::Tape(wanted) => run_tape(alloc, wanted, source, sink, faults),
         Task::Groups => run_groups(rt, source, sink, faults),
@@ -196,17 +196,18 @@ fn run_page<R: Read, W: Write, F: Write>(
 /// Runs `read`, and returns the status.
 fn run_read<R: Read, W: Write, F: Write>(
     alloc: Global,
+    wanted: Pages,
     source: &mut Source<R>,
     sink: &mut Sink<W>,
     faults: &mut F,
 ) -> u8
-    ensures done { IsDoneBy Task.Read result R.remaining W.contents source.old sink.old sink.new }
-    ensures wrote { WroteSomeBy Task.Read result W.contents sink.old sink.new }
-    ensures refused { IsRefusedBy Task.Read result R.remaining source.old }
-    ensures front { WroteFrontBy Task.Read result R.remaining W.contents source.old sink.old sink.new }
-    ensures ends { IsRunBetween Task.Read result W.contents source.new sink.old sink.new }
+    ensures done { IsDoneBy (Task.Read wanted) result R.remaining W.contents source.old sink.old sink.new }
+    ensures wrote { WroteSomeBy (Task.Read wanted) result W.contents sink.old sink.new }
+    ensures refused { IsRefusedBy (Task.Read wanted) result R.remaining source.old }
+    ensures front { WroteFrontBy (Task.Read wanted) result R.remaining W.contents source.old sink.old sink.new }
+    ensures ends { IsRunBetween (Task.Read wanted) result W.contents source.new sink.old sink.new }
 {
-    match read_stream(alloc, source, sink) {
+    match read_stream(alloc, source, sink, wanted) {
         Ok(()) => DONE,
         Err(fault) => failed(&fault, faults),
     }

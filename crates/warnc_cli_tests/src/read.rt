@@ -133,6 +133,130 @@ reader 8 1
 fails -> 1 warnc: tape is long
 ";
 
+const SHORT: &str = "
+# a network with osmo-cbc, osmo-bsc and osmo-bts, as tshark reads it: a page of four blocks and the next one in two, and
+# a page in one
+args read --short
+worked-hex 0001 0001 00000003
+worked-hex 20402011130f12b0986c46abd96eb81c2c269bd16ab61b
+worked-hex 212e078bc966b49aed86cbc162b219ad66bbe172b0986c
+worked-hex 2246abd96eb81c2c269bd16ab61b2e078bc966b49aed86
+worked-hex 33cbc162b219ad66bbe172b0986c46abd96eb81c2c269b
+worked-hex 20402011130f22d16ab61b2e078bc966b49aed86cbc162
+worked-hex 31b219ad66bbe1728d46a3d168341a8d46a3d168341a8d
+worked-hex 2f2b2b2b2b2b2b2b2b2b2b2b2b2b2b2b2b2b2b2b2b2b2b
+worked-hex 2f2b2b2b2b2b2b2b2b2b2b2b2b2b2b2b2b2b2b2b2b2b2b
+worked-hex 30401011120111537a380f4abb438d46a3d168341a8d46
+worked-hex 2f2b2b2b2b2b2b2b2b2b2b2b2b2b2b2b2b2b2b2b2b2b2b
+worked-hex 2f2b2b2b2b2b2b2b2b2b2b2b2b2b2b2b2b2b2b2b2b2b2b
+worked-hex 2f2b2b2b2b2b2b2b2b2b2b2b2b2b2b2b2b2b2b2b2b2b2b
+in-worked
+run -> 0
+out -> lac,ci,id,serial,text
+past 34567890123456789012345678901234567890123456789012QUYÑaeAEIMQUYÑaeAEIMQUYÑae54444444444444444 -> yes
+out -> 1,1,4370,4010,Stay in!
+args read
+in-worked
+run -> 0
+out -> lac,ci,id,serial,text
+
+args read --short
+in-none
+run -> 0
+out -> lac,ci,id,serial,text
+
+# in three blocks 68 septets, and four bits of one more; what follows in the slot is no part of a page
+in-hex 0001 0001 00000001
+in-hex 20 0010 1112 01 11 b0986c46abd96eb81c2c269bd16ab61b
+in-hex 21 2e078bc966b49aed86cbc162b219ad66bbe172b0986c
+in-hex 32 46abd96eb81c2c269bd16ab61b2e078bc966b49aedf6
+in-hex 33 46abd96eb81c2c269bd16ab61b2e078bc966b49aedf6
+run -> 0
+out -> lac,ci,id,serial,text
+out -> 1,1,4370,0010,01234567890123456789012345678901234567890123456789012345678901234567
+
+# in one block 18 septets, and two bits of one more; in UCS-2 eight units; a coding without an alphabet
+in-hex 0001 0001 00000003
+in-hex 30 0010 1112 01 11 c16030180c0683c16030180c0683c160
+in-hex 31 30180c0683c16030180c0683c16030180c0683c16030
+in-hex 32 180c0683c16030180c0683c16030180c0683c1603018
+in-hex 33 0c0683c16030180c0683c16030180c0683c160301800
+in-hex 30 0020 1112 48 11 0412 043e 0434 0430 0021 0021 0021 0021
+in-hex 2f2b2b2b2b2b2b2b2b2b2b2b2b2b2b2b2b2b2b2b2b2b2b
+in-hex 2f2b2b2b2b2b2b2b2b2b2b2b2b2b2b2b2b2b2b2b2b2b2b
+in-hex 2f2b2b2b2b2b2b2b2b2b2b2b2b2b2b2b2b2b2b2b2b2b2b
+in-hex 30 0030 1112 10 11 c16030180c0683c16030180c0683c160
+in-hex 2f2b2b2b2b2b2b2b2b2b2b2b2b2b2b2b2b2b2b2b2b2b2b
+in-hex 2f2b2b2b2b2b2b2b2b2b2b2b2b2b2b2b2b2b2b2b2b2b2b
+in-hex 2f2b2b2b2b2b2b2b2b2b2b2b2b2b2b2b2b2b2b2b2b2b2b
+run -> 0
+out -> lac,ci,id,serial,text
+out -> 1,1,4370,0010,AAAAAAAAAAAAAAAAAA
+out -> 1,1,4370,0020,Вода!!!!
+
+# a page in one block that isn't the first of its slot; a page of four blocks over the end of a slot
+in-hex 0001 0001 00000003
+in-hex 2f2b2b2b2b2b2b2b2b2b2b2b2b2b2b2b2b2b2b2b2b2b2b
+in-hex 30 0010 1112 01 11 c16030180c0683c16030180c0683c160
+in-hex 2f2b2b2b2b2b2b2b2b2b2b2b2b2b2b2b2b2b2b2b2b2b2b
+in-hex 2f2b2b2b2b2b2b2b2b2b2b2b2b2b2b2b2b2b2b2b2b2b2b
+in-hex 2f2b2b2b2b2b2b2b2b2b2b2b2b2b2b2b2b2b2b2b2b2b2b
+in-hex 20 0020 1112 48 11 044f 000d 000d 000d 000d 000d 000d 000d
+in-hex 21 000d 000d 000d 000d 000d 000d 000d 000d 000d 000d 000d
+in-hex 22 000d 000d 000d 000d 000d 000d 000d 000d 000d 000d 000d
+in-hex 33 000d 000d 000d 000d 000d 000d 000d 000d 000d 000d 000d
+in-hex 2f2b2b2b2b2b2b2b2b2b2b2b2b2b2b2b2b2b2b2b2b2b2b
+in-hex 2f2b2b2b2b2b2b2b2b2b2b2b2b2b2b2b2b2b2b2b2b2b2b
+in-hex 2f2b2b2b2b2b2b2b2b2b2b2b2b2b2b2b2b2b2b2b2b2b2b
+run -> 0
+out -> lac,ci,id,serial,text
+out -> 1,1,4370,0020,я
+
+# the first page of a number that came counts, in however many blocks
+in-hex 0001 0001 00000002
+in-hex 30 0010 1112 48 11 0041 000d 000d 000d 000d 000d 000d 000d
+in-hex 2f2b2b2b2b2b2b2b2b2b2b2b2b2b2b2b2b2b2b2b2b2b2b
+in-hex 2f2b2b2b2b2b2b2b2b2b2b2b2b2b2b2b2b2b2b2b2b2b2b
+in-hex 2f2b2b2b2b2b2b2b2b2b2b2b2b2b2b2b2b2b2b2b2b2b2b
+in-hex 20 0010 1112 48 11 0042 000d 000d 000d 000d 000d 000d 000d
+in-hex 21 000d 000d 000d 000d 000d 000d 000d 000d 000d 000d 000d
+in-hex 22 000d 000d 000d 000d 000d 000d 000d 000d 000d 000d 000d
+in-hex 33 000d 000d 000d 000d 000d 000d 000d 000d 000d 000d 000d
+run -> 0
+out -> lac,ci,id,serial,text
+out -> 1,1,4370,0010,A
+";
+
+const SHORT_REFUSED: &str = "
+args read --short
+worked lac,ci,id,serial,text
+worked 1,1,4383,0020,Bleib da
+in-hex 0001 0001 00000001
+in-hex 300020111f01114276392d0691c38d46a3d168341a8d46
+in-hex 2f2b2b2b2b2b2b2b2b2b2b2b2b2b2b2b2b2b2b2b2b2b2b
+in-hex 2f2b2b2b2b2b2b2b2b2b2b2b2b2b2b2b2b2b2b2b2b2b2b
+in-hex 2f2b2b2b2b2b2b2b2b2b2b2b2b2b2b2b2b2b2b2b2b2b2b
+fronts 1 99 -> 1 warnc: tape is short
+reads 0 100 -> 3 warnc: read failed
+# 100 octets and the end are read, and nothing more
+reader 1 101
+run -> 0
+all -> worked
+writer 20 1
+run -> 3
+err -> warnc: write failed
+all -> 20 of 45
+
+# a header that says too many slots decides, and after 64 tapes so does an octet
+in-hex 0001 0001 00010000
+reader 8 1
+fails -> 1 warnc: tape is long
+in-hex 0001 0002 00000000
+repeat 64
+in-hex 00
+fails -> 1 warnc: tape is long
+";
+
 #[test]
 fn tapes_show_their_texts(rt: HostRuntime) -> Result<(), Fail> {
     expect_rows(&rt, READ, 38)
@@ -141,4 +265,14 @@ fn tapes_show_their_texts(rt: HostRuntime) -> Result<(), Fail> {
 #[test]
 fn refused_tapes_and_failed_devices_are_named(rt: HostRuntime) -> Result<(), Fail> {
     expect_rows(&rt, REFUSED, 69)
+}
+
+#[test]
+fn pages_of_fewer_blocks_show_their_texts(rt: HostRuntime) -> Result<(), Fail> {
+    expect_rows(&rt, SHORT, 80)
+}
+
+#[test]
+fn refused_tapes_with_such_pages_are_named(rt: HostRuntime) -> Result<(), Fail> {
+    expect_rows(&rt, SHORT_REFUSED, 24)
 }

@@ -22,6 +22,16 @@ args read
 in-hex 0001 0001 00000000
 worked lac,ci,id,serial,text
 scarce 4 3800 -> worked
+# a tape of one slot, with a page in one block
+args read --short
+in-hex 0001 0001 00000001
+in-hex 300020111f01114276392d0691c38d46a3d168341a8d46
+in-hex 2f2b2b2b2b2b2b2b2b2b2b2b2b2b2b2b2b2b2b2b2b2b2b
+in-hex 2f2b2b2b2b2b2b2b2b2b2b2b2b2b2b2b2b2b2b2b2b2b2b
+in-hex 2f2b2b2b2b2b2b2b2b2b2b2b2b2b2b2b2b2b2b2b2b2b2b
+worked lac,ci,id,serial,text
+worked 1,1,4383,0020,Bleib da
+scarce 5 1000 -> worked
 ";
 
 const CAPTURES: &str = "
@@ -233,7 +243,7 @@ all -> worked
 
 #[test]
 fn pages_without_memory_are_status_4(rt: HostRuntime) -> Result<(), Fail> {
-    expect_rows(&rt, PAGE, 14)
+    expect_rows(&rt, PAGE, 22)
 }
 
 #[test]

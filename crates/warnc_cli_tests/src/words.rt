@@ -80,6 +80,11 @@ args live --slots 4 --group first
 usage -> 2 error:
 args read --group 0
 usage -> 2 error:
+args read --short=1
+usage -> 2 error:
+# only `read` reads short pages
+args pcap --short
+usage -> 2 error:
 args chart --slots 4 --network --group 0
 usage -> 2 error:
 args report --slots 4 --network --group 0
@@ -153,6 +158,6 @@ run -> 3
 
 #[test]
 fn other_words_are_refused_and_help_is_written(rt: HostRuntime) -> Result<(), Fail> {
-    expect_rows(&rt, USAGE, 88)?;
+    expect_rows(&rt, USAGE, 92)?;
     expect_rows(&rt, HELP, 40)
 }

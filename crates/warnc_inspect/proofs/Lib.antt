@@ -4,3 +4,4 @@ pub mod ComesBack
 pub mod MessageLaws
 pub mod OutputLaws
 pub mod TableLaws
+pub mod ShortLaws

@@ -1,3 +1,4 @@
 pub mod PageOutput
 pub mod ReadOutput
 pub mod ReadSteps
+pub mod Laws

@@ -10,6 +10,9 @@ use Rattle.handset.specs.Reception.{ShownMessage}
 use Rattle.handset.specs.Tape.{TapeReading, AreTapes, IsShort, IsLong, max_tapes}
 use Rattle.handset.specs.TapeExtent.{StopsAt}
 use Rattle.handset.specs.declared.tape.TapeFault.TheVariants as tape
+use Rattle.short_pages.specs.Slots.{AreReadingsOnAir}
+use Rattle.warnc_inspect.specs.declared.read.Pages.{Pages}
+use Rattle.warnc_inspect.specs.declared.read.Pages.TheVariants as pages
 use Rattle.warnc_inspect.specs.declared.read.ReadCommandFault.{ReadCommandFault}
 use Rattle.warnc_inspect.specs.declared.read.ReadCommandFault.TheVariants as fault
 
@@ -40,21 +43,26 @@ reading_rows reading = flat_map (shown_row reading.cell.lac reading.cell.ci) rea
 abbrev pub table_of : List TapeReading → List ℕ
 table_of readings = header_row ++ flat_map reading_rows readings
 
+-- what the tapes of an input show: by their pages of four blocks alone, or by all pages, of one to four blocks
+abbrev pub AreReadings : Pages → (input : List ℕ) → List TapeReading → Type 0
+AreReadings pages.OfFour = AreTapes
+AreReadings pages.OfAny = AreReadingsOnAir
+
 -- what is written for the octets that were read: they are whole tapes, and this is the table of what these show
-pub record IsReadOutput (input output : List ℕ) : Type 0 where
+pub record IsReadOutput (wanted : Pages) (input output : List ℕ) : Type 0 where
   pub readings : List TapeReading
-  pub tapes : AreTapes input readings
+  pub tapes : AreReadings wanted input readings
   pub written : output ≡ table_of readings
 
 -- why no table is written, out of memory and devices aside; after a fault of the writer a front of the table is out,
 -- and after any other fault nothing is
-abbrev pub IsReadFault : (input : List ℕ) (old new : Option (List ℕ)) → ReadCommandFault → Type 0
-IsReadFault input old new fault.Short = IsShort input × Keeps old new
-IsReadFault input old new fault.Long = IsLong input × Keeps old new
-IsReadFault input old new fault.ReadFailed = Keeps old new
-IsReadFault input old new fault.Refused = Keeps old new
-IsReadFault input old new fault.WriteFailed =
-    (output : List ℕ) × IsReadOutput input output × AppendsFront old new output
+abbrev pub IsReadFault : Pages → (input : List ℕ) (old new : Option (List ℕ)) → ReadCommandFault → Type 0
+IsReadFault wanted input old new fault.Short = IsShort input × Keeps old new
+IsReadFault wanted input old new fault.Long = IsLong input × Keeps old new
+IsReadFault wanted input old new fault.ReadFailed = Keeps old new
+IsReadFault wanted input old new fault.Refused = Keeps old new
+IsReadFault wanted input old new fault.WriteFailed =
+    (output : List ℕ) × IsReadOutput wanted input output × AppendsFront old new output
 
 -- how far the input was read when no table is written, by the fault: as the reading of tapes says, and nothing after it
 abbrev pub IsReadTo : (old new : Option (List ℕ)) → ReadCommandFault → Type 0

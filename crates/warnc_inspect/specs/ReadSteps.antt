@@ -1,9 +1,12 @@
 -- Steps of `read` (own): what a table holds as it is written, and as which fault a fault of tapes is reported. The
 -- contracts of private functions alone speak of it.
-use Rattle.std.specs.Prelude.{◌≡◌, ℕ, List, Some, false}
+use Rattle.std.specs.Prelude.{◌≡◌, ℕ, List, Option, Some, IfSome, false}
 use Rattle.csv.specs.Writing.{default_writer, fields_written, has_written, text_written, writer_setup}
+use Rattle.handset.specs.Tape.{TapeReading}
 use Rattle.handset.specs.declared.tape.TapeFault.{TapeFault}
 use Rattle.handset.specs.declared.tape.TapeFault.TheVariants as tape
+use Rattle.warnc_inspect.specs.ReadOutput.{AreReadings, table_of}
+use Rattle.warnc_inspect.specs.declared.read.Pages.{Pages}
 use Rattle.warnc_inspect.specs.declared.read.ReadCommandFault.{ReadCommandFault}
 use Rattle.warnc_inspect.specs.declared.read.ReadCommandFault.TheVariants as fault
 use Rattle.warnc_inspect.specs.declared.table.Table.{Table}
@@ -21,3 +24,10 @@ fault_of_tapes tape.Short = fault.Short
 fault_of_tapes tape.Long = fault.Long
 fault_of_tapes tape.ReadFailed = fault.ReadFailed
 fault_of_tapes tape.Refused = fault.Refused
+
+-- the table of what the tapes of an input show; of some octets' tapes, where the input isn't known
+pub record IsTableOf (wanted : Pages) (input : Option (List ℕ)) (table : Table) : Type 0 where
+  pub readings : List TapeReading
+  pub of_input : IfSome input (λ octets. AreReadings wanted octets readings)
+  pub of_some : (octets : List ℕ) × AreReadings wanted octets readings
+  pub holds : IsTable table (table_of readings)

@@ -5,6 +5,10 @@
 //! is written for which input, and which fault comes of which, is said by definitions of octets alone.
 #![tactic(auto)]
 
+mod air_table;
+mod laws;
 pub mod page;
 pub mod read;
 pub mod table;
+
+pub use laws::read_laws;

@@ -1,15 +1,18 @@
 //! The command `read`: tapes to a table of what a handset shows of them.
 
-ghost use Rattle.std.specs.Prelude.{◌≡◌, IfErr, OnOk};
+ghost use Rattle.std.specs.Prelude.{◌≡◌, false, true, IfErr, IfOk, IfSome, OnOk};
 ghost use Rattle.std.specs.Io.KnownBytes.{IsAtEnd};
-ghost use Rattle.device_ends.specs.Source.{reader_of};
-ghost use Rattle.device_ends.specs.Stream.{FaultOfInput, IsStreamBetween, OutputOfInput};
+ghost use Rattle.device_ends.specs.Source.{reader_of, source_failed};
+ghost use Rattle.device_ends.specs.Stream.{FaultOfInput, IsStreamBetween, OutputOfInput, Reads};
+ghost use Rattle.handset.specs.Tape.{IsTapesFault, max_tapes, reports_read_failed};
+ghost use Rattle.handset.specs.TapeExtent.{StopsAt};
 ghost use Rattle.warnc_inspect.specs.ReadOutput.{IsReadOutput, IsReadFault, IsReadTo, IsReadWriteFault};
-ghost use Rattle.warnc_inspect.specs.ReadSteps.{fault_of_tapes};
+ghost use Rattle.warnc_inspect.specs.ReadSteps.{IsTableOf, fault_of_tapes};
 
+use crate::air_table::AirTable;
 use crate::table::Table;
 use device_ends::{Failed, Sink, Source, write_all};
-use handset::{TapeFault, read_each};
+use handset::{TapeFault, read_each, record_each};
 use std::alloc::Global;
 use std::io::{Read, Write};
 use thiserror::Error;
@@ -34,9 +37,19 @@ pub enum ReadCommandFault {
     WriteFailed,
 }
 
-/// Reads 0 to 64 tapes up to the end of the input, and writes a table of the messages that they show, as CSV: a row of
-/// the columns' names, and then a row for each message, tapes in order, messages in the order in which they are shown.
-/// Nothing is written before the last tape is read and the table is made; of the tapes no more is kept than their rows.
+/// Which pages of a tape are read.
+#[derive(Clone, Copy, Debug, PartialEq, Eq)]
+pub enum Pages {
+    /// Those of four blocks.
+    OfFour,
+    /// All, which have one to four blocks (3GPP TS 44.012).
+    OfAny,
+}
+
+/// Reads 0 to 64 tapes up to the end of the input, and writes a table of the messages that they show by the wanted
+/// pages, as CSV: a row of the columns' names, and then a row for each message, tapes in order, messages in the order
+/// in which they are shown. Nothing is written before the last tape is read and the table is made; of the tapes no more
+/// is kept than their rows, but that for [`Pages::OfAny`] each tape is held whole while it is read.
 ///
 /// # Errors
 ///
@@ -45,10 +58,11 @@ pub fn read_stream<R: Read, W: Write>(
     alloc: Global,
     source: &mut Source<R>,
     sink: &mut Sink<W>,
+    wanted: Pages,
 ) -> Result<(), ReadCommandFault>
     // What was written is the table of what the tapes show, at any reader of some tapes.
-    ensures ok { OnOk result (OutputOfInput R.remaining W.contents IsReadOutput source.old sink.old sink.new) }
-    ensures err { IfErr result (FaultOfInput R.remaining W.contents IsReadFault source.old sink.old sink.new) }
+    ensures ok { OnOk result (OutputOfInput R.remaining W.contents (IsReadOutput wanted) source.old sink.old sink.new) }
+    ensures err { IfErr result (FaultOfInput R.remaining W.contents (IsReadFault wanted) source.old sink.old sink.new) }
 
     // How far the source was read: to its end, or as the fault says and no further.
     ensures whole { OnOk result (IsAtEnd (R.remaining (reader_of source.new))) }
@@ -58,16 +72,10 @@ pub fn read_stream<R: Read, W: Write>(
     ensures any_ends { IsStreamBetween ReadCommandFault.ReadFailed IsReadWriteFault result W.contents source.old
         source.new sink.old sink.new }
 {
-    if source.failed() {
-        return Err(ReadCommandFault::ReadFailed);
-    }
-    let Ok(mut table) = Table::new(alloc) else {
-        return Err(ReadCommandFault::Refused);
-    };
-    match read_each(alloc, source, &mut table) {
-        Ok(()) => {}
+    let table = match table_of_tapes(alloc, source, wanted) {
+        Ok(table) => table,
         Err(fault) => return Err(fault_of_tapes(fault)),
-    }
+    };
     let Ok(octets) = table.into_octets() else {
         return Err(ReadCommandFault::Refused);
     };
@@ -75,6 +83,67 @@ pub fn read_stream<R: Read, W: Write>(
         Ok(()) => Ok(()),
         Err(Failed) => Err(ReadCommandFault::WriteFailed),
     }
+}
+
+/// The table of what the tapes of an input show by the wanted pages.
+fn table_of_tapes<R: Read>(
+    alloc: Global,
+    source: &mut Source<R>,
+    wanted: Pages,
+) -> Result<Table, TapeFault>
+    ensures table { IfOk result (IsTableOf wanted (R.remaining (reader_of source.old))) }
+    ensures fault { IfErr result (λ fault. IfSome (R.remaining (reader_of source.old)) (λ input.
+        IsTapesFault input fault)) }
+    ensures whole { OnOk result (IsAtEnd (R.remaining (reader_of source.new))) }
+    ensures extent { IfErr result (λ fault. Reads R.remaining (λ old new. StopsAt max_tapes old new fault)
+        source.old source.new) }
+    ensures failed { source_failed source.new ≡ reports_read_failed result }
+    ensures failed_stays { source_failed source.old ≡ true → source.new ≡ source.old }
+{
+    if source.failed() {
+        return Err(TapeFault::ReadFailed);
+    }
+    match wanted {
+        Pages::OfFour => table_of_four(alloc, source),
+        Pages::OfAny => table_of_any(alloc, source),
+    }
+}
+
+/// The table of what they show by pages of four blocks: each tape is read by pieces.
+fn table_of_four<R: Read>(alloc: Global, source: &mut Source<R>) -> Result<Table, TapeFault>
+    requires { source_failed source.old ≡ false }
+    ensures table { IfOk result (IsTableOf Pages.OfFour (R.remaining (reader_of source.old))) }
+    ensures fault { IfErr result (λ fault. IfSome (R.remaining (reader_of source.old)) (λ input.
+        IsTapesFault input fault)) }
+    ensures whole { OnOk result (IsAtEnd (R.remaining (reader_of source.new))) }
+    ensures extent { IfErr result (λ fault. Reads R.remaining (λ old new. StopsAt max_tapes old new fault)
+        source.old source.new) }
+    ensures failed { source_failed source.new ≡ reports_read_failed result }
+{
+    let Ok(mut table) = Table::new(alloc) else {
+        return Err(TapeFault::Refused);
+    };
+    read_each(alloc, source, &mut table)?;
+    Ok(table)
+}
+
+/// The table of what they show by all pages: each tape is held whole while it is read.
+fn table_of_any<R: Read>(alloc: Global, source: &mut Source<R>) -> Result<Table, TapeFault>
+    requires { source_failed source.old ≡ false }
+    ensures table { IfOk result (IsTableOf Pages.OfAny (R.remaining (reader_of source.old))) }
+    ensures fault { IfErr result (λ fault. IfSome (R.remaining (reader_of source.old)) (λ input.
+        IsTapesFault input fault)) }
+    ensures whole { OnOk result (IsAtEnd (R.remaining (reader_of source.new))) }
+    ensures extent { IfErr result (λ fault. Reads R.remaining (λ old new. StopsAt max_tapes old new fault)
+        source.old source.new) }
+    ensures failed { source_failed source.new ≡ reports_read_failed result }
+{
+    let Ok(table) = Table::new(alloc) else {
+        return Err(TapeFault::Refused);
+    };
+    let mut air = AirTable { alloc, table };
+    record_each(alloc, source, &mut air)?;
+    Ok(air.table)
 }
 
 /// The fault that a fault of tapes is.
