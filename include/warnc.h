@@ -9,6 +9,7 @@
 #ifndef WARNC_H
 #define WARNC_H
 
+#include <stdbool.h>
 #include <stddef.h>
 #include <stdint.h>
 
@@ -72,11 +73,13 @@ void warnc_cut(const uint8_t page[WARNC_PAGE], uint8_t blocks[WARNC_BLOCKS][WARN
 uint32_t warnc_page_text(const uint8_t page[WARNC_PAGE], uint8_t *room, size_t room_length, size_t *written);
 
 /* Reads 0 to 64 tapes, one after another, and puts the table that the command `warnc read` writes of them into `room`:
- * CSV, the row lac,ci,id,serial,text and a row for each message that a phone in the cell shows. *written is how many
- * octets it has, also with WARNC_ROOM, where the room stays as it was.
+ * CSV, the row lac,ci,id,serial,text and a row for each message that a phone in the cell shows. With `short_pages` it
+ * reads pages of one to three blocks, too, as `warnc read --short` does. *written is how many octets the table has, also
+ * with WARNC_ROOM, where the room stays as it was.
  *
  * WARNC_OK, WARNC_ROOM, WARNC_SHORT, WARNC_LONG, WARNC_MEMORY. */
-uint32_t warnc_read(const uint8_t *tapes, size_t length, uint8_t *room, size_t room_length, size_t *written);
+uint32_t warnc_read(const uint8_t *tapes, size_t length, bool short_pages, uint8_t *room, size_t room_length,
+                    size_t *written);
 
 #ifdef __cplusplus
 }

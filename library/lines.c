@@ -6,6 +6,7 @@
  *     cut PAGE                             the four blocks
  *     text PAGE ROOM                       status written and the whole room
  *     read TAPES ROOM                      the same
+ *     short TAPES ROOM                     the same, with short pages
  *     memory N                             nothing; the Nth block of memory that the next call asks for is refused
  *
  * Octets are in hexadecimal, none is "-", and ROOM is how many octets there are room for. A room begins as octets of
@@ -146,13 +147,13 @@ static void cut(void) {
     free(whole.at);
 }
 
-static void into_room(bool is_text) {
+static void into_room(bool is_text, bool has_short_pages) {
     struct octets given = is_text ? exactly(word(), WARNC_PAGE) : octets_of(word());
     struct octets room = room_of(number());
     memset(room.at, 0xAA, room.length);
     size_t written = 77;
     uint32_t status = is_text ? warnc_page_text(given.at, room.at, room.length, &written)
-                              : warnc_read(given.at, given.length, room.at, room.length, &written);
+                              : warnc_read(given.at, given.length, has_short_pages, room.at, room.length, &written);
     printf("%u %zu ", status, written);
     print(room.at, room.length);
     free(given.at);
@@ -173,8 +174,9 @@ int main(void) {
         else if (strcmp(call, "first") == 0) first();
         else if (strcmp(call, "page") == 0) page();
         else if (strcmp(call, "cut") == 0) cut();
-        else if (strcmp(call, "text") == 0) into_room(true);
-        else if (strcmp(call, "read") == 0) into_room(false);
+        else if (strcmp(call, "text") == 0) into_room(true, false);
+        else if (strcmp(call, "read") == 0) into_room(false, false);
+        else if (strcmp(call, "short") == 0) into_room(false, true);
         else die("no such call");
         printf("\nblocks %ld\n", asked);
         if (held != 0) die("a block of memory is left");

@@ -172,6 +172,21 @@ def try_numbers(lines):
     return len(numbers) + len(asked)
 
 
+# the types of the blocks of a page of one to three
+SHORT = ((0x30,), (0x20, 0x31), (0x20, 0x21, 0x32))
+
+
+def shortened(rng, octets):
+    """Cuts pages of tapes to fewer blocks: the last one that is left gets the type of a last block."""
+    octets = bytearray(octets)
+    for at in range(gsm.HEADER.size, len(octets) - gsm.SLOT, gsm.SLOT):
+        if octets[at] == gsm.TYPES[0] and rng.random() < 0.7:
+            kinds = rng.choice(SHORT)
+            for place, kind in enumerate((*kinds, *[gsm.IDLE[0]] * (4 - len(kinds)))):
+                octets[at + gsm.BLOCK * place] = kind
+    return octets
+
+
 def tapes_for(program):
     """Returns the tapes of the books of examples/."""
     found = []
@@ -188,16 +203,17 @@ def try_tapes(lines, program, rng, runs):
     """Tries tapes, also cut and spoilt ones; returns how many there were."""
     books, inputs = tapes_for(program), [b""]
     for _ in range(runs):
-        octets = bytearray(rng.choice(books))
+        octets = shortened(rng, rng.choice(books))
         for _ in range(rng.choice((0, 1, 20))):
             octets[rng.randrange(len(octets))] = rng.randrange(256)
         inputs.append(bytes(octets[:rng.randrange(len(octets) + 1)] if rng.random() < 0.2 else octets))
     asked, wanted = [], []
     for octets in inputs:
-        table, fault = of_program(program, ["read"], octets)
-        answers = {0: [str(STATUS[fault]), "77", "-"]} if fault else rooms_of(table)
-        asked += [f"read {digits(octets)} {room}" for room in answers]
-        wanted += answers.values()
+        for call, words in (("read", ["read"]), ("short", ["read", "--short"])):
+            table, fault = of_program(program, words, octets)
+            answers = {0: [str(STATUS[fault]), "77", "-"]} if fault else rooms_of(table)
+            asked += [f"{call} {digits(octets)} {room}" for room in answers]
+            wanted += answers.values()
     compare("tables", [it for it, _ in lines.answers(asked)], wanted)
     return len(inputs)
 
@@ -241,6 +257,8 @@ def try_python(program, rng, runs):
     compare("the examples of warnc.py", (failed, tried > 0), (0, True))
     for tapes in tapes_for(program):
         compare("Python's table", warnc.read(tapes), of_program(program, ["read"], tapes)[0].decode())
+        cut = bytes(shortened(rng, tapes))
+        compare("Python's table", warnc.read(cut, True), of_program(program, ["read", "--short"], cut)[0].decode())
     return good
 
 

@@ -120,6 +120,6 @@ def page_text(whole):
     return _filled(_LIBRARY.warnc_page_text, _octets(whole)[0], room=279).decode()
 
 
-def read(tapes):
-    """Returns the table of what phones show of tapes, as CSV."""
-    return _filled(_LIBRARY.warnc_read, *_octets(tapes), room=65536).decode()
+def read(tapes, short_pages=False):
+    """Returns the table of what phones show of tapes, as CSV; with short pages also by those of one to three blocks."""
+    return _filled(_LIBRARY.warnc_read, *_octets(tapes), ctypes.c_bool(short_pages), room=65536).decode()

@@ -14,7 +14,7 @@ use Rattle.short_pages.specs.Laws.{ShortPagesAreReadOnce}
 use Rattle.short_pages.proofs.PageLaws.{length-whole_page, says_what_came}
 
 -- blocks of 23 octets, and the first ones of them
-abbrev AreBlocks : List (List ℕ) → Type 0
+abbrev pub AreBlocks : List (List ℕ) → Type 0
 AreBlocks blocks = AllByRecursion (λ block. length block ≡ 23) blocks
 
 first_blocks : (n : ℕ) (blocks : List (List ℕ)) → AreBlocks blocks → AreBlocks (take n blocks)
@@ -35,7 +35,7 @@ length-octets (block ∷ rest) sized =
     )
 
 -- a header and a part of the content
-abbrev IsPart : List ℕ → Type 0
+abbrev pub IsPart : List ℕ → Type 0
 IsPart octets = (6 ≤ length octets) × (length octets ≤ 88)
 
 part : (n : ℕ) (block : List ℕ) (rest : List (List ℕ)) → AreBlocks (block ∷ rest) → 1 ≤ n → n ≤ 3
@@ -56,7 +56,7 @@ one_of false false true p q r octets is one two three = subst IsPart (same_Some 
 one_of false false false p q r octets is one two three = cc
 
 -- what came of a short page is that
-came : (slot : List (List ℕ)) (octets : List ℕ) → AreBlocks slot → short_page slot ≡ Some octets → IsPart octets
+pub came : (slot : List (List ℕ)) (octets : List ℕ) → AreBlocks slot → short_page slot ≡ Some octets → IsPart octets
 came [] octets sized is = cc
 came (block ∷ rest) octets sized is =
     one_of _ _ _ (page_octets (take 1 (block ∷ rest))) (page_octets (take 2 (block ∷ rest)))

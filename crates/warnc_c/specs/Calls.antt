@@ -1,7 +1,8 @@
 -- What calls from C answer, and what they put where. The numbers are those of include/warnc.h: 0 done, 1 no language,
 -- 2 no text, 3 a character that can't be sent, 4 too many pages, 5 out of memory, 6 no UTF-8, 7 no page number, 8 no
 -- page that is shown, 9 too little room, 10 a tape is short, 11 a tape is long, 12 GSM 7-bit has all. Own.
-use Rattle.std.specs.Prelude.{◌≡◌, ◌⊎◌, ℕ, ◌<◌, ◌≤◌, true, false, not, is_some, List, ◌++◌, map, take, drop, length}
+use Rattle.std.specs.Prelude.{◌≡◌, ◌⊎◌, ℕ, ◌<◌, ◌≤◌, Bool, true, false, if◌then◌else◌, not, is_some, List, ◌++◌, map}
+use Rattle.std.specs.Prelude.{take, drop, length}
 use Rattle.std.specs.Prelude.{Some, None, position, encode_utf8_all}
 use Rattle.std.specs.Str.{chars, IsUtf8}
 use Rattle.gsm_alphabet.specs.Alphabet.{code_of}
@@ -15,6 +16,8 @@ use Rattle.handset.specs.Tape.{IsShort, IsLong}
 use Rattle.handset.specs.declared.tape.TapeFault.{TapeFault}
 use Rattle.handset.specs.declared.tape.TapeFault.TheVariants as tape
 use Rattle.warnc_inspect.specs.ReadOutput.{IsReadOutput}
+use Rattle.warnc_inspect.specs.declared.read.Pages.{Pages as Wanted}
+use Rattle.warnc_inspect.specs.declared.read.Pages.TheVariants.{OfAny, OfFour}
 use Rattle.warnc_c.specs.declared.paging.Pages.{Pages}
 
 -- the octets of contents, and how many of them each takes
@@ -107,16 +110,20 @@ number_of_table_fault tape.Long = 11
 number_of_table_fault tape.ReadFailed = 5
 number_of_table_fault tape.Refused = 5
 
+-- the pages that are read
+abbrev pub wanted_pages : Bool → Wanted
+wanted_pages short_pages = if short_pages then OfAny else OfFour
+
 -- tapes have a table, which is given
-pub record GivesTable (tapes : List ℕ) (number : ℕ) (old new : List ℕ) (written : ℕ) : Type 0 where
+pub record GivesTable (wanted : Wanted) (tapes : List ℕ) (number : ℕ) (old new : List ℕ) (written : ℕ) : Type 0 where
   pub output : List ℕ
-  pub is : IsReadOutput tapes output
+  pub is : IsReadOutput wanted tapes output
   pub given : Gives output number old new written
 
 -- the table of tapes, or why there is none
-abbrev pub IsTable : (tapes : List ℕ) → (number : ℕ) → (old new : List ℕ) → (written : ℕ) → Type 0
-IsTable tapes number old new written =
-    GivesTable tapes number old new written
+abbrev pub IsTable : (wanted : Wanted) (tapes : List ℕ) → (number : ℕ) → (old new : List ℕ) → (written : ℕ) → Type 0
+IsTable wanted tapes number old new written =
+    GivesTable wanted tapes number old new written
     ⊎ (IsShort tapes × (number ≡ 10))
     ⊎ (IsLong tapes × (number ≡ 11))
     ⊎ (number ≡ 5)

@@ -21,6 +21,7 @@ writes : (t : Task) (book input old new : Option (List ℕ)) → IsSilent t → 
 writes (task.Verify from slots file workers) book input old new one wrote = absurd one
 writes (task.Page language id serial) book input old new one wrote = wrote
 writes (task.Read wanted) book input old new one wrote = wrote
+writes task.Whole book input old new one wrote = wrote
 writes (task.Pcap settings) book input old new one wrote = wrote
 writes (task.Tape wanted) book input old new one wrote = wrote
 writes task.Groups book input old new one wrote = wrote
@@ -35,6 +36,7 @@ refuses : (t : Task) (book input : Option (List ℕ)) → IsSilent t → IfSome 
 refuses (task.Verify from slots file workers) book input one refused = absurd one
 refuses (task.Page language id serial) book input one refused = refused
 refuses (task.Read wanted) book input one refused = refused
+refuses task.Whole book input one refused = refused
 refuses (task.Pcap settings) book input one refused = refused
 refuses (task.Tape wanted) book input one refused = refused
 refuses task.Groups book input one refused = refused
@@ -49,6 +51,7 @@ groups : (t : Task) (book input old new : Option (List ℕ)) → WritesFirstGrou
 groups (task.Verify from slots file workers) book input old new wrote = wrote
 groups (task.Page language id serial) book input old new wrote = wrote
 groups (task.Read wanted) book input old new wrote = wrote
+groups task.Whole book input old new wrote = wrote
 groups (task.Pcap settings) book input old new wrote = wrote
 groups (task.Tape wanted) book input old new wrote = wrote
 groups task.Groups book input old new wrote = wrote
@@ -70,6 +73,7 @@ unseen : (t : Task) (book input old new : Option (List ℕ)) → IsSilent t → 
 unseen (task.Verify from slots file workers) book input old new one kept = absurd one
 unseen (task.Page language id serial) book input old new one kept = (tt, kept)
 unseen (task.Read wanted) book input old new one kept = (tt, kept)
+unseen task.Whole book input old new one kept = (tt, kept)
 unseen (task.Pcap settings) book input old new one kept = (tt, kept)
 unseen (task.Tape wanted) book input old new one kept = (tt, kept)
 unseen task.Groups book input old new one kept = (tt, kept)

@@ -20,6 +20,7 @@ pub of_one_input : (words : List (List ℕ)) (t : Task) → IsTaskOf words t
 of_one_input words (task.Verify from slots file workers) asked other = absurd (other asked.command)
 of_one_input words (task.Page language id serial) asked other = tt
 of_one_input words (task.Read wanted) asked other = tt
+of_one_input words task.Whole asked other = tt
 of_one_input words (task.Pcap settings) asked other = tt
 of_one_input words (task.Tape wanted) asked other = tt
 of_one_input words task.Groups asked other = tt
@@ -50,6 +51,8 @@ may_write words (task.Page language id serial) status asked (inl done) = inl don
 may_write words (task.Page language id serial) status asked (inr device) = inr (inl device)
 may_write words (task.Read wanted) status asked (inl done) = inl done
 may_write words (task.Read wanted) status asked (inr device) = inr (inl device)
+may_write words task.Whole status asked (inl done) = inl done
+may_write words task.Whole status asked (inr device) = inr (inl device)
 may_write words (task.Pcap settings) status asked (inl done) = inl done
 may_write words (task.Pcap settings) status asked (inr device) = inr (inl device)
 may_write words (task.Tape wanted) status asked (inl done) = inl done
@@ -91,6 +94,7 @@ writes_some words (task.Make run (product.Chart wanted)) asked compile live repo
 writes_some words (task.Verify from slots file workers) asked compile live report = tt
 writes_some words (task.Page language id serial) asked compile live report = tt
 writes_some words (task.Read wanted) asked compile live report = tt
+writes_some words task.Whole asked compile live report = tt
 writes_some words (task.Pcap settings) asked compile live report = tt
 writes_some words (task.Tape wanted) asked compile live report = tt
 writes_some words task.Groups asked compile live report = tt

@@ -102,6 +102,10 @@ GivesChannel words BesideSdcch4 =
     GivesNumber words (codes "--channel") 51 ⊎ (is_given words (codes "--channel") ≡ false)
 GivesChannel words BesideSdcch8 = GivesNumber words (codes "--channel") 52
 
+-- the words ask for `whole`
+abbrev pub AsksForWhole : (words : List (List ℕ)) → Type 0
+AsksForWhole words = slice_get words 1 ≡ Some (codes "whole")
+
 -- the words ask for `pcap`
 pub record AsksForPcap (words : List (List ℕ)) (settings : Settings) : Type 0 where
   pub command : slice_get words 1 ≡ Some (codes "pcap")

@@ -20,6 +20,7 @@ use Rattle.handset.specs.Tape.{IsShort, IsLong}
 use Rattle.warnc_air.specs.TapeOutput.{max_capture}
 use Rattle.warnc_inspect.specs.PageOutput.{IsPageFault, IsPageOutput}
 use Rattle.warnc_inspect.specs.ReadOutput.{IsReadOutput}
+use Rattle.warnc_inspect.specs.WholeOutput.{IsWholeOutput}
 use Rattle.warnc_inspect.specs.declared.page.PageFault.{PageFault}
 use Rattle.warnc_run.specs.declared.fault.RunFault.{RunFault}
 use Rattle.warnc_run.specs.declared.run.Books.{Books}
@@ -31,7 +32,7 @@ use Rattle.warnc_run.specs.Groups.{IsGroupCount}
 use Rattle.warnc_run.specs.Network.{AreFirstParts}
 use Rattle.warnc_verify.specs.Verified.{Differs, HasDifferences, HasRun, IsVerified}
 use Rattle.warnc_cli.specs.CommandLine.{AsksForGroups, AsksForPage, AsksForPcap, AsksForRead, AsksForRun, AsksForTape}
-use Rattle.warnc_cli.specs.CommandLine.{AsksForCheck, AsksForRemarks, AsksForTexts, AsksForVerify}
+use Rattle.warnc_cli.specs.CommandLine.{AsksForCheck, AsksForRemarks, AsksForTexts, AsksForVerify, AsksForWhole}
 use Rattle.warnc_cli.specs.Status.{status_of_book_fault, status_of_page_fault}
 use Rattle.warnc_cli.specs.declared.command.Task.{Task}
 use Rattle.warnc_cli.specs.declared.command.Task.TheVariants as task
@@ -40,6 +41,7 @@ use Rattle.warnc_cli.specs.declared.command.Task.TheVariants as task
 abbrev pub IsTaskOf : (words : List (List ℕ)) → Task → Type 0
 IsTaskOf words (task.Page language id serial) = AsksForPage words language.now id serial
 IsTaskOf words (task.Read wanted) = AsksForRead words wanted
+IsTaskOf words task.Whole = AsksForWhole words
 IsTaskOf words (task.Pcap settings) = AsksForPcap words settings
 IsTaskOf words (task.Tape wanted) = AsksForTape words wanted
 IsTaskOf words task.Groups = AsksForGroups words
@@ -55,6 +57,7 @@ IsTaskOf words (task.Verify from slots file workers) = AsksForVerify words from 
 abbrev pub Means : Task → (input output : List ℕ) → Type 0
 Means (task.Page language id serial) = IsPageOutput language.now id serial
 Means (task.Read wanted) = IsReadOutput wanted
+Means task.Whole = IsWholeOutput
 Means (task.Pcap settings) = IsCapture settings
 Means (task.Tape wanted) = IsTapeOfCapture wanted
 Means task.Groups = IsGroupCount
@@ -169,6 +172,7 @@ IsNotVerified from slots book tapes = IsNoRun from slots 1 book
 abbrev pub RefusesOne : Task → (input : List ℕ) → Type 0
 RefusesOne (task.Page language id serial) = IsRefused language.now
 RefusesOne (task.Read wanted) = IsNoTapes
+RefusesOne task.Whole = IsNoTapes
 RefusesOne (task.Pcap settings) = IsNoTapes
 RefusesOne (task.Tape wanted) = IsNoAir wanted
 RefusesOne task.Groups = IsNoNetwork 0

@@ -41,6 +41,8 @@ pub enum Task<'a> {
     },
     /// `read`.
     Read(Pages),
+    /// `whole`.
+    Whole,
     /// `pcap`.
     Pcap(Settings),
     /// `tape`.
@@ -104,6 +106,7 @@ fn task_in<'a, S: AsStr>(words: &'a [S]) -> Option<Task<'a>>
     match command.as_str() {
         "page" => page_in(words),
         "read" => Some(Task::Read(wanted_pages(words))),
+        "whole" => Some(Task::Whole),
         "pcap" => Some(Task::Pcap(Settings {
             channel: channel_in(words)?,
             slots: captured_slots(words),
@@ -521,6 +524,7 @@ fn warnc<'a>(alloc: Global) -> Result<Command<'a>, AllocError> {
         .subcommand(live(alloc)?)?
         .subcommand(pcap(alloc)?)?
         .subcommand(tape(alloc)?)?
+        .subcommand(whole(alloc))?
         .subcommand(groups(alloc))
 }
 
@@ -660,6 +664,15 @@ fn tape<'a>(alloc: Global) -> Result<Command<'a>, AllocError> {
         .arg(from(alloc))?
         .arg(arfcn(alloc))?
         .arg(channel_type(alloc))
+}
+
+/// The command line of `whole`.
+fn whole<'a>(alloc: Global) -> Command<'a> {
+    Command::new(alloc, "whole")
+        .about(
+            "Reads tapes, and writes them with four blocks of each page, also of\none that was sent in fewer, so that verify can judge it",
+        )
+        .after_help("Example: warnc whole < air > tapes")
 }
 
 /// The command line of `groups`.

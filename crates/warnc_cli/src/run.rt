@@ -35,6 +35,7 @@ use warnc_air::pcap::pcap_stream;
 use warnc_air::tape::tape_stream;
 use warnc_inspect::page::page_stream;
 use warnc_inspect::read::{Pages, read_stream};
+use warnc_inspect::whole::whole_stream;
 use warnc_run::{Product, Run, Workers, groups_stream, run_product};
 use warnc_verify::verify_stream;
 
@@ -153,6 +154,7 @@ fn run_task<T: AllocGlobal + Threads + Wait + Sync, B: Read, R: Read, W: Write, 
             serial,
         } => run_page(alloc, language, id, serial, source, sink, faults),
         Task::Read(wanted) => run_read(alloc, wanted, source, sink, faults),
+        Task::Whole => run_whole(alloc, source, sink, faults),
         Task::Pcap(settings) => run_pcap(alloc, settings, source, sink, faults),
         Task::Tape(wanted) => run_tape(alloc, wanted, source, sink, faults),
         Task::Groups => run_groups(rt, source, sink, faults),
@@ -208,6 +210,25 @@ fn run_read<R: Read, W: Write, F: Write>(
     ensures ends { IsRunBetween (Task.Read wanted) result W.contents source.new sink.old sink.new }
 {
     match read_stream(alloc, source, sink, wanted) {
+        Ok(()) => DONE,
+        Err(fault) => failed(&fault, faults),
+    }
+}
+
+/// Runs `whole`, and returns the status.
+fn run_whole<R: Read, W: Write, F: Write>(
+    alloc: Global,
+    source: &mut Source<R>,
+    sink: &mut Sink<W>,
+    faults: &mut F,
+) -> u8
+    ensures done { IsDoneBy Task.Whole result R.remaining W.contents source.old sink.old sink.new }
+    ensures wrote { WroteSomeBy Task.Whole result W.contents sink.old sink.new }
+    ensures refused { IsRefusedBy Task.Whole result R.remaining source.old }
+    ensures front { WroteFrontBy Task.Whole result R.remaining W.contents source.old sink.old sink.new }
+    ensures ends { IsRunBetween Task.Whole result W.contents source.new sink.old sink.new }
+{
+    match whole_stream(alloc, source, sink) {
         Ok(()) => DONE,
         Err(fault) => failed(&fault, faults),
     }

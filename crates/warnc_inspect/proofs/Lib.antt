@@ -5,3 +5,5 @@ pub mod MessageLaws
 pub mod OutputLaws
 pub mod TableLaws
 pub mod ShortLaws
+pub mod WholeLaws
+pub mod WholeTapes

@@ -1,6 +1,7 @@
 //! Laws of the table of what tapes show.
 
 ghost use Rattle.warnc_inspect.specs.Laws.{WithoutShortPagesOneTable};
+ghost use Rattle.warnc_inspect.specs.WholeOutput.{WholeTapesHold, WholeTapesShow};
 
 use handset::{recording_laws, tape_laws};
 
@@ -12,4 +13,15 @@ pub fn read_laws()
 {
     recording_laws();
     tape_laws();
+}
+
+/// What whole tapes are. It does nothing: its contract is the statement.
+///
+/// They hold what the tapes hold, with four blocks of each page, and a handset shows of them what the tapes show by all
+/// their pages.
+pub fn whole_laws()
+    ensures hold { WholeTapesHold }
+    ensures show { WholeTapesShow }
+{
+    recording_laws();
 }

@@ -1,8 +1,9 @@
 //! The engines of `warnc`'s commands, from a reader to a writer: each reads all of its input, and writes nothing before
 //! all of its output is made.
 //!
-//! [`page::page_stream`] makes the blocks of a text's pages, [`read::read_stream`] the table of what tapes show. What
-//! is written for which input, and which fault comes of which, is said by definitions of octets alone.
+//! [`page::page_stream`] makes the blocks of a text's pages, [`read::read_stream`] the table of what tapes show,
+//! and [`whole::whole_stream`] tapes with four blocks of each page. What is written for which input, and which fault
+//! comes of which, is said by definitions of octets alone.
 #![tactic(auto)]
 
 mod air_table;
@@ -10,5 +11,6 @@ mod laws;
 pub mod page;
 pub mod read;
 pub mod table;
+pub mod whole;
 
-pub use laws::read_laws;
+pub use laws::{read_laws, whole_laws};

@@ -85,8 +85,12 @@ pub fn read_stream<R: Read, W: Write>(
     }
 }
 
-/// The table of what the tapes of an input show by the wanted pages.
-fn table_of_tapes<R: Read>(
+/// The table of what the tapes of an input show by the wanted pages, which are 0 to 64.
+///
+/// # Errors
+///
+/// Those of [`handset::read_tapes`].
+pub fn table_of_tapes<R: Read>(
     alloc: Global,
     source: &mut Source<R>,
     wanted: Pages,
@@ -147,7 +151,7 @@ fn table_of_any<R: Read>(alloc: Global, source: &mut Source<R>) -> Result<Table,
 }
 
 /// The fault that a fault of tapes is.
-fn fault_of_tapes(fault: TapeFault) -> ReadCommandFault
+pub(crate) fn fault_of_tapes(fault: TapeFault) -> ReadCommandFault
     ensures { result ≡ fault_of_tapes fault }
 {
     match fault {
