@@ -12,7 +12,7 @@ _warnc() {
     # after an option without a value comes another option
     case $before in --strict | --network | --full | --short | --used) before= ;; esac
     if [ "$COMP_CWORD" -eq 1 ]; then
-        words="check texts compile report chart read verify page live pcap tape groups help -h --help -V --version"
+        words="check texts compile report chart read verify page live pcap tape whole groups help -h --help -V --version"
     else
         case $before in
         --pages) words="1 2 3 4 5 6 7 8 9 10 11 12 13 14 15" ;;
@@ -41,8 +41,9 @@ _warnc() {
             live) words="--slots --group --network --sessions --workers -h --help" ;;
             pcap) words="--used --channel -h --help" ;;
             tape) words="--cell --slots --from --arfcn --channel -h --help" ;;
+            whole) words="-h --help" ;;
             groups) words="-h --help" ;;
-            help) words="check texts compile report chart read verify page live pcap tape groups" ;;
+            help) words="check texts compile report chart read verify page live pcap tape whole groups" ;;
             esac
             ;;
         esac

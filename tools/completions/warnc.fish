@@ -16,6 +16,7 @@ complete -c warnc -n __fish_use_subcommand -a page -d 'Reads a text and writes t
 complete -c warnc -n __fish_use_subcommand -a live -d 'Does what compile does, with the book\'s alerts shared by sessions that order side by side'
 complete -c warnc -n __fish_use_subcommand -a pcap -d 'Reads tapes of blocks and writes them as a capture file, a GSMTAP packet for each block'
 complete -c warnc -n __fish_use_subcommand -a tape -d 'Reads a capture file of GSMTAP packets, also of another program\'s making, and writes a tape of it'
+complete -c warnc -n __fish_use_subcommand -a whole -d 'Reads tapes, and writes them with four blocks of each page, also of one that was sent in fewer, so that verify can judge it'
 complete -c warnc -n __fish_use_subcommand -a groups -d 'Reads a network book, and writes how many groups of 64 cells it has'
 complete -c warnc -n __fish_use_subcommand -a help -d 'Prints what a command takes'
 
@@ -62,4 +63,4 @@ complete -c warnc -n '__fish_seen_subcommand_from tape' -x -l from -d 'Takes the
 complete -c warnc -n '__fish_seen_subcommand_from tape' -x -l arfcn -d 'Takes the packets of this radio channel alone, 0 to 1023; all if it isn\'t given'
 complete -c warnc -n '__fish_seen_subcommand_from tape' -x -l channel -d 'The channel that packets name, by its own type or, as receivers do that know none, SDCCH' \
     -a 'cbch sdcch'
-complete -c warnc -n '__fish_seen_subcommand_from help' -a 'check texts compile report chart read verify page live pcap tape groups'
+complete -c warnc -n '__fish_seen_subcommand_from help' -a 'check texts compile report chart read verify page live pcap tape whole groups'

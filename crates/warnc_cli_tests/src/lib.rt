@@ -35,4 +35,6 @@ mod shortage;
 #[cfg(test)]
 mod verify;
 #[cfg(test)]
+mod whole;
+#[cfg(test)]
 mod words;

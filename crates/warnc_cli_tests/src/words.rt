@@ -82,8 +82,10 @@ args read --group 0
 usage -> 2 error:
 args read --short=1
 usage -> 2 error:
-# only `read` reads short pages
+# only `read` reads short pages, and `whole` takes nothing
 args pcap --short
+usage -> 2 error:
+args whole --short
 usage -> 2 error:
 args chart --slots 4 --network --group 0
 usage -> 2 error:
@@ -158,6 +160,6 @@ run -> 3
 
 #[test]
 fn other_words_are_refused_and_help_is_written(rt: HostRuntime) -> Result<(), Fail> {
-    expect_rows(&rt, USAGE, 92)?;
+    expect_rows(&rt, USAGE, 94)?;
     expect_rows(&rt, HELP, 40)
 }
