@@ -71,7 +71,7 @@ import gsm
 TOP = os.path.dirname(os.path.dirname(os.path.realpath(__file__)))
 PROGRAM = os.path.join(TOP, "crates", "warnc", "out", "warnc")
 SEEDS = os.path.join(TOP, "tools", "fuzz")
-COMMANDS = ("check", "texts", "page", "read", "compile", "live", "report", "chart", "verify", "pcap", "tape")
+COMMANDS = ("check", "texts", "page", "read", "whole", "compile", "live", "report", "chart", "verify", "pcap", "tape")
 OF_BOOKS = ("compile", "live", "report", "chart")
 # an option without which clap refuses a command
 NEEDED = {"page": "--lang", "tape": "--cell", "verify": "--slots", **dict.fromkeys(OF_BOOKS, "--slots")}
@@ -111,6 +111,7 @@ ROW_FAULT = (r"row 0: too many rows|row [1-9]\d*: (?:columns|verb|number|unknown
 TAPE_FAULT = "tape is short|tape is long"
 LINK_FAULT = r"unknown link type \d+: known are 0, 1, 101, 108, 113, 228 and 276"
 FAULTS = {"page": TEXT_FAULT + "|text is not UTF-8|text is too long", "read": TAPE_FAULT, "pcap": TAPE_FAULT,
+          "whole": TAPE_FAULT,
           "tape": rf"not a capture file|{LINK_FAULT}"
                   rf"|packet [1-9]\d*: (?:{LINK_FAULT}|capture is short|wrong block|block differs|steps back)",
           "verify": rf"{ROW_FAULT}|{TAPE_FAULT}|differences: [1-9]\d*", **dict.fromkeys(OF_BOOKS, ROW_FAULT),
@@ -491,7 +492,7 @@ def is_output(run, out):
     forms = {"page": lambda: is_shown(run, out), "read": lambda: is_table(out), "report": lambda: is_report(run, out),
              "chart": lambda: is_chart(out), "verify": lambda: differences_in(out) == 0,
              "check": lambda: is_of_check(run, out), "texts": lambda: is_of_texts(run, out),
-             "pcap": lambda: is_capture(out),
+             "pcap": lambda: is_capture(out), "whole": lambda: len(out) == len(run.data),
              "tape": lambda: is_tapes(run, out) or len(out) == gsm.size_of_tape(run.number("--slots", 0))}
     return forms.get(run.command(), lambda: is_tapes(run, out))()
 
@@ -1203,7 +1204,7 @@ def capture_options(chance):
 
 
 def tape_options(chance, command):
-    """Returns the options of `read` and `pcap`."""
+    """Returns the options of `read`, `whole` and `pcap`."""
     options = {}
     if command == "read" and chance.random() < 0.5:
         options["--short"] = None
@@ -1233,7 +1234,7 @@ def good_options(chance, command, data):
         return capture_options(chance)
     if command in COMMANDS_OF["rows"]:
         return rows_options(chance, command, data)
-    return tape_options(chance, command) if command in ("read", "pcap") else book_options(chance, command, data)
+    return tape_options(chance, command) if command in COMMANDS_OF["tape"] else book_options(chance, command, data)
 
 
 def spoilt_words(chance, command, options):
@@ -1296,8 +1297,8 @@ SIZES = {"workers": (2, 3, 4, 4, 64), "sessions": (2, 2, 3, 64), "pieces": (1, 2
          "devices": (1, 7, 8, 9, 92, 100, 192, 4096, 8192, 20_000), "verify": (1, 2, 4), "captures": (51, 52)}
 # kibioctets over the floor
 SPARES = (0, 1, 4, 16, 64, 256, 1024, 4096, 16384, 98304)
-COMMANDS_OF = {"book": (*OF_BOOKS, "verify"), "rows": ("check", "texts"), "tape": ("read", "pcap"), "text": ("page",),
-               "capture": ("tape",)}
+COMMANDS_OF = {"book": (*OF_BOOKS, "verify"), "rows": ("check", "texts"), "tape": ("read", "whole", "pcap"),
+               "text": ("page",), "capture": ("tape",)}
 MAKERS = {"book": some_book, "rows": some_book, "tape": some_tapes, "text": some_text, "capture": some_capture}
 
 

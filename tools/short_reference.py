@@ -1,12 +1,13 @@
 #!/usr/bin/env python3
 """Reads tapes with pages of one to four blocks, as docs/formats.md says: a second program against which `warnc read
---short` is compared, and `warnc read`.
+--short` is compared, `warnc read` and `warnc whole`.
 
 Usage: short_reference.py PROGRAM [RUNS]    random tapes, of pages in four blocks and in fewer, pages over the end of a
                                             slot, blocks out of place and idle slots. What both programs write has to be
-                                            the same, with --short and without. PROGRAM is a built `warnc`
+                                            the same, with --short and without, and the whole tapes. PROGRAM is a
+                                            built `warnc`
 
-The text of a short page is decoded of the octets that came; no page is completed here.
+The text of a short page is decoded of the octets that came; only for `whole` is a page completed here.
 """
 import random
 import subprocess
@@ -71,6 +72,30 @@ def shown_by(blocks, short):
             yield ident, serial, "".join(texts[it] for it in sorted(texts))
 
 
+def whole_content(alphabet, octets):
+    """Returns the content of which these octets came: with the codes that came whole, and CR after them."""
+    if alphabet == "gsm":
+        bits = int.from_bytes(octets, "little")
+        return gsm.packed([bits >> 7 * at & 0x7F for at in range(8 * len(octets) // 7)])
+    if alphabet == "ucs2":
+        return gsm.of_units([int.from_bytes(octets[at:at + 2], "big") for at in range(0, len(octets) - 1, 2)])
+    return octets.ljust(gsm.CONTENT, b"\0")
+
+
+def whole_slots(blocks):
+    """Yields the slots of blocks, of which each page has four."""
+    for place in range(0, len(blocks), 4):
+        slot = blocks[place:place + 4]
+        count = count_at(slot, 0)
+        if count in (1, 2, 3):
+            page = b"".join(it[1:] for it in slot[:count])
+            serial, ident, dcs, parameter = gsm.HEAD.unpack_from(page)
+            content = whole_content(gsm.alphabet_of(dcs), page[gsm.HEAD.size:])
+            yield gsm.slot_of(serial, ident, dcs, parameter, content)
+        else:
+            yield b"".join(slot)
+
+
 def line_of(fields):
     """Returns a line of CSV: fields are quoted if they hold a comma, a quote or a line end."""
     def quoted(field):
@@ -126,13 +151,15 @@ def differs(program, seed):
     tapes = [(rng.randrange(3), rng.randrange(65536), random_blocks(rng, rng.randrange(12)))
              for _ in range(rng.choice((0, 1, 2, 8)))]
     octets = b"".join(gsm.tape_of(*it) for it in tapes)
-    for words in (["read", "--short"], ["read"]):
-        wanted = line_of(("lac", "ci", "id", "serial", "text")) + "".join(
-            line_of((lac, ci, ident, f"{serial:04x}", text)) for lac, ci, blocks in tapes
-            for ident, serial, text in shown_by(blocks, len(words) > 1))
+    tables = {short: line_of(("lac", "ci", "id", "serial", "text")) + "".join(
+        line_of((lac, ci, ident, f"{serial:04x}", text)) for lac, ci, blocks in tapes
+        for ident, serial, text in shown_by(blocks, short)) for short in (True, False)}
+    whole = b"".join(gsm.tape_of(lac, ci, whole_slots(blocks)) for lac, ci, blocks in tapes)
+    for words, wanted in ((["read", "--short"], tables[True].encode()), (["read"], tables[False].encode()),
+                          (["whole"], whole)):
         done = subprocess.run([program, *words], input=octets, capture_output=True, check=False)
-        found = done.returncode, done.stdout.decode(), done.stderr.decode()
-        if found != (0, wanted, ""):
+        found = done.returncode, done.stdout, done.stderr
+        if found != (0, wanted, b""):
             print(f"short_reference: run {seed}: {words}: wanted {wanted!r}, but it was {found}")
             return True
     return False
