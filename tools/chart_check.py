@@ -324,7 +324,7 @@ def take_picture(program, browser, path):
         with open(chart, "wb") as file:
             file.write(run(program, ["chart", "--slots", str(SLOTS_BY_HAND)], book_by_hand().encode()))
         words = [browser, "--headless=new", "--no-sandbox", "--disable-gpu", f"--user-data-dir={folder}/profile"]
-        subprocess.run([*words, "--hide-scrollbars", "--window-size=1000,640", f"--screenshot={os.path.abspath(path)}",
+        subprocess.run([*words, "--hide-scrollbars", "--window-size=1000,800", f"--screenshot={os.path.abspath(path)}",
                         f"file://{chart}"], stderr=subprocess.DEVNULL, stdout=subprocess.DEVNULL, check=True)
 
 

@@ -32,10 +32,12 @@ pub const HEAD: &str = r#"<!DOCTYPE html>
 <title>Warnings by cell</title>
 <style>
 :root{color-scheme:light dark;--ground:#fff;--text:#1a1a1a;--faint:#666;--lane:#eef1f4}
-:root{--f1:#6288b5;--f2:#456f9f;--f3:#2a5588;--f4:#143c6a;--f5:#061d38;--mark:#dfeaf7;--load:#5e7688;--refusal:#b3261e}
+:root{--f1:#6288b5;--f2:#456f9f;--f3:#2a5588;--f4:#143c6a;--f5:#061d38;--load:#5e7688;--refusal:#b3261e}
+:root{--mark:rgb(0 0 0/.3);--pale:rgb(255 255 255/.25)}
 @media(prefers-color-scheme:dark){
 :root{--ground:#15181c;--text:#e6e6e6;--faint:#a0a6ac;--lane:#262c33}
-:root{--f1:#5c7fa9;--f2:#7398c5;--f3:#8fb3dc;--f4:#b0cfef;--f5:#d9e9fa;--mark:#0e1318;--load:#7f95a6;--refusal:#ff8a80}
+:root{--f1:#5c7fa9;--f2:#7398c5;--f3:#8fb3dc;--f4:#b0cfef;--f5:#d9e9fa;--load:#7f95a6;--refusal:#ff8a80}
+:root{--mark:rgb(255 255 255/.3);--pale:rgb(0 0 0/.25)}
 }
 body{background:var(--ground);color:var(--text);font:15px/1.4 system-ui,sans-serif;margin:1.5em}
 summary{color:var(--faint);cursor:pointer;margin:.8em 0 .4em}
@@ -61,16 +63,16 @@ nav .loads{border-top-width:1px;height:1.4em}
 .f4{background:var(--f4);fill:var(--f4)}
 .f5{background:var(--f5);fill:var(--f5)}
 .f1.many,.f2.many{fill:var(--f3)}
-.whole{stroke:var(--f5)}
-.f4~.whole,.f5~.whole{stroke:var(--mark);stroke-opacity:.5}
-.pace b{display:inline-block;height:.8em;margin:0 .3em 0 .9em;width:2em}
+.whole{stroke:var(--mark)}
+.f5~.whole{stroke:var(--pale)}
+.pace b{display:inline-block;height:.8em;margin:0 .3em 0 .6em;width:1.6em}
 .refusal{stroke:var(--refusal);stroke-width:4px}
 .line .axis{color:var(--faint);font-size:.85em;justify-content:space-between;overflow:visible}
 .axis span{width:0}
 .axis span:last-child{margin-left:-5em;text-align:right;width:5em}
 @media(max-width:46em){
 body{margin:1em}
-nav a{gap:.1em .8em;grid-template-columns:1fr auto;margin:.2em 0}
+nav a{gap:.1em .5em;grid-template-columns:1fr auto;margin:.2em 0}
 nav .loads{grid-column:1/3;grid-row:2}
 .line{gap:.1em;grid-template-columns:minmax(0,1fr);margin:.5em 0}
 .line p{flex-wrap:wrap;gap:0 .3em}
