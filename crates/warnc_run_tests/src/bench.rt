@@ -244,7 +244,7 @@ fn said_with_memory<T: AllocGlobal + Threads + Wait + Sync>(
 }
 
 /// How many octets a call that is short of memory can write: what it writes takes room that there was before.
-const OUTPUT: usize = 4000;
+const OUTPUT: usize = 7000;
 
 /// Makes a call that is short of memory.
 fn said_in_shortage<T: AllocGlobal + Threads + Wait + Sync>(
