@@ -84,20 +84,21 @@ of_tapes words sessions (inr live) other more = more live.0
 pub writes_some : (words : List (List ℕ)) (t : Task) → IsTaskOf words t
     → slice_get words 1 ≢ Some (codes "compile")
     → slice_get words 1 ≢ Some (codes "live")
+    → slice_get words 1 ≢ Some (codes "whole")
     → (slice_get words 1 ≡ Some (codes "report") → is_given words (codes "--group") ≡ false)
     → AlwaysWrites t
-writes_some words (task.Make run product.Tapes) asked compile live report =
+writes_some words (task.Make run product.Tapes) asked compile live whole report =
     absurd (of_tapes words run.sessions.number asked.made_given compile live)
-writes_some words (task.Make run (product.Report columns)) asked compile live report =
+writes_some words (task.Make run (product.Report columns)) asked compile live whole report =
     headed words run.books asked.books_given (report asked.made_given.0)
-writes_some words (task.Make run (product.Chart wanted)) asked compile live report = tt
-writes_some words (task.Verify from slots file workers) asked compile live report = tt
-writes_some words (task.Page language id serial) asked compile live report = tt
-writes_some words (task.Read wanted) asked compile live report = tt
-writes_some words task.Whole asked compile live report = tt
-writes_some words (task.Pcap settings) asked compile live report = tt
-writes_some words (task.Tape wanted) asked compile live report = tt
-writes_some words task.Groups asked compile live report = tt
-writes_some words task.Check asked compile live report = tt
-writes_some words (task.Remark slots strict) asked compile live report = tt
-writes_some words (task.Texts pages) asked compile live report = tt
+writes_some words (task.Make run (product.Chart wanted)) asked compile live whole report = tt
+writes_some words (task.Verify from slots file workers) asked compile live whole report = tt
+writes_some words (task.Page language id serial) asked compile live whole report = tt
+writes_some words (task.Read wanted) asked compile live whole report = tt
+writes_some words task.Whole asked compile live whole report = absurd (whole asked)
+writes_some words (task.Pcap settings) asked compile live whole report = tt
+writes_some words (task.Tape wanted) asked compile live whole report = tt
+writes_some words task.Groups asked compile live whole report = tt
+writes_some words task.Check asked compile live whole report = tt
+writes_some words (task.Remark slots strict) asked compile live whole report = tt
+writes_some words (task.Texts pages) asked compile live whole report = tt

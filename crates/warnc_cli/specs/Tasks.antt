@@ -91,11 +91,12 @@ abbrev pub IsHeaded : Books → Type 0
 IsHeaded (books.One (origin.Group group)) = ⊥
 IsHeaded other = ⊤
 
--- it writes something: tapes are none of a book without cells, and the report of a later group has no line of the
--- columns' names
+-- it writes something: tapes are none of a book without cells, nor whole tapes of no tapes, and the report of a later
+-- group has no line of the columns' names
 abbrev pub AlwaysWrites : Task → Type 0
 AlwaysWrites (task.Make run product.Tapes) = ⊥
 AlwaysWrites (task.Make run (product.Report columns)) = IsHeaded run.books
+AlwaysWrites task.Whole = ⊥
 AlwaysWrites other = ⊤
 
 -- What is refused with status 1.
