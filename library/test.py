@@ -280,7 +280,7 @@ def try_c(program, runs):
         return
     with tempfile.TemporaryDirectory(prefix="warnc-library-") as room:
         # a small stack is enough
-        lines = Lines("/bin/sh", "-c", 'ulimit -s 64 && exec "$0"', compiled(room, compiler, "lines", "-O2"))
+        lines = Lines("/bin/sh", "-c", 'ulimit -s 128 && exec "$0"', compiled(room, compiler, "lines", "-O2"))
         good = try_texts(lines, program, random.Random(1), runs)
         print(f"library: {runs} texts, {good} with pages; {try_numbers(lines)} pages by their numbers;"
               f" {try_tapes(lines, program, random.Random(2), runs // 4)} inputs of tapes;"
