@@ -160,7 +160,7 @@ def messages_are_read_right(page, program, count):
 def examples_are_typed(page, program, _):
     """Each book of examples/, typed into the page, gives what the program gives."""
     wrong, count = [], 0
-    for name in sorted(os.listdir(os.path.join(TOP, "examples"))):
+    for name in sorted(it for it in os.listdir(os.path.join(TOP, "examples")) if it.endswith(".csv")):
         book = release.read(os.path.join(TOP, "examples", name))
         page.run("showPane('book'); $('b-csv').focus(); $('b-csv').select()")
         page.type(book.decode())

@@ -73,9 +73,10 @@ function loadOf(body) {
     return { loads, fullest };
 }
 
-// Returns the cells that a heading of the chart names: "Cell 1-2", "Cells 1-2, 3-4" or "Cells 1-2 to 1-9, 8 cells".
+// Returns the cells that a heading of the chart names: "Cell 1-2", "Cells 1-2, 3-4, 2 cells" or "Cells 1-2 to 1-9, 8
+// cells".
 function cellsNamed(heading) {
-    const names = heading.replace(/^Cells? /, "").split(", "), [from, to] = names[0].split(" to ");
+    const names = heading.replace(/^Cells? |, \d+ cells$/g, "").split(", "), [from, to] = names[0].split(" to ");
     if (!to) return names;
     const [lac, first] = from.split("-"), last = to.split("-")[1];
     return Array.from({ length: last - first + 1 }, (_, k) => `${lac}-${+first + k}`);

@@ -243,7 +243,7 @@ all -> worked
 
 #[test]
 fn pages_without_memory_are_status_4(rt: HostRuntime) -> Result<(), Fail> {
-    expect_rows(&rt, PAGE, 22)
+    expect_rows(&rt, PAGE, 23)
 }
 
 #[test]
