@@ -443,7 +443,9 @@ class Page(html.parser.HTMLParser):
         self.is_right = True
 
     def handle_starttag(self, tag, attrs):
-        loads = any(name.startswith("on") or name in ("src", "href") for name, _ in attrs)
+        # a link leads to a place of the page
+        loads = any(name.startswith("on") or name == "src" or name == "href" and not str(value).startswith("#")
+                    for name, value in attrs)
         self.is_right &= tag != "script" and not loads
         if tag not in self.VOID:
             self.open.append(tag)

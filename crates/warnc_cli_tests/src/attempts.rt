@@ -267,8 +267,8 @@ fn attempts_at<T: AllocGlobal + Threads + Wait + Sync>(
     End::Refused
 }
 
-/// Has memory end at each step of a plan, one after the other. Before that the run is done with all memory, so that the
-/// stack has grown: a block that is taken later may stand right under it.
+/// Has memory end at each step of a plan, one after the other. Before that the run is done with all memory, from where
+/// the attempts are made, so that the stack has grown as far as they need it: without memory it can't.
 fn attempts_at_each<T: AllocGlobal + Threads + Wait + Sync>(
     rt: &mut Shortage<T>,
     words: &[&str],
@@ -276,7 +276,7 @@ fn attempts_at_each<T: AllocGlobal + Threads + Wait + Sync>(
     slate: &mut Slate,
     plan: Plan,
 ) -> End {
-    if plan.is_repeated && !is_done_again(rt, words, bench, slate) {
+    if plan.is_repeated && attempts_at(rt, words, bench, slate, plan, 0) != End::Enough {
         return End::Wrong;
     }
     for step in plan.first..=plan.steps {
