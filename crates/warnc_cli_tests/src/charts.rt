@@ -13,6 +13,7 @@ in stop,3,a,*
 args chart --slots 4
 run -> 0
 out -> <!DOCTYPE html>
+past .refusal{stroke:var(--refusal);stroke-width:4px} -> yes
 past <p>A run of 4 slots of 1.883 s, 0.1 minutes. -> yes
 past is full.</p> -> yes
 out -> <details open id=\"c1-1\">
@@ -196,5 +197,5 @@ usage -> 2 error:
 
 #[test]
 fn books_give_charts(rt: HostRuntime) -> Result<(), Fail> {
-    expect_rows(&rt, CHART, 168)
+    expect_rows(&rt, CHART, 169)
 }
