@@ -57,7 +57,8 @@ cells -> 1-1 1-2
 shown 1 -> 4370 0010 ЖЖЖЖЖЖЖЖЖЖЖЖЖЖЖЖЖЖЖЖЖЖЖЖЖЖЖЖЖЖЖЖЖЖЖЖЖЖЖЖЖЖ, 4370 0011 ЖЖЖЖЖЖЖЖЖЖЖЖЖЖЖЖЖЖЖЖЖЖЖЖЖЖЖЖЖЖЖЖЖЖЖЖЖЖЖЖЖЯ
 shown 2 -> 4371 0020 aaaaaaaaaaaaaaaaaaaaaaaaaaaaaaaaaaaaaaaaaaaaaaaaaaaaaaaaaaaaaaaaaaaaaaaaaaaaaaaaaaaaaaaaaaaaaa
 
-# Memory ends in the first cell that an order names, in the second, at the update, and when the cells are played out.
+# Memory ends in the first cell that an order names, in the second, at the update, and when the second cell is played
+# out after the first: so a worker plays both, which the settlement would hide.
 late 1 150 live 8 1 1 -> refused; done
 all -> worked
 late 2 150 live 8 1 1 -> refused; done
