@@ -44,8 +44,12 @@ list() {
 644 cap/warnc_cap/place.py share/warnc/warnc_cap/place.py
 644 cap/warnc_cap/plan.py share/warnc/warnc_cap/plan.py
 644 cap/warnc_cap/policy.py share/warnc/warnc_cap/policy.py
+644 cap/warnc_cap/receipt.py share/warnc/warnc_cap/receipt.py
+644 cap/warnc_cap/rounds.py share/warnc/warnc_cap/rounds.py
+644 cap/warnc_cap/run.py share/warnc/warnc_cap/run.py
 644 cap/warnc_cap/state.py share/warnc/warnc_cap/state.py
 644 cap/warnc_cap/text.py share/warnc/warnc_cap/text.py
+644 cap/warnc_cap/whole.py share/warnc/warnc_cap/whole.py
 644 docs/warnc.1 share/man/man1/warnc.1
 644 docs/warnc-book.5 share/man/man5/warnc-book.5
 644 tools/completions/warnc.bash share/bash-completion/completions/warnc

@@ -14,6 +14,7 @@ from warnc_cap.message import Area, Info, Message, Wrong
 from warnc_cap.place import Cell, Map
 from warnc_cap.plan import MOST_CODE, Plan
 from warnc_cap.policy import DEFAULT
+from warnc_cap.text import Prepared
 
 SLOTS = 4096
 # The kinds of warning of the days: severity, urgency, certainty, and the identifier and period that they come to.
@@ -174,8 +175,14 @@ def plan_of(messages):
     """Returns an empty plan, and the texts that it is given for messages."""
     cells = [Cell(name, f"cell,{name.replace('-', ',')}", None, 0.0, {"Z": [code]}) for code, name in PLACES.items()]
     options = SimpleNamespace(start=Fraction(0), slots=SLOTS, presidential=[], tests=False, joined=False, strict=False)
-    prepared = {("w", it.identifier, info.number): (info.headline, []) for it in messages for info in it.infos}
+    prepared = {("w", it.identifier, info.number): Prepared(info.headline, 0, [])
+                for it in messages for info in it.infos}
     return Plan(options, DEFAULT, cells, ["Z"], Map(cells)), prepared
+
+
+def book_of(plan):
+    """Returns the book of a plan."""
+    return "".join([f"{it.row}\n" for it in plan.cells] + [plan.line(it) for it in plan.rows()]).encode()
 
 
 def keeps_chains():
@@ -192,14 +199,14 @@ def keeps_chains():
     plan, prepared = plan_of([*messages, joining])
     for it in messages:
         plan.take(it, prepared)
-    before = plan.book()
+    before = book_of(plan)
     try:
         plan.take(joining, prepared)
         return False
     except Wrong:
-        same = plan.book() == before
+        same = book_of(plan) == before
     plan.take(cancel, prepared)
-    stops = [it.split(b",")[2] for it in plan.book().split(b"\n") if it.startswith(b"stop,")]
+    stops = [it.split(b",")[2] for it in book_of(plan).split(b"\n") if it.startswith(b"stop,")]
     return same and stops == [b"w/M0/1"]
 
 
@@ -209,11 +216,11 @@ def differs(seed):
     plan, prepared = plan_of(messages)
     for it in messages:
         plan.take(it, prepared)
-    wanted, found = intervals_of(messages), intervals_in(plan.book())
+    wanted, found = intervals_of(messages), intervals_in(book_of(plan))
     edges = {0, SLOTS - 1} | {it for one in wanted + found for it in (one.begin, one.end())}
     for slot in sorted({it + near for it in edges if abs(it) < SLOTS * 2 for near in (-1, 0, 1)}):
         if 0 <= slot < SLOTS and air(wanted, slot) != air(found, slot):
             print(f"cap/test.py: day {seed}, slot {slot}: wanted {air(wanted, slot)}, but it was {air(found, slot)}\n"
-                  f"{plan.book().decode()}", *messages, sep="\n")
+                  f"{book_of(plan).decode()}", *messages, sep="\n")
             return True
     return False

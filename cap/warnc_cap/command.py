@@ -1,22 +1,19 @@
 """The command: messages in, a book out, and what is told of them."""
 import argparse
-import csv
-import io
 import os
 import shutil
 import sys
+from collections import Counter
 
-from . import message, place, policy, state, text
-from .plan import Plan, key_of
+from . import message, place, policy, receipt, rounds, state, text
+from .plan import Plan
+from .run import CAUSES, Runner
+from .whole import Whole
 
 HERE = os.path.dirname(os.path.dirname(os.path.dirname(os.path.realpath(__file__))))
-# What a BSC says of an order that it refuses (3GPP TS 48.049, 8.2.3, Cause), as far as a book can have it.
-CAUSES = {"06": "BSC capacity exceeded", "0a": "past the end of the run", "0d": "message reference already used"}
 URGENT = range(4370, 4380)
-# how often the book is made anew because of what the program refuses
-MOST_ROUNDS = 500
-# the cells of a book that is no network
-MOST_CELLS = 64
+# of a row that leaves out cells, how many of them are named
+MOST_NAMED = 10
 
 
 def words_of(words, document):
@@ -37,10 +34,18 @@ def words_of(words, document):
                         help="the program that costs texts and runs the book, if it isn't this one; also by WARNC")
     parser.add_argument("--state", metavar="FILE",
                         help="keeps the messages and the codes of their names, so that the next call goes on with them")
+    parser.add_argument("--since", action="store_true",
+                        help="with --state: writes only the rows that are new since the call before. Where one updates "
+                             "or stops a name of an earlier call, they are no book by themselves")
+    parser.add_argument("--receipt", metavar="FILE", help="writes what became of each info, as CSV")
     parser.add_argument("messages", nargs="*", metavar="MESSAGE")
     options = parser.parse_args(words)
     if not options.messages and not options.state:
         parser.error("no MESSAGE is given")
+    if options.since and not options.state:
+        parser.error("--since needs --state")
+    if options.state and options.receipt and os.path.realpath(options.state) == os.path.realpath(options.receipt):
+        parser.error("--state and --receipt are one file")
     start = message.time_of(options.start)
     if start is None or not 1 <= options.slots <= 65535:
         parser.error("--start is as 2026-03-01T06:30:00+01:00, --slots 1 to 65535")
@@ -51,8 +56,10 @@ def words_of(words, document):
 
 def program_here():
     """Returns the program beside this one, or the installed one."""
-    here = os.path.join(HERE, "warnc")
-    return here if os.access(here, os.X_OK) and os.path.isfile(here) else shutil.which("warnc") or "warnc"
+    for it in (os.path.join(HERE, "warnc"), os.path.join(os.path.dirname(HERE), "bin", "warnc")):
+        if os.access(it, os.X_OK) and os.path.isfile(it):
+            return it
+    return shutil.which("warnc") or "warnc"
 
 
 def files_of(words):
@@ -99,102 +106,110 @@ def messages_of(words, past):
     return kept, wrong
 
 
-def prepared_texts(plan, messages):
-    """Returns the text of each info that may be on the air, and what is to be told of it."""
-    keys, infos = [], []
-    for it in messages:
-        first = it.infos and key_of(it.infos[0])
-        for info in it.infos:
-            keys.append((it.sender, it.identifier, info.number))
-            identifier = plan.identifier_of(it, info, key_of(info) == first)
-            infos.append((info, plan.policy[identifier].pages))
-    return dict(zip(keys, text.prepare(plan.options.warnc, infos)))
+def plan_of(options, known_codes):
+    """Returns an empty plan, for the cells and the policy of the words."""
+    cells, codes = place.cells_of(options.cells)
+    rules = policy.policy_of(options.policy) if options.policy else policy.DEFAULT
+    return Plan(options, rules, cells, codes, place.Map(cells), known_codes)
 
 
-def planned(plan, messages, prepared):
-    """Plans all messages, and returns the book, and what is wrong with each message that is passed over for it."""
-    plan.begin()
-    wrong = {}
-    for it in messages:
-        notes = len(plan.notes)
-        try:
-            plan.take(it, prepared)
-        except message.Wrong as fault:
-            del plan.notes[notes:]
-            wrong[it.sender, it.identifier] = f"{it.file}: {fault}"
-    return plan.book(), wrong
+def since(plan, book, earlier):
+    """Returns the octets of the rows of a book that an earlier one hasn't, behind the cells, and tells of those of the
+    earlier one that it hasn't any more."""
+    lines = [plan.line(it) for it in book.rows]
+    had = Counter(plan.line(it) for it in earlier.rows)
+    new = []
+    for it in lines:
+        if had[it]:
+            had[it] -= 1
+        else:
+            new.append(it)
+    for it in earlier.rows:
+        line = plan.line(it)
+        if had[line]:
+            had[line] -= 1
+            plan.note(it.item.name, it.verb, f"its row of slot {max(it.slot, 0)}, of a call before, is there no longer")
+    return "".join([f"{it.row}\n" for it in plan.cells] + new).encode()
 
 
-def refusals(plan, book):
-    """Runs a book, and returns the rows that are refused, as a number of cells for each item, update and cause."""
-    options = plan.options
-    is_network = len(plan.cells) > MOST_CELLS
-    words = ["report", "--slots", str(options.slots), *(["--network"] if is_network else [])]
-    for it in [["check"], words] if not is_network else [words]:
-        status, table, fault = text.run(options.warnc, it, book)
-        if status:
-            raise text.NoProgram(f"{options.warnc} {it[0]}: {fault}\n{table.decode(errors='replace')}".strip())
-    by_code, found = {it.code: it for it in plan.items}, {}
-    for row in csv.reader(io.StringIO(table.decode(), newline="")):
-        if row[7].startswith("refused "):
-            serial = int(row[3], 16)
-            key = (serial >> 4 & 1023, serial & 15, row[7].removeprefix("refused "))
-            found[key] = found.get(key, 0) + 1
-    return {(by_code[code].name, update, cause): (by_code[code], count)
-            for (code, update, cause), count in found.items()}
+def tell_of_rows(plan, book, remarks):
+    """Tells what cells refuse, and what `check` remarks; returns whether a warning of a threat to life is refused."""
+    urgent = False
+    for row, cause, cells in book.refused():
+        many = "cell" if cells == 1 else "cells"
+        plan.note(row.item.name, row.verb, f"refused in {cells} {many}: {CAUSES.get(cause, cause)}")
+        urgent = urgent or row.item.identifier in URGENT
+    for at, one in sorted(remarks.items()):
+        row, said = book.rows[at], list(one.others)
+        if len(one.left_out) == len(row.item.cells):
+            said.append("orders nothing")
+        elif one.left_out:
+            names = sorted(one.left_out, key=plan.order.get)
+            more = f" and {len(names) - MOST_NAMED} more" if len(names) > MOST_NAMED else ""
+            said.append(f"leaves out {' '.join(names[:MOST_NAMED])}{more}")
+        if one.done:
+            said.append(f"done at slot {one.done}")
+        for it in said:
+            plan.note(row.item.name, row.verb, it)
+    return urgent
 
 
-def learned(plan, refused):
-    """Notes in the plan the earliest that is new of what the program refuses; returns whether there is something."""
-    news = []
-    for (name, update, cause), (item, count) in refused.items():
-        if update == 0 and item.rows and name not in plan.refused:
-            if item.follows and name not in plan.moved and cause == "06":
-                news.append((item.rows[0].slot, 0, name))
-            elif count == len(item.cells):
-                news.append((item.rows[0].slot, 1, name))
-    for slot, kind, name in news:
-        if slot == min(news)[0]:
-            (plan.refused if kind else plan.moved).add(name)
-    return bool(news)
+def put_out(octets):
+    """Writes octets to standard output."""
+    if sys.stdout is None:
+        raise OSError("standard output is closed")
+    try:
+        sys.stdout.buffer.write(octets)
+        sys.stdout.buffer.flush()
+    except OSError:
+        # what is left in the buffer would be tried again at the end
+        os.dup2(os.open(os.devnull, os.O_WRONLY), 1)
+        raise
 
 
-def made(plan, messages):
-    """Returns the book, what is wrong with messages, and what the program refuses of the book.
-
-    What is refused changes what later messages come to, so the book is made anew until nothing new is refused.
-    """
-    prepared = prepared_texts(plan, messages)
-    for _ in range(MOST_ROUNDS):
-        book, wrong = planned(plan, messages, prepared)
-        refused = refusals(plan, book)
-        if not learned(plan, refused):
-            break
-    return book, wrong, refused
+def tell(lines):
+    """Writes lines to standard error, if it is open."""
+    if sys.stderr is not None:
+        sys.stderr.write("".join(f"{it}\n" for it in lines))
 
 
 def main(words, document):
     options = words_of(words, document)
     try:
-        cells, codes = place.cells_of(options.cells)
-        rules = policy.policy_of(options.policy) if options.policy else policy.DEFAULT
-        plan = Plan(options, rules, cells, codes, place.Map(cells))
-        past, plan.known_codes = state.read(options.state)
+        past, known_codes = state.read(options.state)
+        plan = plan_of(options, known_codes)
+        runner = Runner(options.warnc, options.slots)
         kept, wrong = messages_of(options.messages, past)
-        book, more, refused = made(plan, [it for _, it in kept])
-        state.write(options.state, [it for it in kept if (it[1].sender, it[1].identifier) not in more], plan.given)
+        messages = [it for _, it in kept]
+        book = rounds.made(plan, messages, runner)
+        wrong += book.wrong.values()
+        urgent = tell_of_rows(plan, book, runner.remarks(plan, book.rows, book.octets))
+        octets = book.octets
+        if options.since:
+            known = {it.encode() for _, it in past}
+            earlier = rounds.made(plan.anew(), [it for octets, it in kept if octets in known], runner)
+            octets = since(plan, book, earlier)
     except (place.TableFault, state.StateFault, text.NoProgram) as fault:
-        print(f"warnc-cap: {fault}", file=sys.stderr)
+        tell([f"warnc-cap: {fault}"])
         return 2
-    wrong += more.values()
-    for (name, update, cause), (_, count) in sorted(refused.items()):
-        verb = "update" if update else "write"
-        plan.note(name, verb, f"refused in {count} {'cell' if count == 1 else 'cells'}: {CAUSES.get(cause, cause)}")
+    for it in sorted(set(options.presidential) - {it.identifier for it in messages}):
+        plan.note("--presidential", message.shown(it), "no message has this identifier")
+    tell([*wrong, *plan.notes])
+    files, path = Whole(), "standard output"
     try:
-        sys.stdout.buffer.write(book)
-        sys.stdout.buffer.flush()
-    except BrokenPipeError:
-        os.dup2(os.open(os.devnull, os.O_WRONLY), 1)
-    print("".join(f"{it}\n" for it in wrong + plan.notes), end="", file=sys.stderr)
-    urgent = any(item.identifier in URGENT for item, _ in refused.values())
+        if options.state:
+            left = [it for it in kept if (it[1].sender, it[1].identifier) not in book.wrong]
+            path = options.state
+            files.add(path, state.text_of(left, plan.given))
+        if options.receipt:
+            path = options.receipt
+            files.add(path, receipt.receipt_of(plan, messages, book))
+        path = "standard output"
+        put_out(octets)
+        path = "the state or the receipt"
+        files.put()
+    except OSError as fault:
+        files.drop()
+        tell([f"warnc-cap: {path}: {fault.strerror or fault}"])
+        return 2
     return 1 if wrong or urgent or options.strict and plan.without_cells else 0

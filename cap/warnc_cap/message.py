@@ -43,11 +43,12 @@ class Node:
 
 @dataclass
 class Area:
-    """A part of the country: polygons and circles of latitudes and longitudes, and codes of places."""
+    """A part of the country: polygons and circles of latitudes and longitudes, codes of places, and its name."""
 
     polygons: list
     circles: list
     codes: list
+    name: str = ""
 
 
 @dataclass
@@ -254,11 +255,11 @@ def circle_of(words, place):
 
 
 def area_of(node, place):
-    only(node, "areaDesc", f"{place}area: ")
+    name = only(node, "areaDesc", f"{place}area: ")
     return Area(
         [polygon_of(it.words(), f"{place}polygon") for it in node.every("polygon")],
         [circle_of(it.words(), f"{place}circle") for it in node.every("circle")],
-        pairs_in(node, "geocode", place),
+        pairs_in(node, "geocode", place), " ".join(name.split()),
     )
 
 

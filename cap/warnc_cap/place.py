@@ -9,8 +9,8 @@ from .message import NUMBER, Wrong
 EARTH = 6371.0088  # the mean radius of the earth, in kilometres
 DEGREE = math.pi * EARTH / 180  # a degree of latitude, in kilometres
 COLUMNS = ["lac", "ci", "lat", "lon", "radius"]
-# how many pairs of an edge and a cell are looked at for a polygon, and how many points it has: some seconds of work
-MOST_PAIRS, MOST_POINTS = 2_000_000, 50_000
+# how many pairs of an edge and a cell are looked at for a message, and how many points a polygon has: seconds of work
+MOST_PAIRS, MOST_POINTS = 10_000_000, 50_000
 NEAR = 1e-9  # an edge passes through a point where it comes as near, in kilometres
 
 
@@ -101,58 +101,87 @@ class Map:
     def __init__(self, cells):
         self.cells = sorted((it for it in cells if it.point), key=lambda it: it.point)
         self.latitudes = [it.point[0] for it in self.cells]
+        self.longitudes = [it.point[1] for it in self.cells]
+        # at each cell how long a degree of longitude is, and how many degrees of it the cell reaches, a little more
+        self.scales = [DEGREE * math.cos(math.radians(it)) for it in self.latitudes]
+        self.margins = [(it.radius + NEAR) / scale * (1 + 1e-9) + 1e-9 for it, scale in zip(self.cells, self.scales)]
         self.reach = max((it.radius for it in self.cells), default=0.0) / DEGREE
+        self.polygons = {}
+        self.left = MOST_PAIRS
 
-    def between(self, south, north):
-        """Returns where the cells of some latitudes begin and end."""
-        return bisect_left(self.latitudes, south), bisect_right(self.latitudes, north)
+    def begin(self):
+        """Begins with the shapes of another message."""
+        self.left = MOST_PAIRS
 
-    def in_circle(self, circle):
+    def between(self, south, north, place):
+        """Returns where the cells of some latitudes begin and end, which are to be looked at."""
+        begin, end = bisect_left(self.latitudes, south), bisect_right(self.latitudes, north)
+        self.left -= end - begin
+        if self.left < 0:
+            raise Wrong(place, "the edges of the message are too many for so many cells")
+        return begin, end
+
+    def in_circle(self, circle, place):
         """Returns the cells that come into a circle."""
         point, radius = circle
         reach = radius / DEGREE + self.reach + 1e-9
-        begin, end = self.between(point[0] - reach, point[0] + reach)
+        begin, end = self.between(point[0] - reach, point[0] + reach, place)
         return [it for it in self.cells[begin:end] if distance(point, it.point) <= radius + it.radius]
 
     def in_polygon(self, points, place):
+        """Returns the cells that come into a polygon; infos in several languages often have the same one."""
+        if len(points) > MOST_POINTS:
+            raise Wrong(place, f"it has over {MOST_POINTS} points")
+        key = tuple(points)
+        if key not in self.polygons:
+            self.polygons[key] = self.inside(edges_of(points), place)
+        return self.polygons[key]
+
+    def inside(self, edges, place):
         """Returns the cells that come into a polygon: inside by the even-odd rule, or with an edge within reach.
 
         An edge is straight on a map whose degrees of longitude are as long as at the cell. It goes the shorter way
-        round the earth.
+        round the earth. The polygon begins in the west at a bound.
         """
-        if len(points) > MOST_POINTS:
-            raise Wrong(place, f"it has over {MOST_POINTS} points")
-        edges, east = [], points[0][1]
-        for (lat1, lon1), (lat2, lon2) in zip(points, points[1:]):
-            west, east = east, east + turned(lon2 - lon1)
-            edges.append((lat1, west, lat2, east))
         bound = min(min(it[1], it[3]) for it in edges)
-        inside, near, pairs = {}, set(), 0
+        latitudes, longitudes, margins = self.latitudes, self.longitudes, self.margins
+        inside, near = set(), set()
         for edge in edges:
-            south, north = min(edge[0], edge[2]), max(edge[0], edge[2])
-            begin, end = self.between(south - self.reach - 1e-9, north + self.reach + 1e-9)
-            pairs += end - begin
-            if pairs > MOST_PAIRS:
-                raise Wrong(place, "its edges are too many for so many cells")
+            lat1, west, lat2, east = edge
+            first, last = min(west, east), max(west, east)
+            begin, end = self.between(min(lat1, lat2) - self.reach - 1e-9, max(lat1, lat2) + self.reach + 1e-9, place)
             for at in range(begin, end):
-                look_at(edge, bound, self.cells[at], at, inside, near)
-        return [it for at, it in enumerate(self.cells) if inside.get(at) or at in near]
+                lat, lon = latitudes[at], bound + (longitudes[at] - bound) % 360
+                if (lat1 > lat) != (lat2 > lat) and lon <= last and (lon < first or passes_east(edge, lat, lon)):
+                    inside ^= {at}
+                margin = margins[at]
+                if first - margin <= lon <= last + margin or lon - 360 >= first - margin:
+                    if self.comes_near(at, edge, lon) or self.comes_near(at, edge, lon - 360):
+                        near.add(at)
+        return [self.cells[at] for at in inside | near]
+
+    def comes_near(self, at, edge, lon):
+        """Whether an edge comes within a cell's reach."""
+        lat, scale = self.latitudes[at], self.scales[at]
+        lat1, west, lat2, east = edge
+        found = away((west - lon) * scale, (lat1 - lat) * DEGREE, (east - lon) * scale, (lat2 - lat) * DEGREE)
+        return found <= self.cells[at].radius + NEAR
 
 
-def look_at(edge, bound, cell, at, inside, near):
-    """Notes of an edge whether it passes east of a cell, and whether it comes within the cell's reach. The polygon
-    begins in the west at a bound; its edges were followed round the earth."""
-    lat, lon = cell.point
+def edges_of(points):
+    """Returns the edges of a polygon, followed round the earth: of each the latitude and longitude of both ends."""
+    edges, east = [], points[0][1]
+    for (lat1, lon1), (lat2, lon2) in zip(points, points[1:]):
+        west, east = east, east + turned(lon2 - lon1)
+        edges.append((lat1, west, lat2, east))
+    return edges
+
+
+def passes_east(edge, lat, lon):
+    """Whether an edge that crosses a latitude does so east of a point."""
     lat1, west, lat2, east = edge
-    lon = bound + (lon - bound) % 360
     y1, y2 = lat1 - lat, lat2 - lat
-    if (y1 > 0) != (y2 > 0) and ((west - lon) * y2 - (east - lon) * y1) * (1 if y2 > y1 else -1) > 0:
-        inside[at] = not inside.get(at, False)
-    scale = DEGREE * math.cos(math.radians(lat))
-    for turn in (lon, lon - 360):
-        x1, x2 = (west - turn) * scale, (east - turn) * scale
-        if away(x1, y1 * DEGREE, x2, y2 * DEGREE) <= cell.radius + NEAR:
-            near.add(at)
+    return ((west - lon) * y2 - (east - lon) * y1) * (1 if y2 > y1 else -1) > 0
 
 
 def away(x1, y1, x2, y2):
@@ -163,16 +192,46 @@ def away(x1, y1, x2, y2):
     return math.hypot(x1 + part * along_x, y1 + part * along_y)
 
 
-def cells_in(area, plan, place, joined):
+def cells_in(area, plan, place):
     """Returns the names of the cells of an area, and the codes' names that no column has."""
     found, lacking = set(), set()
     for it in area.polygons:
         found |= {cell.name for cell in plan.map.in_polygon(it, f"{place}polygon")}
     for it in area.circles:
-        found |= {cell.name for cell in plan.map.in_circle(it)}
-    if joined or not (area.polygons or area.circles):
-        for name, value in area.codes:
+        found |= {cell.name for cell in plan.map.in_circle(it, f"{place}circle")}
+    if plan.options.joined or not (area.polygons or area.circles):
+        for name, value in set(area.codes):
             if name not in plan.codes:
                 lacking.add(name)
             found |= plan.by_code.get((name, value), set())
     return found, lacking
+
+
+@dataclass(frozen=True)
+class Place:
+    """Where an info is to be on the air: its cells, codes' names that no column has, and its areas without a cell."""
+
+    cells: frozenset
+    lacking: tuple
+    unwarned: tuple
+
+
+def place_of(info, plan):
+    """Returns where an info is to be on the air."""
+    cells, lacking, unwarned = set(), set(), []
+    for it in info.areas:
+        here, other = cells_in(it, plan, f"info {info.number}: ")
+        cells |= here
+        lacking |= other
+        if not here:
+            unwarned.append(it.name)
+    return Place(frozenset(cells), tuple(sorted(lacking)), tuple(unwarned))
+
+
+def places_of(message, plan):
+    """Returns where each info of a message is to be on the air, or what is wrong with its areas."""
+    plan.map.begin()
+    try:
+        return [place_of(it, plan) for it in message.infos]
+    except Wrong as fault:
+        return fault

@@ -1,14 +1,17 @@
 """What messages come to, one after the other: warnings, their names, and the rows of a book."""
+import functools
 import math
 from dataclasses import dataclass, field
 from fractions import Fraction
 
 from .message import Wrong, shown
-from .place import cells_in
+from .place import places_of
 from .text import csv_row, language_of
 
 SLOT = Fraction(8 * 51 * 120, 26_000)  # seconds
 MOST_CODE, MOST_BROADCASTS, MOST_UPDATES = 1023, 65535, 15
+# the cells, rows and octets of a book, the octets of a network book, and those of a cell's name and the space after it
+MOST_CELLS, MOST_ROWS, MOST_OCTETS, MOST_NETWORK_OCTETS, CELL_OCTETS = 64, 4096, 16_777_216, 67_108_864, 12
 PUBLIC_SAFETY, PRESIDENTIAL, ABDUCTION, TEST, EXERCISE = 4396, 4370, 4379, 4380, 4381
 # The identifiers of threats, by severity, urgency and certainty.
 THREATS = {
@@ -33,6 +36,15 @@ class Row:
     until: float
     over: bool
     text: str = ""
+    # the update number that it has, or in which it stops its item, and the info that it puts on the air
+    number: int = 0
+    info: tuple = None
+    # whether the program refuses it in all its cells
+    refused: bool = False
+
+    def octets(self):
+        """Returns how many octets it has at most."""
+        return self.item.octets + self.item.cells_octets + octets_of(self.text)
 
 
 @dataclass
@@ -48,25 +60,32 @@ class Item:
     period: int
     category: int
     rows: list = field(default_factory=list)
+    # how many octets its rows have at most beside their texts: of its cells, and of the rest
+    cells_octets: int = 0
+    octets: int = 0
     # whether what it takes the place of is stopped for it
     follows: bool = False
 
-    def until(self):
-        """Returns the slot from which it is no longer there."""
-        return self.rows[-1].until if self.rows else -math.inf
+    def last(self):
+        """Returns the last row that isn't refused, or None."""
+        return next((it for it in reversed(self.rows) if not it.refused), None)
 
     def is_there(self, slot):
-        return self.until() > slot
+        """Whether it is on the air in a slot, by its last row."""
+        last = self.last()
+        return last is not None and last.until > slot
 
     def updates(self):
         return sum(it.verb == "update" for it in self.rows)
 
-    def put(self, verb, slot, part):
-        """Adds a row that puts a part on the air."""
-        self.rows.append(Row(slot, verb, self, *lasting(part.end, slot, self.period), part.text))
+    def put(self, verb, slot, part, refused):
+        """Adds a row that puts a part on the air; of what is refused, names and update numbers are given."""
+        number = self.updates() + 1 if verb == "update" else 0
+        self.rows.append(Row(slot, verb, self, *lasting(part.end, slot, self.period), part.text, number, part.key,
+                             (self.name, number) in refused))
 
     def stop(self, slot):
-        self.rows.append(Row(slot, "stop", self, 0, slot, slot <= 0))
+        self.rows.append(Row(slot, "stop", self, 0, slot, slot <= 0, number=self.updates()))
 
 
 @dataclass
@@ -80,7 +99,8 @@ class Chain:
 class Part:
     """An info that is to be on the air."""
 
-    info: object
+    # its sender, its message's identifier, and its number
+    key: tuple
     identifier: int
     language: str
     cells: frozenset
@@ -106,6 +126,12 @@ def lasting(end, slot, period):
     return (0, math.inf, False) if count > MOST_BROADCASTS else (count, begin + count * period, False)
 
 
+@functools.lru_cache(maxsize=None)
+def octets_of(words):
+    """Returns how many octets words have as a field of CSV, at most."""
+    return len(words.encode()) + words.count('"') + 2
+
+
 def key_of(info):
     """Returns what tells the languages of a message apart."""
     word, own = language_of(info)
@@ -120,7 +146,7 @@ def slot_at(time, start):
 class Plan:
     """The rows of a book, as messages come."""
 
-    def __init__(self, options, policy, cells, codes, plan_map):
+    def __init__(self, options, policy, cells, codes, plan_map, known_codes=()):
         self.options, self.policy, self.cells, self.codes, self.map = options, policy, cells, codes, plan_map
         self.order = {it.name: at for at, it in enumerate(cells)}
         self.by_code = {}
@@ -128,23 +154,31 @@ class Plan:
             for name, values in cell.codes.items():
                 for value in values:
                     self.by_code.setdefault((name, value), set()).add(cell.name)
-        # names of the book that the program refuses in all of their cells, and writes that wait for what they follow
+        # what the program refuses in all its cells, by name and update number; writes that wait for what they follow
         self.refused, self.moved = set(), set()
         # the codes that names have had before
-        self.known_codes = {}
+        self.known_codes = dict(known_codes)
+        # where the infos of each message are to be on the air, and cells as the book has them
+        self.places, self.fields = {}, {}
         self.begin()
 
     def begin(self):
         """Forgets what was planned."""
-        self.chains, self.items, self.notes, self.without_cells = {}, [], [], False
+        self.chains, self.items, self.notes, self.without_cells = {}, [], {}, False
+        # the messages that count
+        self.taken = set()
         self.given = dict(self.known_codes)
         # a sender or an identifier may have a slash, as names of the book have
         self.named = {}
 
+    def anew(self):
+        """Returns an empty plan for the same cells."""
+        other = Plan(self.options, self.policy, self.cells, self.codes, self.map, self.known_codes)
+        other.places, other.fields = self.places, self.fields
+        return other
+
     def note(self, file, element, what):
-        line = f"note: {file}: {element}: {what}"
-        if line not in self.notes:
-            self.notes.append(line)
+        self.notes[f"note: {file}: {element}: {what}"] = True
 
     # --- Infos ---
 
@@ -163,16 +197,14 @@ class Plan:
             found = THREATS.get(threat, PUBLIC_SAFETY)
         return found if is_first else OTHER_LANGUAGE.get(found, found + 13)
 
-    def cells_of(self, message, info):
-        """Returns the cells of an info, and tells of codes that no cell may have."""
-        place, found, lacking = f"info {info.number}: ", set(), set()
-        for it in info.areas:
-            here, other = cells_in(it, self, place, self.options.joined)
-            found |= here
-            lacking |= other
-        if lacking:
-            self.note(message.file, f"{place}geocode", f"the cells have no column {' or '.join(sorted(lacking))}")
-        return frozenset(found)
+    def places_of(self, message):
+        """Returns where each info of a message is to be on the air; raises what is wrong with its areas."""
+        key = (message.sender, message.identifier)
+        if key not in self.places:
+            self.places[key] = places_of(message, self)
+        if isinstance(self.places[key], Wrong):
+            raise self.places[key]
+        return self.places[key]
 
     def end_of(self, message, info, slot, period):
         """Returns the slot at which an info expires, if it does, and tells what is odd about it."""
@@ -190,23 +222,24 @@ class Plan:
     def parts_of(self, message, prepared):
         """Returns the infos of a message that are to be on the air."""
         parts, first = [], key_of(message.infos[0])
-        for info in message.infos:
+        for info, place in zip(message.infos, self.places_of(message)):
             element = f"info {info.number}"
-            cells = self.cells_of(message, info)
-            if not cells:
+            if place.lacking:
+                self.note(message.file, f"{element}: geocode", f"the cells have no column {' or '.join(place.lacking)}")
+            if not place.cells:
                 self.note(message.file, f"{element}: area", "no cell comes into it")
                 self.without_cells = True
                 continue
             word, own = language_of(info)
             if word == "und" and own != "und":
                 self.note(message.file, f"{element}: language", f"'{shown(info.language)}' has no value: und")
-            text, notes = prepared[message.sender, message.identifier, info.number]
-            for it in notes:
+            key = (message.sender, message.identifier, info.number)
+            for it in prepared[key].notes:
                 self.note(message.file, element, it)
             identifier = self.identifier_of(message, info, key_of(info) == first)
             slot = slot_at(max(info.effective or message.sent, message.sent), self.options.start)
             end = self.end_of(message, info, slot, self.policy[identifier].period)
-            parts.append(Part(info, identifier, word, cells, slot, end, text))
+            parts.append(Part(key, identifier, word, place.cells, slot, end, prepared[key].text))
         return parts
 
     # --- Messages ---
@@ -229,15 +262,39 @@ class Plan:
             self.follow(message, chain, parts, now)
         elif found:
             self.cancel(message, chain, now)
-        if max(self.given.values(), default=0) > MOST_CODE:
+        lacking = self.lacks()
+        if lacking:
             del self.items[count:]
             self.given = given
             for it, rows in kept:
                 it.rows = rows
-            raise Wrong("identifier", f"there are {MOST_CODE} warnings already, as many as there are codes")
+            raise Wrong("identifier", lacking)
         self.join(found, chain)
         if message.kind != "Cancel":
             self.chains[key] = chain
+            self.taken.add(key)
+
+    def lacks(self):
+        """Returns what the book lacks for all that is planned, if it does."""
+        if max(self.given.values(), default=0) > MOST_CODE:
+            return f"there are {MOST_CODE} warnings already, as many as there are codes"
+        rows = [it for item in self.items for it in item.rows]
+        if len(rows) > MOST_ROWS // 2 or sum(it.octets() for it in rows) > MOST_OCTETS // 2:
+            return self.lacks_room(list(self.standing()))
+        return None
+
+    def lacks_room(self, rows):
+        """Returns what the book lacks for rows, if it does. A network's book has no more rows than one of a group."""
+        most, is_network = MOST_ROWS - min(len(self.cells), MOST_CELLS), len(self.cells) > MOST_CELLS
+        cells, every = sum(len(it.row) + 1 for it in self.cells), sum(it.octets() for it in rows)
+        group = sum(it.octets() - max(0, it.item.cells_octets - MOST_CELLS * CELL_OCTETS) for it in rows)
+        if len(rows) > most:
+            return f"there are {most:,} rows already, as many as a book has"
+        if cells + every > (MOST_NETWORK_OCTETS if is_network else MOST_OCTETS):
+            return "the book has as many octets already as it may"
+        if is_network and MOST_CELLS * (CELL_OCTETS + 5) + group > MOST_OCTETS:
+            return "the book of a group of cells has as many octets already as it may"
+        return None
 
     def passed_over(self, message):
         """Whether a message is passed over, which is told."""
@@ -282,7 +339,7 @@ class Plan:
 
     def cancel(self, message, chain, now):
         """Stops all of a chain that is there."""
-        there = [it for it in chain.items if it.is_there(now) and it.name not in self.refused]
+        there = [it for it in chain.items if it.is_there(now)]
         if not there:
             self.note(message.file, "references", "nothing of it is on the air")
         for item in there:
@@ -291,7 +348,7 @@ class Plan:
     def follow(self, message, chain, parts, now):
         """Plans an alert or an update: what is on the air with the same identifier, cells and language is updated,
         other messages of the chain are stopped, and the rest is written."""
-        left = [it for it in chain.items if it.is_there(now) and it.name not in self.refused]
+        left = [it for it in chain.items if it.is_there(now)]
         writes = []
         for part in parts:
             item = next((it for it in left if self.goes_on(it, part)), None)
@@ -299,7 +356,7 @@ class Plan:
                 writes.append(part)
                 continue
             left.remove(item)
-            item.put("update", part.slot, part)
+            item.put("update", part.slot, part, self.refused)
         made = [self.write(message, chain, part, left) for part in writes]
         starts = [it.rows[0].slot for it in made if it.rows]
         for item in left:
@@ -315,15 +372,16 @@ class Plan:
     def write(self, message, chain, part, stopped):
         """Plans a new name of the book."""
         policy = self.policy[part.identifier]
-        name = f"{message.sender}/{message.identifier}/{part.info.number}"
+        name = f"{message.sender}/{message.identifier}/{part.key[2]}"
         code = self.given.setdefault(name, max(self.given.values(), default=0) + 1)
         item = Item(name, part.identifier, code, part.language, part.cells, len(self.items), policy.period,
                     policy.category)
+        item.cells_octets, item.octets = len(self.cells_field(item)), 60 + octets_of(name)
         self.items.append(item)
         chain.items.append(item)
         item.follows = bool(stopped)
         if not part.is_dead():
-            item.put("write", self.slot_with_room(message, item, part, stopped), part)
+            item.put("write", self.slot_with_room(message, item, part, stopped), part, self.refused)
         return item
 
     def slot_with_room(self, message, item, part, stopped):
@@ -331,47 +389,47 @@ class Plan:
         place of has left."""
         if item.name not in self.moved:
             return part.slot
-        ends = [it.rows[-1].slot + math.ceil(Fraction(part.slot - it.rows[-1].slot, it.period)) * it.period
-                for it in stopped if it.rows[-1].slot <= part.slot]
+        begins = [(it.last().slot, it.period) for it in stopped]
+        ends = [slot + math.ceil(Fraction(part.slot - slot, period)) * period
+                for slot, period in begins if slot <= part.slot]
         slot = max(ends, default=part.slot)
         if slot > part.slot:
-            self.note(message.file, f"info {part.info.number}", f"it has no room before slot {slot}, and begins then")
+            self.note(message.file, f"info {part.key[2]}", f"it has no room before slot {slot}, and begins then")
         return slot
 
     # --- Rows ---
 
+    def standing(self):
+        """Yields the rows that the book has, or would have if its run were longer."""
+        for item in self.items:
+            if item.rows and item.rows[-1].until > 0:
+                # what phones have had before the run stays, up to what is on the air
+                last = max((at for at, it in enumerate(item.rows) if not it.over), default=-1)
+                yield from item.rows[:last + 1]
+
     def rows(self):
         """Returns the rows of the book, in their order."""
         found = []
-        for item in self.items:
-            if item.until() <= 0:
-                continue
-            # what phones have had before the run stays, up to what is on the air
-            last = max((at for at, it in enumerate(item.rows) if not it.over), default=-1)
-            for it in item.rows[:last + 1]:
-                if max(it.slot, 0) < self.options.slots:
-                    found.append(it)
-                else:
-                    self.note(item.name, it.verb, f"slot {it.slot} is past the end of the run")
+        for it in self.standing():
+            if max(it.slot, 0) < self.options.slots:
+                found.append(it)
+            else:
+                self.note(it.item.name, it.verb, f"slot {it.slot} is past the end of the run")
         return sorted(found, key=lambda it: (max(it.slot, 0), it.verb != "stop", it.item.identifier, it.item.arrival))
 
     def cells_field(self, item):
-        if len(item.cells) == len(self.cells):
-            return "*"
-        return " ".join(sorted(item.cells, key=self.order.get))
+        """Returns the cells of an item as the book has them."""
+        if item.cells not in self.fields:
+            every = len(item.cells) == len(self.cells)
+            self.fields[item.cells] = "*" if every else " ".join(sorted(item.cells, key=self.order.get))
+        return self.fields[item.cells]
 
-    def line(self, row):
-        """Returns a row as CSV."""
-        item, slot = row.item, max(row.slot, 0)
-        cells = self.cells_field(item)
+    def line(self, row, cells=None):
+        """Returns a row as CSV; with cells in the place of its own, if they are given."""
+        item, slot, cells = row.item, max(row.slot, 0), cells or self.cells_field(row.item)
         what = [item.language, item.category, item.period, row.broadcasts, cells, row.text]
         if row.verb == "write":
             return csv_row(["write", slot, item.name, item.identifier, 1, item.code, *what])
         if row.verb == "update":
             return csv_row(["update", slot, item.name, *what])
         return csv_row(["stop", slot, item.name, cells])
-
-    def book(self):
-        """Returns the book in octets."""
-        lines = [f"{it.row}\n" for it in self.cells] + [self.line(it) for it in self.rows()]
-        return "".join(lines).encode()

@@ -33,16 +33,8 @@ def read(path):
         raise StateFault(f"{path}: it isn't what warnc-cap writes: {fault}") from None
 
 
-def write(path, kept, codes):
-    """Writes the state anew as a whole, if there is to be one."""
-    if path is None:
-        return
+def text_of(kept, codes):
+    """Returns the state of messages, given with their octets, and of the codes of names."""
     held = {"version": VERSION, "codes": codes,
             "messages": [{"file": it.file, "message": octets.decode()} for octets, it in kept]}
-    try:
-        with open(f"{path}.new", "w", encoding="utf-8") as file:
-            json.dump(held, file, ensure_ascii=False, indent=1)
-            file.write("\n")
-        os.replace(f"{path}.new", path)
-    except OSError as fault:
-        raise StateFault(f"{path}: {fault.strerror}") from None
+    return json.dumps(held, ensure_ascii=False, indent=1) + "\n"

@@ -4,6 +4,7 @@ import io
 import re
 import subprocess
 import unicodedata
+from dataclasses import dataclass
 
 # Characters that a plain one stands for, if the text needs no other alphabet then.
 PLAIN = str.maketrans({
@@ -24,6 +25,25 @@ MOST_TEXTS, MOST_CHARACTERS = 4000, 3_000_000
 
 class NoProgram(Exception):
     """The program can't be run, or doesn't do what it does elsewhere."""
+
+
+@dataclass(frozen=True)
+class Prepared:
+    """The text of an info that is sent, how many characters are cut off, and what is to be told of it."""
+
+    text: str
+    cut: int
+    notes: list
+
+
+@dataclass(frozen=True)
+class Wanted:
+    """All that phones are to show of an info. If it begins with a headline and an instruction, how long these are."""
+
+    text: str
+    headline: int = 0
+    instruction: int = 0
+    is_event: bool = False
 
 
 def run(program, words, octets):
@@ -54,15 +74,22 @@ def spaced(text):
     return re.sub(r"[ \t\r\n]+", " ", text).strip(" ")
 
 
-def whole_text(info):
-    """Returns all that phones are to show of an info, and whether it is the event alone."""
+def composed(text):
+    """Returns text in Unicode's form NFC, with its white space as single spaces."""
+    return unicodedata.normalize("NFC", spaced(text))
+
+
+def wanted_of(info):
+    """Returns all that phones are to show of an info."""
     for name in ("CMAMlongtext", "CMAMtext"):
-        text = spaced(info.parameters.get(name, ""))
+        text = composed(info.parameters.get(name, ""))
         if text:
-            return unicodedata.normalize("NFC", text), False
-    parts = [spaced(it) for it in (info.headline, info.instruction, info.description)]
-    text = "\n".join(it for it in parts if it)
-    return unicodedata.normalize("NFC", text or spaced(info.event)), not text
+            return Wanted(text)
+    headline, instruction, description = (composed(it) for it in (info.headline, info.instruction, info.description))
+    text = "\n".join(it for it in (headline, instruction, description) if it)
+    if not text:
+        return Wanted(composed(info.event), is_event=True)
+    return Wanted(text, len(headline), len(instruction)) if headline and instruction else Wanted(text)
 
 
 def costs_of(program, pages, texts):
@@ -85,29 +112,64 @@ def costs_of(program, pages, texts):
     return found
 
 
-def prepare(program, infos):
-    """Returns the texts of infos, each with its number of pages at most, and what is to be told of each.
+def with_instructions(program, pages, pairs):
+    """Returns a text of each pair of a headline and an instruction that are too long together: the headline is cut, so
+    that the instruction is whole, or if that is too long alone, its front.
 
-    Infos are pairs of an info and a number of pages.
+    The program costs the headline after the instruction. As no page ends within two septets of one character, it is
+    asked again whether they take as many pages the other way round.
     """
+    costs = costs_of(program, pages, [f"{instruction}\n{headline}" for headline, instruction in pairs])
+    fronts = [max(0, fits - len(instruction) - 1) for (_, instruction), (_, fits) in zip(pairs, costs)]
+    while True:
+        made = [f"{headline[:front]}\n{instruction}" if front else instruction[:fits]
+                for (headline, instruction), front, (_, fits) in zip(pairs, fronts, costs)]
+        again = costs_of(program, pages, made)
+        long = [at for at, (_, fits) in enumerate(again) if fits < len(made[at])]
+        if not long:
+            return made
+        for at in long:
+            fronts[at] = max(0, pairs[at][0].rfind(" ", 0, fronts[at]))
+
+
+def sent_of(program, pages, wanted):
+    """Returns what is sent of texts, each with what it would be if nothing were cut, and whether its quotes, dashes and
+    spaces are plain ones."""
+    sendable = ["".join(it if it <= "\uffff" else "?" for it in one.text) for one in wanted]
+    plain = [it.translate(PLAIN) for it in sendable]
+    costs = costs_of(program, pages, sendable + plain)
+    found, pairs = [], {}
+    for at, one in enumerate(wanted):
+        text, (_, fits) = sendable[at], costs[at]
+        coding, fits_plain = costs[len(wanted) + at]
+        is_plain = coding.startswith("GSM") and plain[at] != text
+        if is_plain:
+            text, fits = plain[at], fits_plain
+        found.append((text[:fits], text, is_plain))
+        end = one.headline + 1 + one.instruction
+        if one.instruction and fits < end:
+            pairs[at] = (text[:one.headline], text[one.headline + 1:end])
+    for at, text in zip(pairs, with_instructions(program, pages, list(pairs.values())) if pairs else []):
+        found[at] = (text, *found[at][1:])
+    return found
+
+
+def prepare(program, infos):
+    """Prepares the texts of infos, which are pairs of an info and a number of pages at most."""
     made, by_pages = [None] * len(infos), {}
-    for at, (info, pages) in enumerate(infos):
+    for at, (_, pages) in enumerate(infos):
         by_pages.setdefault(pages, []).append(at)
     for pages, places in by_pages.items():
-        whole = [whole_text(infos[at][0]) for at in places]
-        sendable = ["".join(it if it <= "\uffff" else "?" for it in text) for text, _ in whole]
-        plain = [it.translate(PLAIN) for it in sendable]
-        costs = costs_of(program, pages, sendable + plain)
-        for place, at in enumerate(places):
-            notes = ["it has no text but its event"] if whole[place][1] else []
-            if sendable[place] != whole[place][0]:
+        wanted = [wanted_of(infos[at][0]) for at in places]
+        for at, one, (text, uncut, is_plain) in zip(places, wanted, sent_of(program, pages, wanted)):
+            notes = ["it has no text but its event"] if one.is_event else []
+            if any(it > "\uffff" for it in one.text):
                 notes.append("characters that no page can have are written as ?")
-            text, (_, fits) = sendable[place], costs[place]
-            coding, fits_plain = costs[len(places) + place]
-            if coding.startswith("GSM") and plain[place] != text:
-                text, fits = plain[place], fits_plain
+            if is_plain:
                 notes.append("quotes, dashes and spaces are written as plain ones, as the text is GSM 7-bit then")
-            if fits < len(text):
-                notes.append(f"its text is cut from {len(text)} to {fits} characters, {pages} pages")
-            made[at] = text[:fits], notes
+            if text != uncut:
+                way = "" if uncut.startswith(text) else ": the headline gives way to the instruction"
+                many = "page" if pages == 1 else "pages"
+                notes.append(f"its text is cut from {len(uncut)} to {len(text)} characters, {pages} {many}{way}")
+            made[at] = Prepared(text, len(uncut) - len(text), notes)
     return made

@@ -1,0 +1,192 @@
+"""Runs of a book by the program: what becomes of each row, and what `check` remarks.
+
+What a cell does depends on its own rows alone. So of the cells that have the same rows one is run, and each run has as
+many cells as a book. A cell whose rows were run before isn't run again.
+"""
+import csv
+import io
+import os
+from concurrent.futures import ThreadPoolExecutor
+from dataclasses import dataclass, field
+
+from .plan import MOST_CELLS
+from .text import NoProgram, run
+
+# What a BSC says of an order that it refuses (3GPP TS 48.049, 8.2.3, Cause), as far as a book can have it.
+CAUSES = {"02": "message reference not identified", "06": "BSC capacity exceeded", "0a": "past the end of the run",
+          "0d": "message reference already used"}
+STOP = "stop"
+
+
+@dataclass
+class Outcome:
+    """What becomes of a row in its cells: how many do it, and how many refuse it by cause; of a text how many pages it
+    has, after which slots the first and the last phone show it, and in how many cells none does."""
+
+    done: int = 0
+    refused: dict = field(default_factory=dict)
+    pages: str = ""
+    first: int = None
+    last: int = None
+    unshown: int = 0
+
+    def add(self, cause, pages, shown, cells):
+        """Adds what became of it in a number of cells that are alike."""
+        self.pages = self.pages or pages
+        if cause:
+            self.refused[cause] = self.refused.get(cause, 0) + cells
+            return
+        self.done += cells
+        if shown is None:
+            self.unshown += cells
+        else:
+            self.first = shown if self.first is None else min(self.first, shown)
+            self.last = shown if self.last is None else max(self.last, shown)
+
+
+@dataclass
+class Remarks:
+    """What `check` says of a row: the cells that it leaves out, the slot at which it is done at last, and the rest."""
+
+    left_out: list = field(default_factory=list)
+    done: int = 0
+    others: dict = field(default_factory=dict)
+
+
+def key_of(row):
+    """Returns by what a row is known in a report: its code, and its update number, or that it is a stop."""
+    return row.item.code, STOP if row.verb == "stop" else row.number
+
+
+def table_of(octets):
+    """Returns the rows of a table that the program writes, behind the names of its columns. A name may be long."""
+    before = csv.field_size_limit(len(octets) + 1)
+    try:
+        return list(csv.reader(io.StringIO(octets.decode(), newline="")))[1:]
+    finally:
+        csv.field_size_limit(before)
+
+
+def alike(plan, rows):
+    """Returns the names of cells by the places of the rows that they have."""
+    having = {it.name: [] for it in plan.cells}
+    for place, row in enumerate(rows):
+        for name in row.item.cells:
+            having[name].append(place)
+    found = {}
+    for name, places in having.items():
+        found.setdefault(tuple(places), []).append(name)
+    return found
+
+
+def part_of(plan, rows, chosen):
+    """Returns a book of some cells, each given with the places of its rows, and the places of the rows that it has."""
+    cells = {}
+    for name, places in chosen:
+        for it in places:
+            cells.setdefault(it, []).append(name)
+    kept = sorted(cells)
+    lines = [f"cell,{name.replace('-', ',')}\n" for name, _ in chosen]
+    lines += [plan.line(rows[it], " ".join(cells[it])) for it in kept]
+    return "".join(lines).encode(), kept
+
+
+class Runner:
+    """The program, a number of slots, and what became of the rows of cells that were run."""
+
+    def __init__(self, program, slots):
+        self.program, self.slots = program, slots
+        # a cell without rows does nothing
+        self.known, self.words = {(): {}}, {}
+
+    def every(self, function, parts):
+        """Returns what a function makes of each part, several side by side."""
+        with ThreadPoolExecutor(len(os.sched_getaffinity(0))) as pool:
+            return list(pool.map(function, parts))
+
+    def said(self, words, book):
+        """Returns the rows of the table that a command writes of a book."""
+        status, table, fault = run(self.program, [*words, "--slots", str(self.slots)], book)
+        if status:
+            raise NoProgram(f"{self.program} {words[0]}: {fault}\n{table.decode(errors='replace')}".strip())
+        return table_of(table)
+
+    # --- report ---
+
+    def outcomes(self, plan, rows):
+        """Returns what becomes of the rows of a book, by code and update number."""
+        texts = [self.words.setdefault(plan.line(it, "*"), len(self.words)) for it in rows]
+        cells = {places: (names, tuple(texts[it] for it in places)) for places, names in alike(plan, rows).items()}
+        new = {key: (names[0], places) for places, (names, key) in cells.items() if key not in self.known}
+        chosen = list(new.items())
+        parts = [chosen[it:it + MOST_CELLS] for it in range(0, len(chosen), MOST_CELLS)]
+        for part, found in zip(parts, self.every(lambda it: self.reported(plan, rows, [one for _, one in it]), parts)):
+            self.known.update({key: found[name] for key, (name, _) in part})
+        made = {}
+        for names, key in cells.values():
+            for which, (cause, pages, shown) in self.known[key].items():
+                made.setdefault(which, Outcome()).add(cause, pages, shown, len(names))
+        return made
+
+    def reported(self, plan, rows, chosen):
+        """Runs some cells, and returns what became of the rows of each, by code and update number."""
+        found = {name: {} for name, _ in chosen}
+        for row in self.said(["report", "--full"], part_of(plan, rows, chosen)[0]):
+            serial, pages = int(row[3], 16), row[9]
+            cause = row[7].removeprefix("refused ") if row[7].startswith("refused ") else ""
+            # a stop has no pages
+            which = (serial >> 4 & 1023, serial & 15 if pages else STOP)
+            found[f"{row[0]}-{row[1]}"][which] = (cause, pages, int(row[8]) if row[8] else None)
+        return found
+
+    # --- check ---
+
+    def remarks(self, plan, rows, book):
+        """Returns what `check` remarks of the rows of a book, by their places."""
+        if len(plan.cells) <= MOST_CELLS:
+            parts = [(book, range(len(rows)), len(plan.cells), {it.name: [it.name] for it in plan.cells})]
+        else:
+            status, _, fault = run(self.program, ["groups"], book)
+            if status:
+                raise NoProgram(f"{self.program} groups: {fault}")
+            parts = self.parts(plan, rows)
+        made = {}
+        for part, said in zip(parts, self.every(lambda it: self.checked(plan, rows, *it[:3]), parts)):
+            gather(made, rows, part, said)
+        return made
+
+    def parts(self, plan, rows):
+        """Returns the book in parts that each have as many cells as a book may: one of those that are alike."""
+        every = list(alike(plan, rows).items())
+        made = []
+        for begin in range(0, len(every), MOST_CELLS):
+            chosen = every[begin:begin + MOST_CELLS]
+            book, kept = part_of(plan, rows, [(names[0], places) for places, names in chosen])
+            made.append((book, kept, len(chosen), {names[0]: names for _, names in chosen}))
+        return made
+
+    def checked(self, plan, rows, book, kept, cells):
+        """Returns what `check` remarks of a book, which has some rows: the place of each, and what is said. A fault is
+        one of this program."""
+        status, table, fault = run(self.program, ["check", "--slots", str(self.slots)], book)
+        lines = table_of(table)
+        if status:
+            where = [int(it[0]) - 1 - cells for it in lines if it[0].isdigit()]
+            row = plan.line(rows[kept[where[0]]]).strip()[:200] if where and 0 <= where[0] < len(kept) else ""
+            raise NoProgram(f"{self.program} check: {fault}: {' '.join(lines[0][5:]) if lines else ''}: {row}")
+        return [(kept[int(it[0]) - 1 - cells], it[3]) for it in lines if it[0]]
+
+
+def gather(made, rows, part, said):
+    """Adds what `check` says of a part of a book to what it remarks of the whole rows."""
+    names = part[3]
+    for place, what in said:
+        one = made.setdefault(place, Remarks())
+        if what.startswith("leaves out "):
+            one.left_out += [it for name in what.split(" ")[2:] for it in names[name]]
+        elif what == "orders nothing":
+            one.left_out += [it for name, every in names.items() if name in rows[place].item.cells for it in every]
+        elif what.startswith("done at slot "):
+            one.done = max(one.done, int(what.rpartition(" ")[2]))
+        elif not what.startswith("refused in "):
+            one.others[what] = True
