@@ -2,8 +2,9 @@
 """Tries warnc-cap: on samples of the standard and others, on the cases of cases.txt, on random days that days.py
 judges, and on messages that are spoilt.
 
-Usage: test.py PROGRAM [RUNS]    PROGRAM is a built `warnc`; so many messages are spoilt, 2,000 if it isn't given
-       test.py --help            prints this
+Usage: test.py PROGRAM [RUNS [DAYS]]    PROGRAM is a built `warnc`; so many messages are spoilt, 2,000 if it isn't
+                                        given, and there are so many random days, 500 if it isn't
+       test.py --help                   prints this
 
 A folder of samples/ has messages, cells, a policy and the words of the call, and what was worked out by hand: the book,
 the status, and the files and elements that are told. cases.txt says how its cases are written.
@@ -29,7 +30,9 @@ COMMAND = os.path.join(HERE, "warnc-cap")
 START = datetime(2026, 3, 1, tzinfo=timezone.utc)
 # no call takes longer, in seconds
 MOST_SECONDS = 20
-DAYS = 500
+RUNS, DAYS = 2000, 500
+# a crowded day is as much work as several others, and a network's too
+DAYS_A_CROWDED = 4
 
 
 def ran(program, words, folder):
@@ -279,21 +282,32 @@ def spoilt_runs(program, runs):
     return good
 
 
+def crowded_days(program, count):
+    """Whether crowded days and networks come out as they should; there has to be something refused and moved."""
+    found = [days.crowded_differs(it, program) for it in range(count)]
+    writes, updates, waiting = (sum(it[at] for it in found) for at in (1, 2, 3))
+    wrong = sum(it[0] for it in found) + sum([days.network_differs(it, program) for it in range(count)])
+    print(f"cap/test.py: {count} crowded days: {writes} writes and {updates} updates have no room, {waiting} wait for it")
+    return not wrong and (count < 50 or min(writes, updates, waiting) > 0)
+
+
 def main(words):
-    if words in ([], ["-h"], ["--help"]) or len(words) > 2 or len(words) == 2 and not words[1].isdigit():
+    if words in ([], ["-h"], ["--help"]) or len(words) > 3 or not all(it.isdigit() for it in words[1:]):
         print(__doc__)
         return 0 if words in (["-h"], ["--help"]) else 2
-    program, runs = os.path.abspath(words[0]), int(words[1]) if len(words) == 2 else 2000
+    program = os.path.abspath(words[0])
+    runs, count = [*map(int, words[1:]), *(RUNS, DAYS)[len(words) - 1:]]
     folders = sorted(os.path.join(HERE, "samples", it) for it in os.listdir(os.path.join(HERE, "samples")))
     with ThreadPoolExecutor(len(os.sched_getaffinity(0))) as pool:
         jobs = [pool.submit(sample, program, it) for it in folders]
         jobs += [pool.submit(case, program, name, lines) for name, lines in cases()]
-        jobs.append(pool.submit(lambda: not any([days.differs(it) for it in range(DAYS)])))
+        jobs.append(pool.submit(lambda: not any([days.differs(it, program) for it in range(count)])))
+        jobs.append(pool.submit(crowded_days, program, count // DAYS_A_CROWDED))
         jobs.append(pool.submit(days.keeps_chains))
         jobs.append(pool.submit(two_days, program))
         jobs.append(pool.submit(spoilt_runs, program, runs))
         failed = sum(not it.result() for it in jobs)
-    counts = f"{len(jobs) - 4} cases, two days, {DAYS} random days and {runs} spoilt messages"
+    counts = f"{len(jobs) - 5} cases, two days, {count} random days and {runs} spoilt messages"
     print(f"cap/test.py: {counts}, {failed} failed")
     return 1 if failed else 0
 
