@@ -1,8 +1,8 @@
 """Random days of messages, and what is on the air in each cell at each slot, found in another way than by warnc_cap.
 
-The second program keeps what is on the air as intervals of slots; it reads no line of a book but to compare. Of crowded
-days, whose warnings haven't all room, it is told what cells refuse, as `report` has it, and goes on from there. Networks
-are run as a whole and group by group, and not one cell of those that are alike.
+The second program keeps what is on the air as intervals of slots; it reads no line of a book but to compare. Of
+crowded days, whose warnings haven't all room, it is told what cells refuse, as `report` has it, and goes on from there.
+Networks are run as a whole and group by group, and not one cell of those that are alike.
 """
 import csv
 import io

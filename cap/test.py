@@ -18,6 +18,7 @@ import sys
 import tempfile
 import time
 from concurrent.futures import ThreadPoolExecutor
+from dataclasses import dataclass
 from datetime import datetime, timedelta, timezone
 
 sys.dont_write_bytecode = True
@@ -28,6 +29,7 @@ from warnc_cap import message  # noqa: E402
 
 COMMAND = os.path.join(HERE, "warnc-cap")
 START = datetime(2026, 3, 1, tzinfo=timezone.utc)
+RECEIPT = "sender,identifier,info,id,serial,cells,pages,first_shown,shown_in_all,refused,cut,unwarned_areas"
 # no call takes longer, in seconds
 MOST_SECONDS = 20
 RUNS, DAYS = 2000, 500
@@ -92,18 +94,17 @@ def pair(name, key, value):
 def info_of(words):
     """Returns an info of the words of a line."""
     given = {"threat": "Extreme,Immediate,Observed", "event": "Flood"}
-    codes, areas = "", ""
-    for it in words:
+    codes, areas, name = "", "", "area"
+    for it in [*words, "area="]:
         key, _, value = it.partition("=")
-        if key in ("polygon", "circle"):
-            areas += element("area", element("areaDesc", "area") + element(key, value) + codes)
-            codes = ""
+        if key in ("polygon", "circle", "area"):
+            shape = "" if key == "area" else element(key, value)
+            areas += element("area", element("areaDesc", name) + shape + codes) if shape or codes else ""
+            codes, name = "", value if key == "area" else name
         elif len(key) == 1:
             codes += pair("geocode", key, value)
         else:
             given[key] = value
-    if codes:
-        areas += element("area", element("areaDesc", "area") + codes)
     severity, urgency, certainty = given["threat"].split(",")
     parts = [element("language", given["lang"])] if "lang" in given else []
     parts += [element("event", given["event"]), element("urgency", urgency), element("severity", severity),
@@ -148,13 +149,13 @@ def put(folder, name, text):
 
 def case(program, name, lines):
     """Whether a case comes out as it is written."""
-    words, status, told, book = [], 0, [], []
+    words, status, told, book, receipt = [], 0, [], [], []
     with tempfile.TemporaryDirectory() as folder:
         os.mkdir(os.path.join(folder, "cap"))
         for line in map(repeated, lines):
             key, _, rest = line.partition(" ")
             if key in ("cells", "policy"):
-                put(folder, f"{key}.csv", "".join(f"{it}\n" for it in rest.split()))
+                put(folder, f"{key}.csv", "".join(f"{it.replace('_', ' ')}\n" for it in rest.split()))
                 words += ["--policy", "policy.csv"] if key == "policy" else []
             elif key == "words":
                 words += shlex.split(rest)
@@ -164,6 +165,8 @@ def case(program, name, lines):
                 told.append(rest)
             elif key == "row":
                 book.append(rest.replace("\\n", "\n") + "\n")
+            elif key == "receipt":
+                receipt.append(rest + "\n")
             elif key == "octets":
                 file, _, text = rest.partition(" ")
                 put(os.path.join(folder, "cap"), file, text)
@@ -174,41 +177,89 @@ def case(program, name, lines):
                 put(os.path.join(folder, "cap"), *message_of(line))
         cells = [f"cell,{','.join(it.split(',')[:2])}\n" for it in read(folder, "cells.csv").splitlines()[1:]]
         slots = [] if "--slots" in words else ["--slots", "4096"]
+        slots += ["--receipt", "receipt.csv"] if receipt else []
         found = ran(program, ["--cells", "cells.csv", "--start", START.isoformat(), *slots, *words, "cap"], folder)
-    return judge(name, found, status, "".join(cells + book), told)
+        good = not receipt or has_receipt(name, folder, receipt)
+    return judge(name, found, status, "".join(cells + book), told) and good
 
 
-# --- Two days ---
+def has_receipt(name, folder, lines):
+    """Whether a call wrote a receipt; prints what it wrote if not."""
+    found, wanted = read(folder, "receipt.csv"), f"{RECEIPT}\n{''.join(lines)}"
+    if found != wanted:
+        print(f"cap/test.py: {name}: the receipt is\n{found}and not\n{wanted}")
+    return found == wanted
+
+
+# --- Several days ---
 
 DAY = 86400
-# Of a day its messages, and the rows of its book. D was sent before B, and comes after it: it takes the next code. The
-# second day begins in slot 45,883 of the first.
-TWO_DAYS = (
-    (0, ("alert A 3600 | headline=One Z=a", "alert B 7200 | headline=Two Z=a expires=9000"),
-     ("write,1912,w@x.example/A/1,4371,1,1,en,0,64,0,*,One", "write,3824,w@x.example/B/1,4371,1,2,en,0,64,15,*,Two")),
-    (DAY, ("update C 90000 of=A | headline=Three Z=a", "alert D 3700 | headline=Late Z=a"),
-     ("write,0,w@x.example/A/1,4371,1,1,en,0,64,0,*,One", "write,0,w@x.example/D/1,4371,1,3,en,0,64,0,*,Late",
-      "update,1912,w@x.example/A/1,en,0,64,0,*,Three")),
-    (DAY * 2, (), ("write,0,w@x.example/A/1,4371,1,1,en,0,64,0,*,One",
-                   "update,0,w@x.example/A/1,en,0,64,0,*,Three",
-                   "write,0,w@x.example/D/1,4371,1,3,en,0,64,0,*,Late")),
+
+
+@dataclass
+class Call:
+    """A call: its start, its messages, the rows of its book, those of them that are new, what is told of rows that are
+    there no longer, and the receipt."""
+
+    start: int
+    messages: tuple
+    rows: tuple
+    new: tuple
+    gone: tuple
+    receipt: tuple
+
+
+WRITE_A = "write,0,w@x.example/A/1,4371,1,1,en,0,64,0,*,One"
+UPDATE_A = "update,1912,w@x.example/A/1,en,0,64,0,*,Three"
+WRITE_D = "write,0,w@x.example/D/1,4371,1,3,en,0,64,0,*,Late"
+STOP_A = "stop,1859,w@x.example/A/1,*"
+WRITE_C = "write,1912,w@x.example/C/1,4371,1,4,en,0,64,0,*,Three"
+# D was sent before B, and comes after it: it takes the next code. The second day begins in slot 45,883 of the first.
+# On it the Cancel E comes late: it was sent before the Update C (3,500 s are slot 1,859: 1,858.7), so that C, which
+# updates nothing then, is a write. On the third day A is over, and C and D are on the air. A page of A is in slot 0 of
+# each 64, and one of D in slot 1.
+CALLS = (
+    Call(0, ("alert A 3600 | headline=One Z=a", "alert B 7200 | headline=Two Z=a expires=9000"),
+         ("write,1912,w@x.example/A/1,4371,1,1,en,0,64,0,*,One",
+          "write,3824,w@x.example/B/1,4371,1,2,en,0,64,15,*,Two"),
+         ("write,1912,w@x.example/A/1,4371,1,1,en,0,64,0,*,One",
+          "write,3824,w@x.example/B/1,4371,1,2,en,0,64,15,*,Two"), (),
+         ("A,1,4371,4010,1,1,1912,1912,0,0,", "B,1,4371,4020,1,1,3824,3824,0,0,")),
+    Call(DAY, ("update C 90000 of=A | headline=Three Z=a", "alert D 3700 | headline=Late Z=a"),
+         (WRITE_A, WRITE_D, UPDATE_A), (WRITE_D, UPDATE_A), (),
+         ("A,1,4371,4010,1,1,0,0,0,0,", "D,1,4371,4030,1,1,1,1,0,0,", "B,1,,,,,,,,,",
+          "C,1,4371,4011,1,1,1912,1912,0,0,")),
+    Call(DAY, (), (WRITE_A, WRITE_D, UPDATE_A), (), (),
+         ("A,1,4371,4010,1,1,0,0,0,0,", "D,1,4371,4030,1,1,1,1,0,0,", "B,1,,,,,,,,,",
+          "C,1,4371,4011,1,1,1912,1912,0,0,")),
+    Call(DAY, ("cancel E 89900 of=A",), (WRITE_A, WRITE_D, STOP_A, WRITE_C), (STOP_A, WRITE_C),
+         ("w@x.example/A/1: update",),
+         ("A,1,4371,4010,1,1,0,0,0,0,", "D,1,4371,4030,1,1,1,1,0,0,", "B,1,,,,,,,,,",
+          "C,1,4371,4040,1,1,1912,1912,0,0,")),
+    Call(DAY * 2, (), (WRITE_D, "write,0,w@x.example/C/1,4371,1,4,en,0,64,0,*,Three"), (), (),
+         ("A,1,,,,,,,,,", "D,1,4371,4030,1,1,0,0,0,0,", "B,1,,,,,,,,,", "C,1,4371,4040,1,1,1,1,0,0,")),
 )
 
 
-def two_days(program):
-    """Whether what one call keeps goes on in the next: messages, and codes of names."""
+def several_calls(program, since):
+    """Whether what one call keeps goes on in the next: messages, and codes of names. With `since` only rows that are
+    new are written, and what is there no longer is told."""
     good = True
     with tempfile.TemporaryDirectory() as folder:
         put(folder, "cells.csv", "lac,ci,lat,lon,radius,Z\n1,1,,,,a\n")
-        for start, messages, rows in TWO_DAYS:
+        for number, call in enumerate(CALLS):
             names = []
-            for line in messages:
+            for line in call.messages:
                 names.append(message_of(line)[0])
                 put(folder, *message_of(line))
-            words = ["--cells", "cells.csv", "--start", at(start), "--slots", "9000", "--state", "state.json", *names]
-            status, book, _ = ran(program, words, folder)
-            good = judge(f"day of {start}", (status, book, []), 0, "".join(f"{it}\n" for it in ("cell,1,1", *rows)),
-                         []) and good
+            words = ["--cells", "cells.csv", "--start", at(call.start), "--slots", "9000", "--state", "state.json",
+                     "--receipt", "receipt.csv", *names, *(["--since"] if since else [])]
+            status, book, told = ran(program, words, folder)
+            name, rows = f"call {number}", call.new if since else call.rows
+            gone = [it for it in told if "no longer" in it]
+            good = judge(name, (status, book, gone), 0, "".join(f"{it}\n" for it in ("cell,1,1", *rows)),
+                         call.gone if since else []) and good
+            good = has_receipt(name, folder, [f"w@x.example,{it}\n" for it in call.receipt]) and good
         for wrong in ("", "{}", "[1]", '{"version": 1, "codes": {"a": "b"}, "messages": []}', "[" * 100_000):
             put(folder, "state.json", wrong)
             status, book, lines = ran(program, words, folder)
@@ -287,7 +338,7 @@ def crowded_days(program, count):
     found = [days.crowded_differs(it, program) for it in range(count)]
     writes, updates, waiting = (sum(it[at] for it in found) for at in (1, 2, 3))
     wrong = sum(it[0] for it in found) + sum([days.network_differs(it, program) for it in range(count)])
-    print(f"cap/test.py: {count} crowded days: {writes} writes and {updates} updates have no room, {waiting} wait for it")
+    print(f"cap/test.py: {count} crowded days: {writes} writes and {updates} updates have no room, {waiting} wait")
     return not wrong and (count < 50 or min(writes, updates, waiting) > 0)
 
 
@@ -304,10 +355,10 @@ def main(words):
         jobs.append(pool.submit(lambda: not any([days.differs(it, program) for it in range(count)])))
         jobs.append(pool.submit(crowded_days, program, count // DAYS_A_CROWDED))
         jobs.append(pool.submit(days.keeps_chains))
-        jobs.append(pool.submit(two_days, program))
+        jobs += [pool.submit(several_calls, program, it) for it in (False, True)]
         jobs.append(pool.submit(spoilt_runs, program, runs))
         failed = sum(not it.result() for it in jobs)
-    counts = f"{len(jobs) - 5} cases, two days, {count} random days and {runs} spoilt messages"
+    counts = f"{len(jobs) - 6} cases, three days, {count} random days and {runs} spoilt messages"
     print(f"cap/test.py: {counts}, {failed} failed")
     return 1 if failed else 0
 
