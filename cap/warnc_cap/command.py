@@ -1,6 +1,7 @@
 """The command: messages in, a book out, and what is told of them."""
 import argparse
 import os
+import re
 import shutil
 import sys
 from collections import Counter
@@ -17,13 +18,13 @@ MOST_NAMED = 10
 
 
 def words_of(words, document):
-    parser = argparse.ArgumentParser(prog="warnc-cap", description=document,
+    parser = argparse.ArgumentParser(prog="warnc-cap", description=document, allow_abbrev=False,
                                      formatter_class=argparse.RawDescriptionHelpFormatter)
     parser.add_argument("--cells", required=True, metavar="FILE",
                         help="CSV: lac,ci,lat,lon,radius and columns of codes")
     parser.add_argument("--start", required=True, metavar="TIME",
                         help="when slot 0 begins, as 2026-03-01T06:30:00+01:00")
-    parser.add_argument("--slots", required=True, type=int, metavar="N", help="slots of the run, 1 to 65535")
+    parser.add_argument("--slots", required=True, metavar="N", help="slots of the run, 1 to 65535")
     parser.add_argument("--policy", metavar="FILE", help="CSV: id,category,period,pages")
     parser.add_argument("--presidential", action="append", default=[], metavar="IDENTIFIER",
                         help="the message of this identifier is a presidential alert")
@@ -47,9 +48,9 @@ def words_of(words, document):
     if options.state and options.receipt and os.path.realpath(options.state) == os.path.realpath(options.receipt):
         parser.error("--state and --receipt are one file")
     start = message.time_of(options.start)
-    if start is None or not 1 <= options.slots <= 65535:
+    if start is None or not re.fullmatch("[0-9]{1,5}", options.slots) or not 1 <= int(options.slots) <= 65535:
         parser.error("--start is as 2026-03-01T06:30:00+01:00, --slots 1 to 65535")
-    options.start = start
+    options.start, options.slots = start, int(options.slots)
     options.warnc = options.warnc or program_here()
     return options
 
@@ -62,6 +63,12 @@ def program_here():
     return shutil.which("warnc") or "warnc"
 
 
+def told_name(name):
+    """Returns the name of a file as a line shows it: in characters that don't change lines."""
+    words = os.fsencode(name).decode(errors="replace")
+    return "".join(it if it.isprintable() else "?" for it in words)
+
+
 def files_of(words):
     """Yields the files that are given, and those in folders, each with the name by which it is told."""
     for it in words:
@@ -69,9 +76,9 @@ def files_of(words):
             for name in sorted(os.listdir(it)):
                 path = os.path.join(it, name)
                 if not name.startswith(".") and os.path.isfile(path):
-                    yield name, path
+                    yield told_name(name), path
         else:
-            yield it, it
+            yield told_name(it), it
 
 
 def octets_of(path):

@@ -1,11 +1,14 @@
 """Messages of CAP: reads one, or says what is wrong with it."""
 import re
+import unicodedata
 from dataclasses import dataclass, field
 from fractions import Fraction
 from xml.parsers import expat
 
 NAMESPACE = "urn:oasis:names:tc:emergency:cap:1.2"
 MOST_OCTETS = 4_000_000
+# How many combining characters may follow each other: to put them in order takes the square of their number.
+MOST_COMBINING = 100
 # The words that CAP 1.2 has for its elements.
 STATUSES = ("Actual", "Exercise", "System", "Test", "Draft")
 KINDS = ("Alert", "Update", "Cancel", "Ack", "Error")
@@ -13,6 +16,8 @@ SCOPES = ("Public", "Restricted", "Private")
 URGENCIES = ("Immediate", "Expected", "Future", "Past", "Unknown")
 SEVERITIES = ("Extreme", "Severe", "Moderate", "Minor", "Unknown")
 CERTAINTIES = ("Observed", "Likely", "Very Likely", "Possible", "Unlikely", "Unknown")
+# The parameters that have a text for phones, and the elements that have one.
+PARAMETERS, TEXTS = ("CMAMlongtext", "CMAMtext"), ("headline", "description", "instruction")
 TIME = re.compile(r"([0-9]{4})-([0-9]{2})-([0-9]{2})T([0-9]{2}):([0-9]{2}):([0-9]{2})(\.[0-9]{1,9})?"
                   r"(Z|[+-][0-9]{2}:[0-9]{2})")
 NUMBER = re.compile(r"[+-]?[0-9]{1,9}(\.[0-9]{1,20})?")
@@ -158,6 +163,16 @@ def at_most_one(node, name, place=""):
     return found[0].words() if found else ""
 
 
+def text_in(words, place):
+    """Returns words that phones may show, which can be written in Unicode's form NFC."""
+    count = 0
+    for it in "" if words.isascii() else words:
+        count = count + 1 if it > "\u02ff" and unicodedata.combining(it) else 0
+        if count > MOST_COMBINING:
+            raise Wrong(place, f"over {MOST_COMBINING} combining characters follow each other")
+    return words
+
+
 def one_of(node, name, choices, place=""):
     words = only(node, name, place)
     if words not in choices:
@@ -265,14 +280,16 @@ def area_of(node, place):
 
 def info_of(node, number):
     place = f"info {number}: "
+    parameters = dict(reversed(pairs_in(node, "parameter", place)))
+    for it in PARAMETERS:
+        text_in(parameters.get(it, ""), f"{place}parameter")
     return Info(
-        number, at_most_one(node, "language", place), only(node, "event", place),
+        number, at_most_one(node, "language", place), text_in(only(node, "event", place), f"{place}event"),
         one_of(node, "urgency", URGENCIES, place), one_of(node, "severity", SEVERITIES, place),
         # CAP 1.2 has a word of CAP 1.0 count as the plain one
         one_of(node, "certainty", CERTAINTIES, place).removeprefix("Very "), time_in(node, "effective", place),
         time_in(node, "expires", place), pairs_in(node, "eventCode", place),
-        dict(reversed(pairs_in(node, "parameter", place))), at_most_one(node, "headline", place),
-        at_most_one(node, "description", place), at_most_one(node, "instruction", place),
+        parameters, *(text_in(at_most_one(node, it, place), f"{place}{it}") for it in TEXTS),
         [area_of(it, place) for it in node.every("area")],
     )
 

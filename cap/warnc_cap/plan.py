@@ -93,6 +93,13 @@ class Chain:
     """What belongs together: a message, and those that update it, one after the other."""
 
     items: list = field(default_factory=list)
+    # the senders and identifiers of its messages
+    keys: list = field(default_factory=list)
+
+    def weight(self):
+        """Returns how many rows it has, and how many octets they have at most."""
+        rows = [it for item in self.items for it in item.rows]
+        return len(rows), sum(it.octets() for it in rows)
 
 
 @dataclass
@@ -165,8 +172,8 @@ class Plan:
     def begin(self):
         """Forgets what was planned."""
         self.chains, self.items, self.notes, self.without_cells = {}, [], {}, False
-        # the messages that count
-        self.taken = set()
+        # the messages that count, and how many rows and at most octets all that is planned has
+        self.taken, self.weight = set(), (0, 0)
         self.given = dict(self.known_codes)
         # a sender or an identifier may have a slash, as names of the book have
         self.named = {}
@@ -225,7 +232,8 @@ class Plan:
         for info, place in zip(message.infos, self.places_of(message)):
             element = f"info {info.number}"
             if place.lacking:
-                self.note(message.file, f"{element}: geocode", f"the cells have no column {' or '.join(place.lacking)}")
+                names = shown(" or ".join(place.lacking))
+                self.note(message.file, f"{element}: geocode", f"the cells have no column {names}")
             if not place.cells:
                 self.note(message.file, f"{element}: area", "no cell comes into it")
                 self.without_cells = True
@@ -253,33 +261,35 @@ class Plan:
             raise Wrong("identifier", f"another message has the name {shown(name)} in the book")
         parts = [] if message.kind == "Cancel" else self.parts_of(message, prepared)
         found = self.chains_of(message)
-        chain = Chain([it for one in found for it in one.items])
+        chain = Chain([it for one in found for it in one.items], [it for one in found for it in one.keys])
         now = slot_at(message.sent, self.options.start)
         kept, count, given = [(it, list(it.rows)) for it in chain.items], len(self.items), dict(self.given)
+        before, weight = chain.weight(), self.weight
         if found:
             self.withdraw(message, chain, now)
         if message.kind != "Cancel":
             self.follow(message, chain, parts, now)
         elif found:
             self.cancel(message, chain, now)
+        self.weight = tuple(total + new - old for total, new, old in zip(weight, chain.weight(), before))
         lacking = self.lacks()
         if lacking:
             del self.items[count:]
-            self.given = given
+            self.given, self.weight = given, weight
             for it, rows in kept:
                 it.rows = rows
             raise Wrong("identifier", lacking)
-        self.join(found, chain)
         if message.kind != "Cancel":
-            self.chains[key] = chain
+            chain.keys.append(key)
             self.taken.add(key)
+        self.chains.update(dict.fromkeys(chain.keys, chain))
 
     def lacks(self):
         """Returns what the book lacks for all that is planned, if it does."""
         if max(self.given.values(), default=0) > MOST_CODE:
             return f"there are {MOST_CODE} warnings already, as many as there are codes"
-        rows = [it for item in self.items for it in item.rows]
-        if len(rows) > MOST_ROWS // 2 or sum(it.octets() for it in rows) > MOST_OCTETS // 2:
+        rows, octets = self.weight
+        if rows > MOST_ROWS // 2 or octets > MOST_OCTETS // 2:
             return self.lacks_room(list(self.standing()))
         return None
 
@@ -322,12 +332,6 @@ class Plan:
             what = "passed over" if message.kind == "Cancel" else "taken as an Alert"
             self.note(message.file, "references", f"no message that is known: {what}")
         return found
-
-    def join(self, found, chain):
-        """Has a chain take the place of others."""
-        for key, other in self.chains.items():
-            if any(other is it for it in found):
-                self.chains[key] = chain
 
     def withdraw(self, message, chain, now):
         """Takes away the rows of a chain that haven't begun."""

@@ -7,8 +7,8 @@ from .message import Wrong
 from .plan import key_of as language_key
 from .run import key_of
 
-# how often a book is run
-MOST_ROUNDS = 500
+# how often a book is made anew, and how often what all cells refuse of it is noted, or taken back
+MOST_ROUNDS, MOST_TURNS = 500, 5
 
 
 @dataclass
@@ -56,42 +56,27 @@ def planned(plan, messages, prepared):
     return plan.rows(), wrong
 
 
-def news_of(plan, rows, outcomes):
-    """Returns what is new of what the program refuses: of each its slot, the set of the plan that it belongs to, and
-    its name there."""
-    found = []
+def learns(plan, rows, outcomes, turns):
+    """Notes in the plan what all cells refuse, and what is to wait; returns whether that is new.
+
+    What a row comes to depends on earlier rows alone. So of what is to wait the earliest counts; what all cells refuse
+    is noted at once, and taken back if it isn't so any more. Turns are how often that was done with a row.
+    """
+    found, waiting = [], []
     for row in rows:
-        item, outcome = row.item, outcomes.get(key_of(row))
-        name = (item.name, row.number)
-        if row.verb == "stop" or name in plan.refused:
+        item, outcome, name = row.item, outcomes.get(key_of(row)), (row.item.name, row.number)
+        if row.verb == "stop":
             continue
-        slot = max(row.slot, 0)
         if row.number == 0 and item.follows and item.name not in plan.moved and outcome and "06" in outcome.refused:
-            found.append((slot, plan.moved, item.name))
-        elif outcome is None or not outcome.done:
-            found.append((slot, plan.refused, name))
-    return found
-
-
-def first_change(plan, rows, others):
-    """Returns the first slot at which two books differ, or None."""
-    one, two = ([(max(it.slot, 0), plan.line(it)) for it in book] for book in (rows, others))
-    different = set(one) ^ set(two)
-    return min(it[0] for it in different) if different else None
-
-
-def learn(plan, messages, prepared, rows, news):
-    """Notes in the plan what is new, up to where the book changes by it: what was refused later was refused in another
-    book. Returns the rows of the book that comes of it, and what is wrong with messages."""
-    for _, known, name in news:
-        known.add(name)
-    again, wrong = planned(plan, messages, prepared)
-    change = first_change(plan, rows, again)
-    first = min(it[0] for it in news)
-    late = [it for it in news if change is not None and it[0] >= max(change, first + 1)]
-    for _, known, name in late:
-        known.remove(name)
-    return planned(plan, messages, prepared) if late else (again, wrong)
+            waiting.append((max(row.slot, 0), item.name))
+        elif (outcome is None or not outcome.done) != (name in plan.refused) and turns.get(name, 0) < MOST_TURNS:
+            found.append((max(row.slot, 0), name))
+    first = min((slot for slot, _ in found + waiting), default=0)
+    for _, name in found:
+        plan.refused ^= {name}
+        turns[name] = turns.get(name, 0) + 1
+    plan.moved |= {name for slot, name in waiting if slot == first}
+    return bool(found or waiting)
 
 
 def made(plan, messages, runner):
@@ -99,11 +84,11 @@ def made(plan, messages, runner):
     prepared = prepared_texts(plan, messages)
     rows, wrong = planned(plan, messages, prepared)
     outcomes = runner.outcomes(plan, rows)
+    turns = {}
     for _ in range(MOST_ROUNDS):
-        news = news_of(plan, rows, outcomes)
-        if not news:
+        if not learns(plan, rows, outcomes, turns):
             break
-        rows, wrong = learn(plan, messages, prepared, rows, news)
+        rows, wrong = planned(plan, messages, prepared)
         outcomes = runner.outcomes(plan, rows)
     else:
         plan.note("book", "rows", f"after {MOST_ROUNDS} runs more is refused: later warnings may not be as they should")

@@ -6,6 +6,8 @@ import subprocess
 import unicodedata
 from dataclasses import dataclass
 
+from .message import PARAMETERS
+
 # Characters that a plain one stands for, if the text needs no other alphabet then.
 PLAIN = str.maketrans({
     **dict.fromkeys("‘’‚‛′", "'"), **dict.fromkeys("“”„‟″", '"'), **dict.fromkeys("‐‑‒–—―−", "-"),
@@ -81,7 +83,7 @@ def composed(text):
 
 def wanted_of(info):
     """Returns all that phones are to show of an info."""
-    for name in ("CMAMlongtext", "CMAMtext"):
+    for name in PARAMETERS:
         text = composed(info.parameters.get(name, ""))
         if text:
             return Wanted(text)

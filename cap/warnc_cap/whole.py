@@ -11,6 +11,8 @@ class Whole:
 
     def add(self, path, text):
         """Writes a file beside the place that it is for."""
+        if os.path.isdir(path):
+            raise IsADirectoryError(f"{path} is a folder")
         self.paths.append(path)
         with open(f"{path}.new", "w", encoding="utf-8", newline="") as it:
             it.write(text)
