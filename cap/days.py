@@ -399,3 +399,48 @@ def network_differs(seed, program):
     if not same:
         print(f"cap/test.py: network {seed}: {made} {wanted} {remarks} {by_group}\n{book.octets.decode()}")
     return not same
+
+
+# --- Polygons ---
+
+
+def is_in(points, point, radius):
+    """Whether a cell comes into a polygon, by the edges north of it, and by points on its edges; None if it is too
+    close to tell."""
+    wide = math.cos(math.radians(point[0])) * math.pi * 6371.0088 / 180
+    tall, inside, nearest = math.pi * 6371.0088 / 180, False, math.inf
+    for (lat1, lon1), (lat2, lon2) in zip(points, points[1:]):
+        x1 = (lon1 - point[1] + 180) % 360 - 180
+        x2 = x1 + (lon2 - lon1 + 180) % 360 - 180
+        y1, y2 = lat1 - point[0], lat2 - point[0]
+        for turn in (-360, 0, 360):
+            west, east = x1 + turn, x2 + turn
+            if (west > 0) != (east > 0) and y1 + (y2 - y1) * west / (west - east) > 0:
+                inside = not inside
+            for step in range(201):
+                x, y = west + (east - west) * step / 200, y1 + (y2 - y1) * step / 200
+                nearest = min(nearest, math.hypot(x * wide, y * tall))
+    # so far apart the points on an edge are at most
+    coarse = max(math.hypot((b[1] - a[1] + 180) % 360 - 180, b[0] - a[0]) * tall for a, b in zip(points, points[1:]))
+    if inside or nearest <= radius:
+        return True if inside and nearest > 0.001 or nearest < radius - 0.001 else None
+    return False if nearest > radius + coarse / 200 + 0.001 else None
+
+
+def polygon_differs(seed):
+    """Whether cells come into a random polygon otherwise than by the second way; returns also how many were told."""
+    rng = random.Random(seed)
+    south, west, size = rng.uniform(-70, 65), rng.choice((rng.uniform(-180, 180), 178.5)), rng.choice((0.2, 1, 4))
+
+    def near():
+        return south + rng.random() * size, (west + rng.random() * size + 180) % 360 - 180
+
+    points = [near() for _ in range(rng.choice((3, 4, 7, 12)))]
+    points.append(points[0])
+    cells = [Cell(f"1-{at}", "", near(), rng.choice((0.0, 0.0, 1.0, 20.0)), {}) for at in range(20)]
+    found = Map(cells).in_polygon(points, "polygon")
+    wanted = {it.name: is_in(points, it.point, it.radius) for it in cells}
+    wrong = [name for name, it in wanted.items() if it is not None and it != (name in found)]
+    if wrong:
+        print(f"cap/test.py: polygon {seed}: {points}: {[it for it in cells if it.name in wrong]}")
+    return bool(wrong), sum(it is not None for it in wanted.values()), len(found)

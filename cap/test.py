@@ -34,7 +34,7 @@ RECEIPT = "sender,identifier,info,id,serial,cells,pages,first_shown,shown_in_all
 MOST_SECONDS = 20
 RUNS, DAYS = 2000, 500
 # a crowded day is as much work as several others, and a network's too
-DAYS_A_CROWDED = 4
+DAYS_A_CROWDED, POLYGONS = 4, 60
 
 
 def ran(program, words, folder):
@@ -342,6 +342,58 @@ def crowded_days(program, count):
     return not wrong and (count < 50 or min(writes, updates, waiting) > 0)
 
 
+def whole(name, sent, info, more=""):
+    """Returns a message with an info."""
+    given = {"identifier": name, "sender": "w", "sent": at(sent), "status": "Actual",
+             "msgType": "Update" if more else "Alert", "scope": "Public"}
+    parts = "".join(element(*it) for it in given.items())
+    return f'<alert xmlns="{message.NAMESPACE}">{parts}{more}{info}</alert>'
+
+
+def big_messages():
+    """Yields the names of calls, and messages of each that are too big or too many, though each is well formed."""
+    def info(headline="One", instruction="", area=pair("geocode", "Z", "a")):
+        parts = {"event": "Flood", "urgency": "Immediate", "severity": "Extreme", "certainty": "Observed",
+                 "headline": headline, "instruction": instruction, "area": element("areaDesc", "x") + area}
+        return element("info", "".join(element(*it) for it in parts.items()))
+    points = " ".join(f"{it % 180 / 2 - 45},{it % 359 - 179}" for it in range(200_000))
+    yield "two million words", [whole("A", 0, info("a " * 950_000, "b " * 950_000))]
+    yield "combining characters", [whole("A", 0, info("a" + "\u0301\u0323" * 900_000))]
+    yield "200,000 points", [whole("A", 0, info(area=element("polygon", f"0,0 {points} 0,0")))]
+    yield "shapes", [whole("A", 0, info(area="".join(element("circle", f"{it % 90},1 9999") for it in range(90_000))))]
+    yield "1,024 infos", [whole("A", 0, info() * 1024)]
+    yield "names of 3,900,000 characters", [whole(f"{it}{'x' * 3_900_000}", 0, info()) for it in range(5)]
+    yield "1,000 messages without room", [
+        whole(f"M{it}", it * 60, info("word " * 150),
+              element("references", f"w,M{it - 1},{at(0)}") if it % 2 else "") for it in range(1000)]
+
+
+def big_runs(program):
+    """Whether big messages get a complaint, or are taken, in time."""
+    good = True
+    for name, texts in big_messages():
+        with tempfile.TemporaryDirectory() as folder:
+            put(folder, "cells.csv", "lac,ci,lat,lon,radius,Z\n1,1,0.5,0.5,,a\n1,2,60,1,,b\n")
+            for number, text in enumerate(texts):
+                put(folder, f"{number}.xml", text)
+            names = [f"{it}.xml" for it in range(len(texts))]
+            words = ["--cells", "cells.csv", "--start", START.isoformat(), "--slots", "4096", "--receipt", "r.csv"]
+            try:
+                status, _, lines = ran(program, words + names, folder)
+            except subprocess.TimeoutExpired:
+                status, lines = None, []
+            if status not in (0, 1) or any("Traceback" in it for it in lines):
+                print(f"cap/test.py: {name}: status {status}", *lines[-5:], sep="\n")
+                good = False
+    return good
+
+
+def polygons(count):
+    """Whether cells come into random polygons as by a second way."""
+    found = [days.polygon_differs(it) for it in range(count)]
+    return not any(it[0] for it in found) and all(sum(it[at] for it in found) > count for at in (1, 2))
+
+
 def main(words):
     if words in ([], ["-h"], ["--help"]) or len(words) > 3 or not all(it.isdigit() for it in words[1:]):
         print(__doc__)
@@ -357,8 +409,10 @@ def main(words):
         jobs.append(pool.submit(days.keeps_chains))
         jobs += [pool.submit(several_calls, program, it) for it in (False, True)]
         jobs.append(pool.submit(spoilt_runs, program, runs))
+        jobs.append(pool.submit(big_runs, program))
+        jobs.append(pool.submit(polygons, POLYGONS))
         failed = sum(not it.result() for it in jobs)
-    counts = f"{len(jobs) - 6} cases, three days, {count} random days and {runs} spoilt messages"
+    counts = f"{len(jobs) - 8} cases, three days, {count} random days and {runs} spoilt messages"
     print(f"cap/test.py: {counts}, {failed} failed")
     return 1 if failed else 0
 

@@ -242,7 +242,8 @@ def references_in(node):
 
 
 def number_of(words, most, place):
-    if not NUMBER.fullmatch(words) or abs(Fraction(words)) > most:
+    # of so few digits a float is as exact, and sooner there
+    if not NUMBER.fullmatch(words) or abs(float(words) if len(words) <= 16 else Fraction(words)) > most:
         raise Wrong(place, f"'{shown(words)}' isn't a number from -{most} to {most}")
     return float(words)
 

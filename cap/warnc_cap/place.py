@@ -9,8 +9,10 @@ from .message import NUMBER, Wrong
 EARTH = 6371.0088  # the mean radius of the earth, in kilometres
 DEGREE = math.pi * EARTH / 180  # a degree of latitude, in kilometres
 COLUMNS = ["lac", "ci", "lat", "lon", "radius"]
-# how many pairs of an edge and a cell are looked at for a message, and how many points a polygon has: seconds of work
-MOST_PAIRS, MOST_POINTS = 10_000_000, 50_000
+# how much work the shapes of a message may be, which is some seconds: one for an edge and a cell on its latitudes, more
+# if the cell is near the edge, more for a circle and a cell, and one for so many cells that are found
+MOST_WORK, NEAR_WORK, CIRCLE_WORK, FOUND_WORK = 6_000_000, 4, 8, 8
+MOST_POINTS = 50_000  # of a polygon
 NEAR = 1e-9  # an edge passes through a point where it comes as near, in kilometres
 
 
@@ -106,39 +108,51 @@ class Map:
         self.scales = [DEGREE * math.cos(math.radians(it)) for it in self.latitudes]
         self.margins = [(it.radius + NEAR) / scale * (1 + 1e-9) + 1e-9 for it, scale in zip(self.cells, self.scales)]
         self.reach = max((it.radius for it in self.cells), default=0.0) / DEGREE
-        self.polygons = {}
-        self.left = MOST_PAIRS
+        # the names of the cells that come into each shape: infos in several languages often have the same one
+        self.shapes = {}
+        self.left = MOST_WORK
 
     def begin(self):
         """Begins with the shapes of another message."""
-        self.left = MOST_PAIRS
+        self.left = MOST_WORK
 
-    def between(self, south, north, place):
-        """Returns where the cells of some latitudes begin and end, which are to be looked at."""
-        begin, end = bisect_left(self.latitudes, south), bisect_right(self.latitudes, north)
-        self.left -= end - begin
+    def spend(self, work, place):
+        """Takes work off what the message may still be."""
+        self.left -= work
         if self.left < 0:
-            raise Wrong(place, "the edges of the message are too many for so many cells")
-        return begin, end
+            raise Wrong(place, "the shapes of the message are too many for so many cells")
+
+    def between(self, south, north):
+        """Returns where the cells of some latitudes begin and end."""
+        return bisect_left(self.latitudes, south), bisect_right(self.latitudes, north)
 
     def in_circle(self, circle, place):
-        """Returns the cells that come into a circle."""
-        point, radius = circle
-        reach = radius / DEGREE + self.reach + 1e-9
-        begin, end = self.between(point[0] - reach, point[0] + reach, place)
-        return [it for it in self.cells[begin:end] if distance(point, it.point) <= radius + it.radius]
+        """Returns the names of the cells that come into a circle."""
+        if circle not in self.shapes:
+            point, radius = circle
+            reach = radius / DEGREE + self.reach + 1e-9
+            begin, end = self.between(point[0] - reach, point[0] + reach)
+            self.spend((end - begin) * CIRCLE_WORK, place)
+            self.shapes[circle] = frozenset(it.name for it in self.cells[begin:end]
+                                            if distance(point, it.point) <= radius + it.radius)
+        return self.found(circle, place)
 
     def in_polygon(self, points, place):
-        """Returns the cells that come into a polygon; infos in several languages often have the same one."""
+        """Returns the names of the cells that come into a polygon."""
         if len(points) > MOST_POINTS:
             raise Wrong(place, f"it has over {MOST_POINTS} points")
         key = tuple(points)
-        if key not in self.polygons:
-            self.polygons[key] = self.inside(edges_of(points), place)
-        return self.polygons[key]
+        if key not in self.shapes:
+            self.shapes[key] = frozenset(self.cells[at].name for at in self.inside(edges_of(points), place))
+        return self.found(key, place)
+
+    def found(self, key, place):
+        """Returns what was found of a shape."""
+        self.spend(len(self.shapes[key]) // FOUND_WORK, place)
+        return self.shapes[key]
 
     def inside(self, edges, place):
-        """Returns the cells that come into a polygon: inside by the even-odd rule, or with an edge within reach.
+        """Returns which cells come into a polygon: inside by the even-odd rule, or with an edge within reach.
 
         An edge is straight on a map whose degrees of longitude are as long as at the cell. It goes the shorter way
         round the earth. The polygon begins in the west at a bound.
@@ -149,16 +163,21 @@ class Map:
         for edge in edges:
             lat1, west, lat2, east = edge
             first, last = min(west, east), max(west, east)
-            begin, end = self.between(min(lat1, lat2) - self.reach - 1e-9, max(lat1, lat2) + self.reach + 1e-9, place)
+            begin, end = self.between(min(lat1, lat2) - self.reach - 1e-9, max(lat1, lat2) + self.reach + 1e-9)
+            self.spend(end - begin, place)
+            count = 0
             for at in range(begin, end):
                 lat, lon = latitudes[at], bound + (longitudes[at] - bound) % 360
                 if (lat1 > lat) != (lat2 > lat) and lon <= last and (lon < first or passes_east(edge, lat, lon)):
                     inside ^= {at}
                 margin = margins[at]
-                if first - margin <= lon <= last + margin or lon - 360 >= first - margin:
-                    if self.comes_near(at, edge, lon) or self.comes_near(at, edge, lon - 360):
-                        near.add(at)
-        return [self.cells[at] for at in inside | near]
+                for turn in (lon, lon - 360):
+                    if first - margin <= turn <= last + margin:
+                        count += 1
+                        if self.comes_near(at, edge, turn):
+                            near.add(at)
+            self.spend(count * NEAR_WORK, place)
+        return inside | near
 
     def comes_near(self, at, edge, lon):
         """Whether an edge comes within a cell's reach."""
@@ -196,9 +215,9 @@ def cells_in(area, plan, place):
     """Returns the names of the cells of an area, and the codes' names that no column has."""
     found, lacking = set(), set()
     for it in area.polygons:
-        found |= {cell.name for cell in plan.map.in_polygon(it, f"{place}polygon")}
+        found |= plan.map.in_polygon(it, f"{place}polygon")
     for it in area.circles:
-        found |= {cell.name for cell in plan.map.in_circle(it, f"{place}circle")}
+        found |= plan.map.in_circle(it, f"{place}circle")
     if plan.options.joined or not (area.polygons or area.circles):
         for name, value in set(area.codes):
             if name not in plan.codes:
@@ -225,7 +244,7 @@ def place_of(info, plan):
         lacking |= other
         if not here:
             unwarned.append(it.name)
-    return Place(frozenset(cells), tuple(sorted(lacking)), tuple(unwarned))
+    return Place(plan.one_of(frozenset(cells)), tuple(sorted(lacking)), tuple(unwarned))
 
 
 def places_of(message, plan):

@@ -165,8 +165,8 @@ class Plan:
         self.refused, self.moved = set(), set()
         # the codes that names have had before
         self.known_codes = dict(known_codes)
-        # where the infos of each message are to be on the air, and cells as the book has them
-        self.places, self.fields = {}, {}
+        # where the infos of each message are to be on the air, all sets of cells, and cells as the book has them
+        self.places, self.sets, self.fields = {}, {}, {}
         self.begin()
 
     def begin(self):
@@ -181,8 +181,12 @@ class Plan:
     def anew(self):
         """Returns an empty plan for the same cells."""
         other = Plan(self.options, self.policy, self.cells, self.codes, self.map, self.known_codes)
-        other.places, other.fields = self.places, self.fields
+        other.places, other.sets, other.fields = self.places, self.sets, self.fields
         return other
+
+    def one_of(self, cells):
+        """Returns a set of cells; of those that are equal always the same."""
+        return self.sets.setdefault(cells, cells)
 
     def note(self, file, element, what):
         self.notes[f"note: {file}: {element}: {what}"] = True

@@ -69,14 +69,16 @@ def table_of(octets):
 
 def alike(plan, rows):
     """Returns the names of cells by the places of the rows that they have."""
-    having = {it.name: [] for it in plan.cells}
+    places, having, found = {}, {it.name: [] for it in plan.cells}, {}
     for place, row in enumerate(rows):
-        for name in row.item.cells:
-            having[name].append(place)
-    found = {}
-    for name, places in having.items():
-        found.setdefault(tuple(places), []).append(name)
-    return found
+        places.setdefault(row.item.cells, []).append(place)
+    every = list(places.values())
+    for at, cells in enumerate(places):
+        for name in cells:
+            having[name].append(at)
+    for name, sets in having.items():
+        found.setdefault(tuple(sets), []).append(name)
+    return {tuple(sorted(place for at in sets for place in every[at])): names for sets, names in found.items()}
 
 
 def part_of(plan, rows, chosen):
