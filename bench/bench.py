@@ -220,7 +220,22 @@ def library(bench):
     subprocess.run([made], check=True)
 
 
-MEASURES = {"cell": cell, "compile": compile_books, "library": library, "live": live, "network": network,
+def cap(bench):
+    """`warnc-cap` on 200 messages with polygons for 16,384 cells (cap/big_day.py), in runs of two hours and of a day,
+    with a receipt. Half a minute."""
+    command, folder = os.path.join(TOP, "cap", "warnc-cap"), bench.path("day")
+    subprocess.run([sys.executable, "-B", os.path.join(TOP, "cap", "big_day.py"), folder], check=True)
+    for slots in ("3824", "45883"):
+        words = ["--warnc", bench.program, "--cells", os.path.join(folder, "cells.csv"), "--slots", slots, "--start",
+                 "2026-03-01T00:00:00Z", "--receipt", bench.path("receipt"), os.path.join(folder, "cap")]
+        with open(os.devnull, "wb") as nowhere:
+            begun = time.perf_counter()
+            status = subprocess.run([sys.executable, "-B", command, *words], stdout=nowhere, stderr=nowhere,
+                                    check=False).returncode
+        print(f"{slots:>5} slots: status {status}, {time.perf_counter() - begun:.1f} s")
+
+
+MEASURES = {"cap": cap, "cell": cell, "compile": compile_books, "library": library, "live": live, "network": network,
             "pack": pack, "read": read, "verify": verify}
 
 
