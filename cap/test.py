@@ -269,6 +269,86 @@ def several_calls(program, since):
     return good
 
 
+# --- What strangers type ---
+
+PLACE, TIME = ["--cells", "cells.csv"], ["--start", "2026-03-01T00:00:00Z"]
+RIGHT = [*PLACE, *TIME, "--slots", "64"]
+# The words of calls, and their status.
+STRANGE = (
+    (["--help"], 0), ([], 2), (["cap"], 2), (PLACE, 2), ([*PLACE, *TIME, "cap"], 2), (RIGHT, 2), ([*RIGHT, "cap"], 0),
+    (["cap", *RIGHT], 0), ([*RIGHT, "--", "cap"], 0), ([*RIGHT, "cap/A.xml", "cap"], 0), ([*RIGHT, "empty"], 0),
+    ([*RIGHT, "none.xml"], 1), ([*RIGHT, "mixed"], 1), ([*RIGHT, ""], 1), ([*RIGHT, b"\xff.xml"], 0),
+    ([*RIGHT, "--state", "names.json", b"\xff.xml"], 0), ([*RIGHT, "--state", "names.json"], 0),
+    ([*PLACE, *TIME, "--slots", "0", "cap"], 2), ([*PLACE, *TIME, "--slots", "65536", "cap"], 2),
+    ([*PLACE, *TIME, "--slots", "\u0664", "cap"], 2), ([*PLACE, *TIME, "--slots", "1_0", "cap"], 2),
+    ([*PLACE, "--start", "now", "--slots", "64", "cap"], 2), ([*RIGHT, "--stric", "cap"], 2),
+    ([*RIGHT, "--cells", "none.csv", "cap"], 2), ([*RIGHT, "--cells", "cap", "cap"], 2),
+    ([*RIGHT, "--cells", "empty.csv", "cap"], 2), ([*RIGHT, "--cells", "names.csv", "cap"], 2),
+    ([*RIGHT, "--policy", "none.csv", "cap"], 2), ([*RIGHT, "--policy", "cells.csv", "cap"], 2),
+    ([*RIGHT, "--since", "cap"], 2), ([*RIGHT, "--state", "none/s.json", "cap"], 2), ([*RIGHT, "--state", "cap"], 2),
+    ([*RIGHT, "--receipt", "none/r.csv", "cap"], 2), ([*RIGHT, "--receipt", "empty", "cap"], 2),
+    ([*RIGHT, "--state", "s.json", "--receipt", "./s.json", "cap"], 2), ([*RIGHT, "--warnc", "none", "cap"], 2),
+    ([*RIGHT, "--warnc", "/bin/true", "cap"], 2), ([*RIGHT, "--warnc", "/bin/false", "cap"], 2),
+)
+
+
+def strangers(program):
+    """Whether calls with odd words have their status and no traceback, and write nothing with status 2."""
+    good = True
+    with tempfile.TemporaryDirectory() as folder:
+        for name in ("cap", "mixed", "mixed/in", "empty", "empty/in"):
+            os.mkdir(os.path.join(folder, name))
+        text = message_of("alert A 0 | headline=One Z=a expires=60")[1]
+        for name in (b"cap/A.xml", b"mixed/A.xml", b"mixed/.B.xml", b"mixed/in/B.xml", b"\xff.xml"):
+            with open(os.path.join(os.fsencode(folder), name), "w", encoding="utf-8") as it:
+                it.write("" if b"B" in name else text)
+        put(folder, "mixed/C.xml", text[:200])
+        put(folder, "cells.csv", "lac,ci,lat,lon,radius,Z\n1,1,,,,a\n")
+        put(folder, "names.csv", "lac,ci,lat,lon,radius,Z\n")
+        put(folder, "empty.csv", "")
+        for words, wanted in STRANGE:
+            status, book, told = ran(program, words, folder)
+            if status != wanted or any("Traceback" in it for it in told) or status == 2 and book:
+                print(f"cap/test.py: {words}: status {status}, not {wanted}", book, *told, sep="\n")
+                good = False
+        return all([nowhere(program, folder, it) for it in ("/dev/full", None)]) and good
+
+
+def nowhere(program, folder, path):
+    """Whether a call whose book can't be written, or isn't read, has status 2 and keeps nothing."""
+    words = [*RIGHT, "--state", "s.json", "--receipt", "r.csv", "cap"]
+    reader, writer = os.pipe()
+    os.close(reader)
+    with open(writer, "wb") as pipe, open(path or os.devnull, "wb") as file:
+        done = subprocess.run([sys.executable, "-B", COMMAND, "--warnc", program, *words], cwd=folder, check=False,
+                              stdout=file if path else pipe, stderr=subprocess.PIPE, timeout=MOST_SECONDS)
+    left = [it for it in os.listdir(folder) if it.startswith(("s.json", "r.csv"))]
+    if done.returncode != 2 or left or done.stderr.count(b"\n") != 1:
+        print(f"cap/test.py: {path}: status {done.returncode}, {left} is left", done.stderr.decode(), sep="\n")
+    return done.returncode == 2 and not left and done.stderr.count(b"\n") == 1
+
+
+def network(program):
+    """Whether 65 cells get a network book, whose second group has one cell, and what no cell has room for is told."""
+    with tempfile.TemporaryDirectory() as folder:
+        put(folder, "cells.csv", "lac,ci,lat,lon,radius,Z\n" + "".join(
+            f"1,{it},,,,{'a' if it % 2 else 'b'}\n" for it in range(65)))
+        put(folder, "policy.csv", "id,category,period,pages\n4371,0,1,1\n4396,2,4,1\n")
+        for line in ("alert A 0 | headline=One Z=a Z=b expires=60", "cancel B 30 of=A",
+                     "alert C 0 | threat=Minor,Past,Unknown headline=Two Z=b expires=60"):
+            put(folder, *message_of(line))
+        words = [*RIGHT, "--policy", "policy.csv", "--receipt", "receipt.csv", "A.xml", "B.xml", "C.xml"]
+        found = ran(program, words, folder)
+        even = " ".join(f"1-{it}" for it in range(0, 65, 2))
+        book = "".join(f"cell,1,{it}\n" for it in range(65))
+        # 60 s are 32 slots, 30 s 16 (15.9); 4 slots eight times are 32
+        book += "write,0,w@x.example/A/1,4371,1,1,en,0,1,32,*,One\n"
+        book += f"write,0,w@x.example/C/1,4396,1,2,en,2,4,8,{even},Two\nstop,16,w@x.example/A/1,*\n"
+        good = judge("a network", found, 0, book, ["w@x.example/C/1: write"])
+        return has_receipt("a network", folder, ["w@x.example,A,1,4371,4010,65,1,0,0,0,0,\n",
+                                                 "w@x.example,C,1,4396,4020,33,1,,,33,0,\n"]) and good
+
+
 # --- Spoilt messages ---
 
 HOSTILE = (
@@ -409,10 +489,10 @@ def main(words):
         jobs.append(pool.submit(days.keeps_chains))
         jobs += [pool.submit(several_calls, program, it) for it in (False, True)]
         jobs.append(pool.submit(spoilt_runs, program, runs))
-        jobs.append(pool.submit(big_runs, program))
+        jobs += [pool.submit(it, program) for it in (strangers, network, big_runs)]
         jobs.append(pool.submit(polygons, POLYGONS))
         failed = sum(not it.result() for it in jobs)
-    counts = f"{len(jobs) - 8} cases, three days, {count} random days and {runs} spoilt messages"
+    counts = f"{len(jobs) - 10} cases, three days, {count} random days and {runs} spoilt messages"
     print(f"cap/test.py: {counts}, {failed} failed")
     return 1 if failed else 0
 
