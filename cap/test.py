@@ -338,13 +338,14 @@ def network(program):
                      "alert C 0 | threat=Minor,Past,Unknown headline=Two Z=b expires=60"):
             put(folder, *message_of(line))
         words = [*RIGHT, "--policy", "policy.csv", "--receipt", "receipt.csv", "A.xml", "B.xml", "C.xml"]
-        found = ran(program, words, folder)
+        found, other = ran(program, words, folder), ran(program, words[:-3] + words[:-4:-1], folder)
         even = " ".join(f"1-{it}" for it in range(0, 65, 2))
         book = "".join(f"cell,1,{it}\n" for it in range(65))
         # 60 s are 32 slots, 30 s 16 (15.9); 4 slots eight times are 32
         book += "write,0,w@x.example/A/1,4371,1,1,en,0,1,32,*,One\n"
         book += f"write,0,w@x.example/C/1,4396,1,2,en,2,4,8,{even},Two\nstop,16,w@x.example/A/1,*\n"
         good = judge("a network", found, 0, book, ["w@x.example/C/1: write"])
+        good = judge("words in another order", other, 0, book, ["w@x.example/C/1: write"]) and good
         return has_receipt("a network", folder, ["w@x.example,A,1,4371,4010,65,1,0,0,0,0,\n",
                                                  "w@x.example,C,1,4396,4020,33,1,,,33,0,\n"]) and good
 

@@ -249,7 +249,8 @@ class Plan:
             for it in prepared[key].notes:
                 self.note(message.file, element, it)
             identifier = self.identifier_of(message, info, key_of(info) == first)
-            slot = slot_at(max(info.effective or message.sent, message.sent), self.options.start)
+            begin = message.sent if info.effective is None else max(info.effective, message.sent)
+            slot = slot_at(begin, self.options.start)
             end = self.end_of(message, info, slot, self.policy[identifier].period)
             parts.append(Part(key, identifier, word, place.cells, slot, end, prepared[key].text))
         return parts
@@ -293,7 +294,8 @@ class Plan:
         if max(self.given.values(), default=0) > MOST_CODE:
             return f"there are {MOST_CODE} warnings already, as many as there are codes"
         rows, octets = self.weight
-        if rows > MOST_ROWS // 2 or octets > MOST_OCTETS // 2:
+        # rows that don't stand in the book count here, so there may still be room
+        if rows > MOST_ROWS - MOST_CELLS or octets > MOST_OCTETS // 2:
             return self.lacks_room(list(self.standing()))
         return None
 
