@@ -9,10 +9,12 @@ from .message import NUMBER, Wrong
 EARTH = 6371.0088  # the mean radius of the earth, in kilometres
 DEGREE = math.pi * EARTH / 180  # a degree of latitude, in kilometres
 COLUMNS = ["lac", "ci", "lat", "lon", "radius"]
-# how much work the shapes of a message may be, which is some seconds: one for an edge and a cell on its latitudes, more
-# if the cell is near the edge, more for a circle and a cell, and one for so many cells that are found
+# how much work the shapes of a message may be, which is some seconds: one for an edge and a cell or a band on its
+# latitudes, more if the cell is near the edge, more for a circle and a cell, and one for so many cells that are found
 MOST_WORK, NEAR_WORK, CIRCLE_WORK, FOUND_WORK = 6_000_000, 4, 8, 8
 MOST_POINTS = 50_000  # of a polygon
+# how many bands of latitude a degree has, and what a band without cells has
+BANDS, NO_BAND = 10, ([], [], 0.0)
 NEAR = 1e-9  # an edge passes through a point where it comes as near, in kilometres
 
 
@@ -108,9 +110,22 @@ class Map:
         self.scales = [DEGREE * math.cos(math.radians(it)) for it in self.latitudes]
         self.margins = [(it.radius + NEAR) / scale * (1 + 1e-9) + 1e-9 for it, scale in zip(self.cells, self.scales)]
         self.reach = max((it.radius for it in self.cells), default=0.0) / DEGREE
+        self.bands = self.made_bands()
         # the names of the cells that come into each shape: infos in several languages often have the same one
         self.shapes = {}
         self.left = MOST_WORK
+
+    def made_bands(self):
+        """Returns of each band of latitude, a part of a degree, its cells by longitude: these longitudes, the cells'
+        places, and how many degrees of longitude they reach at most."""
+        bands, made = {}, {}
+        for at, lat in enumerate(self.latitudes):
+            bands.setdefault(math.floor(lat * BANDS), []).append(at)
+        for band, places in bands.items():
+            places.sort(key=self.longitudes.__getitem__)
+            margin = max(self.margins[at] for at in places) + 1e-9
+            made[band] = ([self.longitudes[at] for at in places], places, margin)
+        return made
 
     def begin(self):
         """Begins with the shapes of another message."""
@@ -158,33 +173,51 @@ class Map:
         round the earth. The polygon begins in the west at a bound.
         """
         bound = min(min(it[1], it[3]) for it in edges)
-        latitudes, longitudes, margins = self.latitudes, self.longitudes, self.margins
+        latitudes, longitudes = self.latitudes, self.longitudes
         inside, near = set(), set()
         for edge in edges:
             lat1, west, lat2, east = edge
             first, last = min(west, east), max(west, east)
-            begin, end = self.between(min(lat1, lat2) - self.reach - 1e-9, max(lat1, lat2) + self.reach + 1e-9)
+            begin, end = bisect_left(latitudes, min(lat1, lat2)), bisect_left(latitudes, max(lat1, lat2))
             self.spend(end - begin, place)
-            count = 0
             for at in range(begin, end):
-                lat, lon = latitudes[at], bound + (longitudes[at] - bound) % 360
-                if (lat1 > lat) != (lat2 > lat) and lon <= last and (lon < first or passes_east(edge, lat, lon)):
+                lon = bound + (longitudes[at] - bound) % 360
+                if lon <= last and (lon < first or passes_east(edge, latitudes[at], lon)):
                     inside ^= {at}
-                margin = margins[at]
-                for turn in (lon, lon - 360):
-                    if first - margin <= turn <= last + margin:
-                        count += 1
-                        if self.comes_near(at, edge, turn):
-                            near.add(at)
-            self.spend(count * NEAR_WORK, place)
+            beside = [it for it in self.beside(edge, place) if it not in near]
+            self.spend(len(beside) * NEAR_WORK, place)
+            near.update(at for at in beside if self.comes_near(at, edge, bound + (longitudes[at] - bound) % 360))
         return inside | near
 
-    def comes_near(self, at, edge, lon):
-        """Whether an edge comes within a cell's reach."""
-        lat, scale = self.latitudes[at], self.scales[at]
+    def beside(self, edge, place):
+        """Returns the cells whose latitudes and longitudes an edge may come near to."""
         lat1, west, lat2, east = edge
-        found = away((west - lon) * scale, (lat1 - lat) * DEGREE, (east - lon) * scale, (lat2 - lat) * DEGREE)
-        return found <= self.cells[at].radius + NEAR
+        first, last, found = min(west, east), max(west, east), []
+        south, north = min(lat1, lat2) - self.reach - 1e-9, max(lat1, lat2) + self.reach + 1e-9
+        bands = range(math.floor(south * BANDS), math.floor(north * BANDS) + 1)
+        for band in bands if len(bands) < len(self.bands) else self.bands:
+            longitudes, places, margin = self.bands.get(band, NO_BAND)
+            if last - first + 2 * margin >= 360:
+                found += places
+                continue
+            # from -180 degrees on, up to less than a turn more
+            begin = (first - margin + 180) % 360 - 180
+            end = begin + last - first + 2 * margin
+            found += places[bisect_left(longitudes, begin):bisect_right(longitudes, end)]
+            found += places[:bisect_right(longitudes, end - 360)] + places[bisect_left(longitudes, begin + 360):]
+        self.spend(min(len(bands), len(self.bands)) + len(found), place)
+        return found
+
+    def comes_near(self, at, edge, lon):
+        """Whether an edge comes within a cell's reach, at a longitude or a turn before it."""
+        lat, scale, margin = self.latitudes[at], self.scales[at], self.margins[at]
+        lat1, west, lat2, east = edge
+        for turn in (lon, lon - 360):
+            if min(west, east) - margin <= turn <= max(west, east) + margin:
+                found = away((west - turn) * scale, (lat1 - lat) * DEGREE, (east - turn) * scale, (lat2 - lat) * DEGREE)
+                if found <= self.cells[at].radius + NEAR:
+                    return True
+        return False
 
 
 def edges_of(points):
