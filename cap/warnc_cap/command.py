@@ -180,43 +180,55 @@ def tell(lines):
         sys.stderr.write("".join(f"{it}\n" for it in lines))
 
 
+def called(options):
+    """Does what a call is for: returns the octets that are to be written, the texts of the files by their paths, the
+    lines to tell, and the status."""
+    past, known_codes = state.read(options.state)
+    plan, runner = plan_of(options, known_codes), Runner(options.warnc, options.slots)
+    kept, wrong = messages_of(options.messages, past)
+    messages = [it for _, it in kept]
+    book = rounds.made(plan, messages, runner)
+    wrong += book.wrong.values()
+    urgent = tell_of_rows(plan, book, runner.remarks(plan, book.rows, book.octets))
+    octets, files = book.octets, {}
+    if options.since:
+        known = {it.encode() for _, it in past}
+        octets = since(plan, book, rounds.made(plan.anew(), [it for own, it in kept if own in known], runner))
+    for it in sorted(set(options.presidential) - {it.identifier for it in messages}):
+        plan.note("--presidential", message.shown(it), "no message has this identifier")
+    if options.state:
+        left = [it for it in kept if (it[1].sender, it[1].identifier) not in book.wrong]
+        files[options.state] = state.text_of(left, plan.given)
+    if options.receipt:
+        files[options.receipt] = receipt.receipt_of(plan, messages, book)
+    is_bad = wrong or urgent or options.strict and plan.without_cells
+    return octets, files, [*wrong, *plan.notes], 1 if is_bad else 0
+
+
+def put(octets, files):
+    """Writes a book to standard output, and files to their places; returns whether that can be done, and tells if it
+    can't. Then no file is another."""
+    whole, path = Whole(), ""
+    try:
+        for path, words in files.items():
+            whole.add(path, words)
+        path = "standard output"
+        put_out(octets)
+        path = " and ".join(files)
+        whole.put()
+    except OSError as fault:
+        whole.drop()
+        tell([f"warnc-cap: {path}: {fault.strerror or fault}"])
+        return False
+    return True
+
+
 def main(words, document):
     options = words_of(words, document)
     try:
-        past, known_codes = state.read(options.state)
-        plan = plan_of(options, known_codes)
-        runner = Runner(options.warnc, options.slots)
-        kept, wrong = messages_of(options.messages, past)
-        messages = [it for _, it in kept]
-        book = rounds.made(plan, messages, runner)
-        wrong += book.wrong.values()
-        urgent = tell_of_rows(plan, book, runner.remarks(plan, book.rows, book.octets))
-        octets = book.octets
-        if options.since:
-            known = {it.encode() for _, it in past}
-            earlier = rounds.made(plan.anew(), [it for octets, it in kept if octets in known], runner)
-            octets = since(plan, book, earlier)
+        octets, files, lines, status = called(options)
     except (place.TableFault, state.StateFault, text.NoProgram) as fault:
         tell([f"warnc-cap: {fault}"])
         return 2
-    for it in sorted(set(options.presidential) - {it.identifier for it in messages}):
-        plan.note("--presidential", message.shown(it), "no message has this identifier")
-    tell([*wrong, *plan.notes])
-    files, path = Whole(), "standard output"
-    try:
-        if options.state:
-            left = [it for it in kept if (it[1].sender, it[1].identifier) not in book.wrong]
-            path = options.state
-            files.add(path, state.text_of(left, plan.given))
-        if options.receipt:
-            path = options.receipt
-            files.add(path, receipt.receipt_of(plan, messages, book))
-        path = "standard output"
-        put_out(octets)
-        path = "the state or the receipt"
-        files.put()
-    except OSError as fault:
-        files.drop()
-        tell([f"warnc-cap: {path}: {fault.strerror or fault}"])
-        return 2
-    return 1 if wrong or urgent or options.strict and plan.without_cells else 0
+    tell(lines)
+    return status if put(octets, files) else 2

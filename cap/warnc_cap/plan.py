@@ -267,15 +267,10 @@ class Plan:
         parts = [] if message.kind == "Cancel" else self.parts_of(message, prepared)
         found = self.chains_of(message)
         chain = Chain([it for one in found for it in one.items], [it for one in found for it in one.keys])
-        now = slot_at(message.sent, self.options.start)
         kept, count, given = [(it, list(it.rows)) for it in chain.items], len(self.items), dict(self.given)
         before, weight = chain.weight(), self.weight
-        if found:
-            self.withdraw(message, chain, now)
-        if message.kind != "Cancel":
-            self.follow(message, chain, parts, now)
-        elif found:
-            self.cancel(message, chain, now)
+        if found or message.kind != "Cancel":
+            self.carry_out(message, chain, parts)
         self.weight = tuple(total + new - old for total, new, old in zip(weight, chain.weight(), before))
         lacking = self.lacks()
         if lacking:
@@ -288,6 +283,15 @@ class Plan:
             chain.keys.append(key)
             self.taken.add(key)
         self.chains.update(dict.fromkeys(chain.keys, chain))
+
+    def carry_out(self, message, chain, parts):
+        """Plans the rows of a message that belongs to a chain."""
+        now = slot_at(message.sent, self.options.start)
+        self.withdraw(message, chain, now)
+        if message.kind == "Cancel":
+            self.cancel(message, chain, now)
+        else:
+            self.follow(message, chain, parts, now)
 
     def lacks(self):
         """Returns what the book lacks for all that is planned, if it does."""
