@@ -53,6 +53,21 @@ class Remarks:
     others: dict = field(default_factory=dict)
 
 
+@dataclass
+class Part:
+    """A book of some cells: its octets, the places that its rows have in the whole book, and its cells, each with those
+    that it stands for."""
+
+    octets: bytes
+    places: list
+    cells: dict
+
+    def place(self, number):
+        """Returns the place of a row in the whole book by its number here, or None if it is none."""
+        at = int(number or 0) - 1 - len(self.cells)
+        return self.places[at] if 0 <= at < len(self.places) else None
+
+
 def key_of(row):
     """Returns by what a row is known in a report: its code, and its update number, or that it is a stop."""
     return row.item.code, STOP if row.verb == "stop" else row.number
@@ -82,15 +97,20 @@ def alike(plan, rows):
 
 
 def part_of(plan, rows, chosen):
-    """Returns a book of some cells, each given with the places of its rows, and the places of the rows that it has."""
+    """Returns a book of the first of each of some lists of cells, which are given by the places of their rows."""
     cells = {}
-    for name, places in chosen:
+    for places, names in chosen:
         for it in places:
-            cells.setdefault(it, []).append(name)
+            cells.setdefault(it, []).append(names[0])
     kept = sorted(cells)
-    lines = [f"cell,{name.replace('-', ',')}\n" for name, _ in chosen]
+    lines = [f"cell,{names[0].replace('-', ',')}\n" for _, names in chosen]
     lines += [plan.line(rows[it], " ".join(cells[it])) for it in kept]
-    return "".join(lines).encode(), kept
+    return Part("".join(lines).encode(), kept, {names[0]: names for _, names in chosen})
+
+
+def parts_of(plan, rows, chosen):
+    """Returns books as part_of does, each of as many cells as a book may have."""
+    return [part_of(plan, rows, chosen[it:it + MOST_CELLS]) for it in range(0, len(chosen), MOST_CELLS)]
 
 
 class Runner:
@@ -118,22 +138,22 @@ class Runner:
     def outcomes(self, plan, rows):
         """Returns what becomes of the rows of a book, by code and update number."""
         texts = [self.words.setdefault(plan.line(it, "*"), len(self.words)) for it in rows]
-        cells = {places: (names, tuple(texts[it] for it in places)) for places, names in alike(plan, rows).items()}
-        new = {key: (names[0], places) for places, (names, key) in cells.items() if key not in self.known}
-        chosen = list(new.items())
-        parts = [chosen[it:it + MOST_CELLS] for it in range(0, len(chosen), MOST_CELLS)]
-        for part, found in zip(parts, self.every(lambda it: self.reported(plan, rows, [one for _, one in it]), parts)):
-            self.known.update({key: found[name] for key, (name, _) in part})
+        cells = [(places, names, tuple(texts[it] for it in places)) for places, names in alike(plan, rows).items()]
+        new = [it for it in cells if it[2] not in self.known]
+        found = {}
+        for it in self.every(self.reported, parts_of(plan, rows, [it[:2] for it in new])):
+            found.update(it)
+        self.known.update({key: found[names[0]] for _, names, key in new})
         made = {}
-        for names, key in cells.values():
+        for _, names, key in cells:
             for which, (cause, pages, shown) in self.known[key].items():
                 made.setdefault(which, Outcome()).add(cause, pages, shown, len(names))
         return made
 
-    def reported(self, plan, rows, chosen):
+    def reported(self, part):
         """Runs some cells, and returns what became of the rows of each, by code and update number."""
-        found = {name: {} for name, _ in chosen}
-        for row in self.said(["report", "--full"], part_of(plan, rows, chosen)[0]):
+        found = {name: {} for name in part.cells}
+        for row in self.said(["report", "--full"], part.octets):
             serial, pages = int(row[3], 16), row[9]
             cause = row[7].removeprefix("refused ") if row[7].startswith("refused ") else ""
             # a stop has no pages
@@ -146,42 +166,32 @@ class Runner:
     def remarks(self, plan, rows, book):
         """Returns what `check` remarks of the rows of a book, by their places."""
         if len(plan.cells) <= MOST_CELLS:
-            parts = [(book, range(len(rows)), len(plan.cells), {it.name: [it.name] for it in plan.cells})]
+            parts = [Part(book, range(len(rows)), {it.name: [it.name] for it in plan.cells})]
         else:
             status, _, fault = run(self.program, ["groups"], book)
             if status:
                 raise NoProgram(f"{self.program} groups: {fault}")
-            parts = self.parts(plan, rows)
+            parts = parts_of(plan, rows, list(alike(plan, rows).items()))
         made = {}
-        for part, said in zip(parts, self.every(lambda it: self.checked(plan, rows, *it[:3]), parts)):
+        for part, said in zip(parts, self.every(lambda it: self.checked(plan, rows, it), parts)):
             gather(made, rows, part, said)
         return made
 
-    def parts(self, plan, rows):
-        """Returns the book in parts that each have as many cells as a book may: one of those that are alike."""
-        every = list(alike(plan, rows).items())
-        made = []
-        for begin in range(0, len(every), MOST_CELLS):
-            chosen = every[begin:begin + MOST_CELLS]
-            book, kept = part_of(plan, rows, [(names[0], places) for places, names in chosen])
-            made.append((book, kept, len(chosen), {names[0]: names for _, names in chosen}))
-        return made
-
-    def checked(self, plan, rows, book, kept, cells):
-        """Returns what `check` remarks of a book, which has some rows: the place of each, and what is said. A fault is
-        one of this program."""
-        status, table, fault = run(self.program, ["check", "--slots", str(self.slots)], book)
+    def checked(self, plan, rows, part):
+        """Returns what `check` remarks of a part of a book: the place of each row, and what is said. A fault is one of
+        this program."""
+        status, table, fault = run(self.program, ["check", "--slots", str(self.slots)], part.octets)
         lines = table_of(table)
         if status:
-            where = [int(it[0]) - 1 - cells for it in lines if it[0].isdigit()]
-            row = plan.line(rows[kept[where[0]]]).strip()[:200] if where and 0 <= where[0] < len(kept) else ""
-            raise NoProgram(f"{self.program} check: {fault}: {' '.join(lines[0][5:]) if lines else ''}: {row}")
-        return [(kept[int(it[0]) - 1 - cells], it[3]) for it in lines if it[0]]
+            at = part.place(lines[0][0]) if lines else None
+            row = f": {lines[0][5]}: {plan.line(rows[at])[:200].strip()}" if at is not None else ""
+            raise NoProgram(f"{self.program} check: {fault}{row}")
+        return [(part.place(it[0]), it[3]) for it in lines if it[0]]
 
 
 def gather(made, rows, part, said):
     """Adds what `check` says of a part of a book to what it remarks of the whole rows."""
-    names = part[3]
+    names = part.cells
     for place, what in said:
         one = made.setdefault(place, Remarks())
         if what.startswith("leaves out "):
