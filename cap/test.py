@@ -289,7 +289,14 @@ STRANGE = (
     ([*RIGHT, "--receipt", "none/r.csv", "cap"], 2), ([*RIGHT, "--receipt", "empty", "cap"], 2),
     ([*RIGHT, "--state", "s.json", "--receipt", "./s.json", "cap"], 2), ([*RIGHT, "--warnc", "none", "cap"], 2),
     ([*RIGHT, "--warnc", "/bin/true", "cap"], 2), ([*RIGHT, "--warnc", "/bin/false", "cap"], 2),
+    ([*RIGHT, "--warnc", "./faulty", "cap"], 2),
 )
+# A program that finds a fault in each book.
+FAULTY = """#!/bin/sh
+[ "$1" = check ] || exec PROGRAM "$@"
+printf 'row,line,column,field,value,says\\n2,2,12,TEXT,One,a text\\n'
+exit 1
+"""
 
 
 def strangers(program):
@@ -306,6 +313,8 @@ def strangers(program):
         put(folder, "cells.csv", "lac,ci,lat,lon,radius,Z\n1,1,,,,a\n")
         put(folder, "names.csv", "lac,ci,lat,lon,radius,Z\n")
         put(folder, "empty.csv", "")
+        put(folder, "faulty", FAULTY.replace("PROGRAM", shlex.quote(program)))
+        os.chmod(os.path.join(folder, "faulty"), 0o755)
         for words, wanted in STRANGE:
             status, book, told = ran(program, words, folder)
             if status != wanted or any("Traceback" in it for it in told) or status == 2 and book:

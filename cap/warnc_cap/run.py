@@ -130,7 +130,7 @@ class Runner:
         """Returns the rows of the table that a command writes of a book."""
         status, table, fault = run(self.program, [*words, "--slots", str(self.slots)], book)
         if status:
-            raise NoProgram(f"{self.program} {words[0]}: {fault}\n{table.decode(errors='replace')}".strip())
+            raise NoProgram(f"{self.program} {words[0]}: {fault or f'status {status}'}")
         return table_of(table)
 
     # --- report ---
@@ -170,7 +170,7 @@ class Runner:
         else:
             status, _, fault = run(self.program, ["groups"], book)
             if status:
-                raise NoProgram(f"{self.program} groups: {fault}")
+                raise NoProgram(f"{self.program} groups: {fault or f'status {status}'}")
             parts = parts_of(plan, rows, list(alike(plan, rows).items()))
         made = {}
         for part, said in zip(parts, self.every(lambda it: self.checked(plan, rows, it), parts)):
@@ -184,8 +184,8 @@ class Runner:
         lines = table_of(table)
         if status:
             at = part.place(lines[0][0]) if lines else None
-            row = f": {lines[0][5]}: {plan.line(rows[at])[:200].strip()}" if at is not None else ""
-            raise NoProgram(f"{self.program} check: {fault}{row}")
+            row = f": {lines[0][5]}: {' '.join(plan.line(rows[at])[:200].split())}" if at is not None else ""
+            raise NoProgram(f"{self.program} check: {fault or f'status {status}'}{row}")
         return [(part.place(it[0]), it[3]) for it in lines if it[0]]
 
 
