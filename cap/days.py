@@ -19,7 +19,7 @@ from warnc_cap.place import Cell, Map
 from warnc_cap.plan import MOST_CODE, Plan
 from warnc_cap.policy import DEFAULT, Policy
 from warnc_cap.run import Runner, key_of
-from warnc_cap.text import Prepared
+from warnc_cap.text import Prepared, prepare
 
 SLOTS = 4096
 # The kinds of warning of the days: severity, urgency, certainty, and the identifier and period that they come to.
@@ -399,6 +399,39 @@ def network_differs(seed, program):
     if not same:
         print(f"cap/test.py: network {seed}: {made} {wanted} {remarks} {by_group}\n{book.octets.decode()}")
     return not same
+
+
+# --- Headlines and instructions ---
+
+
+def random_words(rng):
+    letters = rng.choice(("abc", "ab€", "€{a", "abł"))
+    return " ".join("".join(rng.choice(letters) for _ in range(rng.choice((1, 2, 5, 9, 30))))
+                    for _ in range(rng.choice((1, 3, 8, 20))))
+
+
+def pages_of(program, texts):
+    """Returns how many pages each text has."""
+    rows = "cell,0,0\n" + "".join(f"write,0,{at},0,0,0,en,0,1,0,*,\"{text}\"\n" for at, text in enumerate(texts))
+    done = subprocess.run([program, "texts"], input=rows.encode(), capture_output=True, check=True)
+    return [int(row[5]) for row in list(csv.reader(io.StringIO(done.stdout.decode(), newline="")))[1:]]
+
+
+def headline_differs(seed, program):
+    """Whether a headline and an instruction come out otherwise than the longest of all fronts that fit; prints how.
+    Returns also whether the headline gave way."""
+    rng = random.Random(seed)
+    headline, instruction, most = random_words(rng), random_words(rng), rng.choice((1, 2, 3))
+    info = SimpleNamespace(headline=headline, instruction=instruction, description="", event="", parameters={})
+    found = prepare(program, [(info, most)])[0].text
+    fronts = [headline[:at] for at in range(1, len(headline) + 1) if headline[at:at + 1] in ("", " ")]
+    texts = [*(f"{it}\n{instruction}" for it in reversed(fronts)), instruction]
+    texts += [instruction[:at] for at in range(len(instruction), 0, -1) if instruction[at:at + 1] == " "]
+    texts += [instruction[:at] for at in range(len(instruction), 0, -1)]
+    wanted = next(text for text, pages in zip(texts, pages_of(program, texts)) if pages <= most)
+    if found != wanted:
+        print(f"cap/test.py: headline {seed}: {[headline, instruction]} on {most} pages: {found!r} and not {wanted!r}")
+    return found != wanted, wanted != texts[0]
 
 
 # --- Polygons ---

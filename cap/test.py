@@ -34,7 +34,7 @@ RECEIPT = "sender,identifier,info,id,serial,cells,pages,first_shown,shown_in_all
 MOST_SECONDS = 20
 RUNS, DAYS = 2000, 500
 # a crowded day is as much work as several others, and a network's too
-DAYS_A_CROWDED, POLYGONS = 4, 60
+DAYS_A_CROWDED, POLYGONS, HEADLINES = 4, 60, 200
 
 
 def ran(program, words, folder):
@@ -484,6 +484,12 @@ def polygons(count):
     return not any(it[0] for it in found) and all(sum(it[at] for it in found) > count for at in (1, 2))
 
 
+def headlines(program, count):
+    """Whether headlines give way to instructions as the longest of all fronts do that fit."""
+    found = [days.headline_differs(it, program) for it in range(count)]
+    return not any(it[0] for it in found) and sum(it[1] for it in found) > count // 4
+
+
 def main(words):
     if words in ([], ["-h"], ["--help"]) or len(words) > 3 or not all(it.isdigit() for it in words[1:]):
         print(__doc__)
@@ -500,9 +506,9 @@ def main(words):
         jobs += [pool.submit(several_calls, program, it) for it in (False, True)]
         jobs.append(pool.submit(spoilt_runs, program, runs))
         jobs += [pool.submit(it, program) for it in (strangers, network, big_runs)]
-        jobs.append(pool.submit(polygons, POLYGONS))
+        jobs += [pool.submit(polygons, POLYGONS), pool.submit(headlines, program, HEADLINES)]
         failed = sum(not it.result() for it in jobs)
-    counts = f"{len(jobs) - 10} cases, three days, {count} random days and {runs} spoilt messages"
+    counts = f"{len(jobs) - 11} cases, three days, {count} random days and {runs} spoilt messages"
     print(f"cap/test.py: {counts}, {failed} failed")
     return 1 if failed else 0
 

@@ -23,6 +23,8 @@ OTHERS = {
 }
 # how many texts, and how many characters of them, a run of the program is given
 MOST_TEXTS, MOST_CHARACTERS = 4000, 3_000_000
+# how many septets may be lost at the ends of all pages, where a character of two doesn't fit
+MOST_LOST = 16
 
 
 class NoProgram(Exception):
@@ -114,24 +116,30 @@ def costs_of(program, pages, texts):
     return found
 
 
-def with_instructions(program, pages, pairs):
-    """Returns a text of each pair of a headline and an instruction that are too long together: the headline is cut, so
-    that the instruction is whole, or if that is too long alone, its front.
+def ends_near(headline, place):
+    """Returns where a headline may be cut, between words, near a place; and the last such place before."""
+    before = headline.rfind(" ", 0, max(0, place - MOST_LOST))
+    near = range(max(1, place - MOST_LOST), min(len(headline), place + MOST_LOST) + 1)
+    return [it for it in (before, *near) if it > 0 and (it == len(headline) or headline[it] == " ")]
 
-    The program costs the headline after the instruction. As no page ends within two septets of one character, it is
-    asked again whether they take as many pages the other way round.
+
+def with_instructions(program, pages, pairs):
+    """Returns a text of each pair of a headline and an instruction that are too long together: the longest front of the
+    headline, between words, with which the instruction is whole; or if that is too long alone, its own front.
+
+    The program costs the headline after the instruction first. The other way round they take almost as many septets.
     """
     costs = costs_of(program, pages, [f"{instruction}\n{headline}" for headline, instruction in pairs])
-    fronts = [max(0, fits - len(instruction) - 1) for (_, instruction), (_, fits) in zip(pairs, costs)]
-    while True:
-        made = [f"{headline[:front]}\n{instruction}" if front else instruction[:fits]
-                for (headline, instruction), front, (_, fits) in zip(pairs, fronts, costs)]
-        again = costs_of(program, pages, made)
-        long = [at for at, (_, fits) in enumerate(again) if fits < len(made[at])]
-        if not long:
-            return made
-        for at in long:
-            fronts[at] = max(0, pairs[at][0].rfind(" ", 0, fronts[at]))
+    made, tried = [], []
+    for at, ((headline, instruction), (_, fits)) in enumerate(zip(pairs, costs)):
+        made.append(instruction[:fits])
+        if fits >= len(instruction):
+            near = ends_near(headline, max(0, fits - len(instruction) - 1))
+            tried += [(at, f"{headline[:it]}\n{instruction}") for it in near]
+    for (at, text), (_, fits) in zip(tried, costs_of(program, pages, [text for _, text in tried])):
+        if fits == len(text) > len(made[at]):
+            made[at] = text
+    return made
 
 
 def sent_of(program, pages, wanted):
