@@ -20,6 +20,7 @@ import time
 from concurrent.futures import ThreadPoolExecutor
 from dataclasses import dataclass
 from datetime import datetime, timedelta, timezone
+from itertools import product
 
 sys.dont_write_bytecode = True
 HERE = os.path.dirname(os.path.realpath(__file__))
@@ -207,6 +208,7 @@ class Call:
     new: tuple
     gone: tuple
     receipt: tuple
+    slots: int = 9000
 
 
 WRITE_A = "write,0,w@x.example/A/1,4371,1,1,en,0,64,0,*,One"
@@ -239,21 +241,31 @@ CALLS = (
     Call(DAY * 2, (), (WRITE_D, "write,0,w@x.example/C/1,4371,1,4,en,0,64,0,*,Three"), (), (),
          ("A,1,,,,,,,,,", "D,1,4371,4030,1,1,0,0,0,0,", "B,1,,,,,,,,,", "C,1,4371,4040,1,1,1,1,0,0,")),
 )
+WRITE_F = "write,1912,w@x.example/F/1,4371,1,1,en,0,64,0,*,Far"
+# 90,000 s are past the end of the first run, and in slot 1,912 of the second day; 92,000 s are 2,974 (2,973.9), past
+# the end of its first run of 2,000 slots, and in the next.
+LATE_CALLS = (
+    Call(0, ("alert F 0 | headline=Far Z=a effective=90000",), (), (), (), ("F,1,,,,,,,,,",)),
+    Call(DAY, ("cancel G 92000 of=F",), (WRITE_F,), (WRITE_F,), (), ("F,1,4371,4010,1,1,1912,1912,0,0,",), 2000),
+    Call(DAY, (), (WRITE_F, "stop,2974,w@x.example/F/1,*"), ("stop,2974,w@x.example/F/1,*",), (),
+         ("F,1,4371,4010,1,1,1912,1912,0,0,",)),
+    Call(DAY, (), (WRITE_F, "stop,2974,w@x.example/F/1,*"), (), (), ("F,1,4371,4010,1,1,1912,1912,0,0,",)),
+)
 
 
-def several_calls(program, since):
+def several_calls(program, calls, since):
     """Whether what one call keeps goes on in the next: messages, and codes of names. With `since` only rows that are
     new are written, and what is there no longer is told."""
     good = True
     with tempfile.TemporaryDirectory() as folder:
         put(folder, "cells.csv", "lac,ci,lat,lon,radius,Z\n1,1,,,,a\n")
-        for number, call in enumerate(CALLS):
+        for number, call in enumerate(calls):
             names = []
             for line in call.messages:
                 names.append(message_of(line)[0])
                 put(folder, *message_of(line))
-            words = ["--cells", "cells.csv", "--start", at(call.start), "--slots", "9000", "--state", "state.json",
-                     "--receipt", "receipt.csv", *names, *(["--since"] if since else [])]
+            words = ["--cells", "cells.csv", "--start", at(call.start), "--slots", str(call.slots), "--state",
+                     "state.json", "--receipt", "receipt.csv", *names, *(["--since"] if since else [])]
             status, book, told = ran(program, words, folder)
             name, rows = f"call {number}", call.new if since else call.rows
             gone = [it for it in told if "no longer" in it]
@@ -503,12 +515,12 @@ def main(words):
         jobs.append(pool.submit(lambda: not any([days.differs(it, program) for it in range(count)])))
         jobs.append(pool.submit(crowded_days, program, count // DAYS_A_CROWDED))
         jobs.append(pool.submit(days.keeps_chains))
-        jobs += [pool.submit(several_calls, program, it) for it in (False, True)]
+        jobs += [pool.submit(several_calls, program, *it) for it in product((CALLS, LATE_CALLS), (False, True))]
         jobs.append(pool.submit(spoilt_runs, program, runs))
         jobs += [pool.submit(it, program) for it in (strangers, network, big_runs)]
         jobs += [pool.submit(polygons, POLYGONS), pool.submit(headlines, program, HEADLINES)]
         failed = sum(not it.result() for it in jobs)
-    counts = f"{len(jobs) - 11} cases, three days, {count} random days and {runs} spoilt messages"
+    counts = f"{len(jobs) - 13} cases, three days, {count} random days and {runs} spoilt messages"
     print(f"cap/test.py: {counts}, {failed} failed")
     return 1 if failed else 0
 

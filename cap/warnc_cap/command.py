@@ -120,18 +120,18 @@ def plan_of(options, known_codes):
     return Plan(options, rules, cells, codes, place.Map(cells), known_codes)
 
 
-def since(plan, book, earlier):
-    """Returns the octets of the rows of a book that an earlier one hasn't, behind the cells, and tells of those of the
-    earlier one that it hasn't any more."""
+def since(plan, book, rows):
+    """Returns the octets of the rows of a book that are not among earlier ones, behind the cells, and tells of earlier
+    ones that the book hasn't any more."""
     lines = [plan.line(it) for it in book.rows]
-    had = Counter(plan.line(it) for it in earlier.rows)
+    had = Counter(plan.line(it) for it in rows)
     new = []
     for it in lines:
         if had[it]:
             had[it] -= 1
         else:
             new.append(it)
-    for it in earlier.rows:
+    for it in rows:
         line = plan.line(it)
         if had[line]:
             had[line] -= 1
@@ -183,7 +183,7 @@ def tell(lines):
 def called(options):
     """Does what a call is for: returns the octets that are to be written, the texts of the files by their paths, the
     lines to tell, and the status."""
-    past, known_codes = state.read(options.state)
+    past, known_codes, written = state.read(options.state)
     plan, runner = plan_of(options, known_codes), Runner(options.warnc, options.slots)
     kept, wrong = messages_of(options.messages, past)
     messages = [it for _, it in kept]
@@ -193,12 +193,15 @@ def called(options):
     octets, files = book.octets, {}
     if options.since:
         known = {it.encode() for _, it in past}
-        octets = since(plan, book, rounds.made(plan.anew(), [it for own, it in kept if own in known], runner))
+        earlier = rounds.made(plan.anew(), [it for own, it in kept if own in known], runner)
+        # what lay past the end of a run hasn't been in a book yet
+        octets = since(plan, book, [it for it in earlier.rows if written is None or it.key() in written])
     for it in sorted(set(options.presidential) - {it.identifier for it in messages}):
         plan.note("--presidential", message.shown(it), "no message has this identifier")
     if options.state:
         left = [it for it in kept if (it[1].sender, it[1].identifier) not in book.wrong]
-        files[options.state] = state.text_of(left, plan.given)
+        put_before = plan.keys() & written if written is not None else set()
+        files[options.state] = state.text_of(left, plan.given, put_before | {it.key() for it in book.rows})
     if options.receipt:
         files[options.receipt] = receipt.receipt_of(plan, messages, book)
     is_bad = wrong or urgent or options.strict and plan.without_cells

@@ -42,6 +42,11 @@ class Row:
     # whether the program refuses it in all its cells
     refused: bool = False
 
+    def key(self):
+        """Returns what tells it apart from all others in all books: the info that it puts on the air, or what it stops.
+        """
+        return f"stop {self.item.name}" if self.verb == "stop" else "/".join(map(str, self.info))
+
     def octets(self):
         """Returns how many octets it has at most."""
         return self.item.octets + self.item.cells_octets + octets_of(self.text)
@@ -412,6 +417,10 @@ class Plan:
         return slot
 
     # --- Rows ---
+
+    def keys(self):
+        """Returns the keys of all rows that are planned, in the book or not."""
+        return {it.key() for item in self.items for it in item.rows}
 
     def standing(self):
         """Yields the rows that the book has, or would have if its run were longer."""

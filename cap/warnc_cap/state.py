@@ -1,4 +1,4 @@
-"""What is kept from one call to the next: the messages, and the codes of their names."""
+"""What is kept from one call to the next: the messages, the codes of their names, and which rows were in a book."""
 import json
 import os
 
@@ -12,9 +12,10 @@ class StateFault(Exception):
 
 
 def read(path):
-    """Returns the messages of past calls, each with the name of its file, and the codes of names."""
+    """Returns the messages of past calls, each with the name of its file, the codes of names, and the keys of rows that
+    were in a book, or None if a state of an older program doesn't say."""
     if path is None or not os.path.exists(path):
-        return [], {}
+        return [], {}, set()
     try:
         with open(path, encoding="utf-8") as it:
             held = json.load(it)
@@ -26,15 +27,17 @@ def read(path):
         codes = held["codes"]
         if len(set(codes.values())) != len(codes) or not all(type(it) is int and it > 0 for it in codes.values()):
             raise StateFault(f"{path}: its codes aren't different numbers")
-        return past, codes
+        written = held.get("written")
+        return past, codes, None if written is None else set(written)
     except OSError as fault:
         raise StateFault(f"{path}: {fault.strerror}") from None
     except (ValueError, KeyError, TypeError, AttributeError, RecursionError, message.Wrong) as fault:
         raise StateFault(f"{path}: it isn't what warnc-cap writes: {fault}") from None
 
 
-def text_of(kept, codes):
-    """Returns the state of messages, given with their octets, and of the codes of names."""
-    held = {"version": VERSION, "codes": codes,
+def text_of(kept, codes, written):
+    """Returns the state of messages, given with their octets, of the codes of names, and of the keys of rows that were
+    in a book."""
+    held = {"version": VERSION, "codes": codes, "written": sorted(written),
             "messages": [{"file": it.file, "message": octets.decode()} for octets, it in kept]}
     return json.dumps(held, ensure_ascii=False, indent=1) + "\n"
