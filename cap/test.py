@@ -435,6 +435,14 @@ def spoilt_runs(program, runs):
     return good
 
 
+def plain_days(program, count):
+    """Whether random days come out as they should."""
+    wrong = sum([days.differs(it, program) for it in range(count)])
+    print(f"cap/test.py: {count - wrong} of {count} random days are on the air as they should, and `check` says of none "
+          "that a row has a fault or orders nothing")
+    return not wrong
+
+
 def crowded_days(program, count):
     """Whether crowded days and networks come out as they should; there has to be something refused and moved."""
     found = [days.crowded_differs(it, program) for it in range(count)]
@@ -512,7 +520,7 @@ def main(words):
     with ThreadPoolExecutor(len(os.sched_getaffinity(0))) as pool:
         jobs = [pool.submit(sample, program, it) for it in folders]
         jobs += [pool.submit(case, program, name, lines) for name, lines in cases()]
-        jobs.append(pool.submit(lambda: not any([days.differs(it, program) for it in range(count)])))
+        jobs.append(pool.submit(plain_days, program, count))
         jobs.append(pool.submit(crowded_days, program, count // DAYS_A_CROWDED))
         jobs.append(pool.submit(days.keeps_chains))
         jobs += [pool.submit(several_calls, program, *it) for it in product((CALLS, LATE_CALLS), (False, True))]
