@@ -438,7 +438,7 @@ def spoilt_runs(program, runs):
 def plain_days(program, count):
     """Whether random days come out as they should."""
     wrong = sum([days.differs(it, program) for it in range(count)])
-    print(f"cap/test.py: {count - wrong} of {count} random days are as they should, without a fault or `orders nothing`")
+    print(f"cap/test.py: {count - wrong} of {count} random days are as they should, with no fault or `orders nothing`")
     return not wrong
 
 
