@@ -166,8 +166,9 @@ class Plan:
             for name, values in cell.codes.items():
                 for value in values:
                     self.by_code.setdefault((name, value), set()).add(cell.name)
-        # what the program refuses in all its cells, by name and update number; writes that wait for what they follow
-        self.refused, self.moved = set(), set()
+        # what the program refuses in all its cells, by name and update number; the writes that wait for what they
+        # follow, with the slots at which they don't
+        self.refused, self.moved = set(), {}
         # the codes that names have had before
         self.known_codes = dict(known_codes)
         # where the infos of each message are to be on the air, all sets of cells, and cells as the book has them

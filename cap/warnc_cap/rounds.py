@@ -56,39 +56,66 @@ def planned(plan, messages, prepared):
     return plan.rows(), wrong
 
 
-def learns(plan, rows, outcomes, turns):
-    """Notes in the plan what all cells refuse, and what is to wait; returns whether that is new.
-
-    What a row comes to depends on earlier rows alone. So of what is to wait the earliest counts; what all cells refuse
-    is noted at once, and taken back if it isn't so any more. Turns are how often that was done with a row.
-    """
-    found, waiting = [], []
+def waiting_in(plan, rows, outcomes):
+    """Returns the writes that are to wait for what they take the place of, each behind its slot."""
+    found = []
     for row in rows:
-        item, outcome, name = row.item, outcomes.get(key_of(row)), (row.item.name, row.number)
-        if row.verb == "stop":
+        outcome = outcomes.get(key_of(row))
+        is_free = row.verb == "write" and row.item.follows and row.item.name not in plan.moved
+        if is_free and outcome and "06" in outcome.refused:
+            found.append((max(row.slot, 0), row.item.name))
+    return found
+
+
+def turned_in(plan, rows, outcomes, waiting, turns):
+    """Returns the rows that all cells refuse and that the plan takes for done, or the other way round, each as its
+    slot, name and update number. Turns are how often that was so of a row."""
+    waits, found = {name for _, name in waiting}, []
+    for row in rows:
+        name, outcome = (row.item.name, row.number), outcomes.get(key_of(row))
+        if row.verb == "stop" or row.verb == "write" and row.item.name in waits or turns.get(name, 0) >= MOST_TURNS:
             continue
-        if row.number == 0 and item.follows and item.name not in plan.moved and outcome and "06" in outcome.refused:
-            waiting.append((max(row.slot, 0), item.name))
-        elif (outcome is None or not outcome.done) != (name in plan.refused) and turns.get(name, 0) < MOST_TURNS:
+        if (outcome is None or not outcome.done) != (name in plan.refused):
             found.append((max(row.slot, 0), name))
-    first = min((slot for slot, _ in found + waiting), default=0)
-    for _, name in found:
-        plan.refused ^= {name}
-        turns[name] = turns.get(name, 0) + 1
-    plan.moved |= {name for slot, name in waiting if slot == first}
-    return bool(found or waiting)
+    return found
+
+
+def wait(plan, waiting, first):
+    """Has the writes of a slot wait; those that were found to wait later were found in another book."""
+    plan.moved = {name: slot for name, slot in plan.moved.items() if slot <= first}
+    plan.moved.update({name: slot for slot, name in waiting if slot == first})
+
+
+def settled(plan, messages, prepared, runner):
+    """Plans messages, and has writes wait as far as the crowded cells tell; returns what planned() does.
+
+    What a row comes to depends on earlier rows alone, so that the earliest waits first.
+    """
+    rows, wrong = planned(plan, messages, prepared)
+    for _ in range(MOST_ROUNDS):
+        waiting = waiting_in(plan, rows, runner.outcomes(plan, rows, runner.crowded))
+        if not waiting:
+            break
+        wait(plan, waiting, min(waiting)[0])
+        rows, wrong = planned(plan, messages, prepared)
+    return rows, wrong
 
 
 def made(plan, messages, runner):
-    """Returns the book of messages."""
-    prepared = prepared_texts(plan, messages)
+    """Returns the book of messages. What all cells refuse is noted at once, and taken back if it isn't so any more."""
+    prepared, turns = prepared_texts(plan, messages), {}
     rows, wrong = planned(plan, messages, prepared)
     outcomes = runner.outcomes(plan, rows)
-    turns = {}
     for _ in range(MOST_ROUNDS):
-        if not learns(plan, rows, outcomes, turns):
+        waiting = waiting_in(plan, rows, outcomes)
+        turned = turned_in(plan, rows, outcomes, waiting, turns)
+        if not waiting and not turned:
             break
-        rows, wrong = planned(plan, messages, prepared)
+        for _, name in turned:
+            plan.refused ^= {name}
+            turns[name] = turns.get(name, 0) + 1
+        wait(plan, waiting, min(slot for slot, _ in waiting + turned))
+        rows, wrong = settled(plan, messages, prepared, runner)
         outcomes = runner.outcomes(plan, rows)
     else:
         plan.note("book", "rows", f"after {MOST_ROUNDS} runs more is refused: later warnings may not be as they should")

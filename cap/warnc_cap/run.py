@@ -16,6 +16,8 @@ from .text import NoProgram, run
 CAUSES = {"02": "message reference not identified", "06": "BSC capacity exceeded", "0a": "past the end of the run",
           "0d": "message reference already used"}
 STOP = "stop"
+# so many cells that refuse most are run until they settle, before all are
+MOST_CROWDED = 4 * MOST_CELLS
 
 
 @dataclass
@@ -82,14 +84,14 @@ def table_of(octets):
         csv.field_size_limit(before)
 
 
-def alike(plan, rows):
-    """Returns the names of cells by the places of the rows that they have."""
-    places, having, found = {}, {it.name: [] for it in plan.cells}, {}
+def alike(plan, rows, chosen=None):
+    """Returns the names of cells by the places of the rows that they have; of all cells, or of some."""
+    places, having, found = {}, {it: [] for it in (plan.order if chosen is None else chosen)}, {}
     for place, row in enumerate(rows):
         places.setdefault(row.item.cells, []).append(place)
     every = list(places.values())
     for at, cells in enumerate(places):
-        for name in cells:
+        for name in cells if chosen is None else cells.intersection(having):
             having[name].append(at)
     for name, sets in having.items():
         found.setdefault(tuple(sets), []).append(name)
@@ -120,6 +122,8 @@ class Runner:
         self.program, self.slots = program, slots
         # a cell without rows does nothing
         self.known, self.words = {(): {}}, {}
+        # the cells that refused most when all were run, one of those that are alike
+        self.crowded = []
 
     def every(self, function, parts):
         """Returns what a function makes of each part, several side by side."""
@@ -135,15 +139,19 @@ class Runner:
 
     # --- report ---
 
-    def outcomes(self, plan, rows):
-        """Returns what becomes of the rows of a book, by code and update number."""
+    def outcomes(self, plan, rows, chosen=None):
+        """Returns what becomes of the rows of a book, by code and update number; in all cells, or in some."""
         texts = [self.words.setdefault(plan.line(it, "*"), len(self.words)) for it in rows]
-        cells = [(places, names, tuple(texts[it] for it in places)) for places, names in alike(plan, rows).items()]
+        cells = [(places, names, tuple(texts[it] for it in places))
+                 for places, names in alike(plan, rows, chosen).items()]
         new = [it for it in cells if it[2] not in self.known]
         found = {}
         for it in self.every(self.reported, parts_of(plan, rows, [it[:2] for it in new])):
             found.update(it)
         self.known.update({key: found[names[0]] for _, names, key in new})
+        if chosen is None:
+            refusals = [(sum(bool(it[0]) for it in self.known[key].values()), names[0]) for _, names, key in cells]
+            self.crowded = [name for count, name in sorted(refusals, reverse=True)[:MOST_CROWDED] if count]
         made = {}
         for _, names, key in cells:
             for which, (cause, pages, shown) in self.known[key].items():
