@@ -47,11 +47,12 @@ def planned(plan, messages, prepared):
     plan.begin()
     wrong = {}
     for it in messages:
-        notes = dict(plan.notes)
+        notes = len(plan.notes)
         try:
             plan.take(it, prepared)
         except Wrong as fault:
-            plan.notes = notes
+            for one in list(plan.notes)[notes:]:
+                del plan.notes[one]
             wrong[it.sender, it.identifier] = f"{it.file}: {fault}"
     return plan.rows(), wrong
 
