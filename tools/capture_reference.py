@@ -226,7 +226,7 @@ def block_in(link, octets, source, channel, is_sdcch):
     return frame, octets[4 * words:]
 
 
-def tape_of(octets, lac, cell, slots, source=None, channel=None, is_sdcch=False):
+def tape_of(octets, lac, cell, slots, source=None, channel=None, is_sdcch=False, first_slot=0):
     blocks, first, last = {}, None, None
     for number, link, inside in packets_of(octets):
         if link not in LINKS:
@@ -247,7 +247,8 @@ def tape_of(octets, lac, cell, slots, source=None, channel=None, is_sdcch=False)
             elif step >= SLOTS // 2:
                 raise Refused(f"packet {number}: steps back")
             last += step
-        if last < slots and blocks.setdefault(4 * last + part, block) != block:
+        there = first_slot + last
+        if there < slots and blocks.setdefault(4 * there + part, block) != block:
             raise Refused(f"packet {number}: block differs")
     return gsm.tape_of(lac, cell, (blocks.get(it, gsm.IDLE) for it in range(4 * slots)))
 
@@ -421,7 +422,9 @@ def compare(program, runs):
         back += [str(wanted)] + ([] if source is None else ["--from", ".".join(map(str, source))])
         back += [] if channel is None else ["--arfcn", str(channel)]
         back += ["--channel", "sdcch"] if is_sdcch else rng.choice([[], [], ["--channel", "cbch"]])
-        mine = made(tape_of, file, lac, cell, wanted, source, channel, is_sdcch)
+        first = rng.choice([0, 0, 0, 1, wanted - 1, wanted, 65535])
+        back += ["--first-slot", str(first)] if first or rng.random() < 0.2 else []
+        mine = made(tape_of, file, lac, cell, wanted, source, channel, is_sdcch, first)
         assert ran(program, back, file) == mine, f"run {run}: {back}: {mine if isinstance(mine, str) else 'a tape'}"
         kind = "a tape" if isinstance(mine, bytes) else mine.split(": ")[-1]
         counts[kind] = counts.get(kind, 0) + 1

@@ -13,6 +13,7 @@ import random
 import subprocess
 import sys
 
+import books
 import gsm
 from random_runs import judged
 
@@ -96,14 +97,6 @@ def whole_slots(blocks):
             yield b"".join(slot)
 
 
-def line_of(fields):
-    """Returns a line of CSV: fields are quoted if they hold a comma, a quote or a line end."""
-    def quoted(field):
-        text = str(field)
-        return '"' + text.replace('"', '""') + '"' if set(text) & set(',"\r\n') else text
-    return ",".join(map(quoted, fields)) + "\n"
-
-
 def random_content(rng, dcs):
     """Returns the octets of a content: a text that ends anywhere, or any octets."""
     if rng.random() < 0.2:
@@ -151,8 +144,8 @@ def differs(program, seed):
     tapes = [(rng.randrange(3), rng.randrange(65536), random_blocks(rng, rng.randrange(12)))
              for _ in range(rng.choice((0, 1, 2, 8)))]
     octets = b"".join(gsm.tape_of(*it) for it in tapes)
-    tables = {short: line_of(("lac", "ci", "id", "serial", "text")) + "".join(
-        line_of((lac, ci, ident, f"{serial:04x}", text)) for lac, ci, blocks in tapes
+    tables = {short: books.line(("lac", "ci", "id", "serial", "text")) + "".join(
+        books.line((lac, ci, ident, f"{serial:04x}", text)) for lac, ci, blocks in tapes
         for ident, serial, text in shown_by(blocks, short)) for short in (True, False)}
     whole = b"".join(gsm.tape_of(lac, ci, whole_slots(blocks)) for lac, ci, blocks in tapes)
     for words, wanted in ((["read", "--short"], tables[True].encode()), (["read"], tables[False].encode()),

@@ -5,8 +5,9 @@ itself.
 
 Usage: verify_reference.py PROGRAM [RUNS]    random books, whose tapes are left as they are in every third run, and else
                                              spoilt: octets changed, slots swapped, dropped and doubled, blocks shifted,
-                                             tapes missing, doubled, cut or foreign; the rows of both programs have to
-                                             be the same. PROGRAM is a built `warnc`
+                                             tapes missing, doubled, cut or foreign; in every fourth run pages have
+                                             fewer blocks, and are judged with --short; the rows of both programs have
+                                             to be the same. PROGRAM is a built `warnc`
 """
 import csv
 import io
@@ -17,6 +18,7 @@ import tempfile
 
 import books
 import gsm
+import short_reference
 from random_runs import judged
 
 # those of the data codings 00 to 0F
@@ -184,6 +186,24 @@ def spoilt(rng, tapes):
     return tapes
 
 
+def shortened(rng, blocks):
+    """Returns blocks in which most pages that fill a slot are cut to fewer blocks."""
+    made = []
+    for at in range(0, len(blocks), 4):
+        slot = blocks[at:at + 4]
+        if tuple(it[0] for it in slot) == gsm.TYPES and rng.random() < 0.7:
+            kinds = short_reference.KINDS[rng.choice((1, 2, 3))]
+            slot = [bytes([kind]) + block[1:] for kind, block in zip(kinds, slot)] + [gsm.IDLE] * (4 - len(kinds))
+        made += slot
+    return made
+
+
+def completed(blocks):
+    """Returns blocks with four blocks of each page."""
+    slots = b"".join(short_reference.whole_slots(blocks))
+    return [slots[at:at + 23] for at in range(0, len(slots), 23)]
+
+
 def run(program, words, octets):
     return subprocess.run([program, *words], input=octets, stdout=subprocess.PIPE, stderr=subprocess.PIPE, check=False)
 
@@ -200,16 +220,19 @@ def differs(program, seed):
         tapes = spoilt(rng, tapes)
     else:
         rng.shuffle(tapes)
-    table = table_of(cells, asked_of(report.stdout.decode(), orders, slots), tapes, slots)
+    is_short = seed % 4 == 1
+    tapes = [(lac, ci, shortened(rng, blocks)) for lac, ci, blocks in tapes] if is_short else tapes
+    judged_tapes = [(lac, ci, completed(blocks)) for lac, ci, blocks in tapes] if is_short else tapes
+    table = table_of(cells, asked_of(report.stdout.decode(), orders, slots), judged_tapes, slots)
     given = b"".join(gsm.tape_of(*it) for it in tapes)
     with tempfile.NamedTemporaryFile() as file:
         file.write(octets)
         file.flush()
-        said = run(program, ["verify", "--slots", str(slots), "--book", file.name], given)
+        said = run(program, ["verify", "--slots", str(slots), "--book", file.name] + ["--short"] * is_short, given)
     count = table.count("\n") - 1
     status, faults = (1, f"warnc: differences: {count}\n") if count else (0, "")
     wanted = table, faults, status
-    if (said.stdout.decode(), said.stderr.decode(), said.returncode) == wanted and (seed % 3 or not count):
+    if (said.stdout.decode(), said.stderr.decode(), said.returncode) == wanted and (seed % 3 or is_short or not count):
         return False
     print(f"run {seed}:\n{book}{table}{said.stdout.decode()}{said.stderr.decode()}")
     return True

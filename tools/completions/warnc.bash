@@ -36,11 +36,11 @@ _warnc() {
             report) words="--slots --group --network --full --workers -h --help" ;;
             chart) words="--slots --group --network --cell --workers -h --help" ;;
             read) words="--short -h --help" ;;
-            verify) words="--book --slots --group --workers -h --help" ;;
+            verify) words="--book --slots --short --group --workers -h --help" ;;
             page) words="--lang --id --scope --code --update -h --help" ;;
             live) words="--slots --group --network --sessions --workers -h --help" ;;
             pcap) words="--used --channel -h --help" ;;
-            tape) words="--cell --slots --from --arfcn --channel -h --help" ;;
+            tape) words="--cell --slots --first-slot --from --arfcn --channel -h --help" ;;
             whole) words="-h --help" ;;
             groups) words="-h --help" ;;
             help) words="check texts compile report chart read verify page live pcap tape whole groups" ;;

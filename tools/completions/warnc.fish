@@ -41,6 +41,7 @@ complete -c warnc -n '__fish_seen_subcommand_from chart' -x -l workers -d 'How m
 complete -c warnc -n '__fish_seen_subcommand_from read' -l short -d 'Reads pages of one to three blocks, too, as networks send that cut a page after its text'
 complete -c warnc -n '__fish_seen_subcommand_from verify' -r -F -l book -d 'The file of the book; the tapes are the input'
 complete -c warnc -n '__fish_seen_subcommand_from verify' -x -l slots -d 'How many slots each cell\'s run has, 1 to 65535, each 1.883 s'
+complete -c warnc -n '__fish_seen_subcommand_from verify' -l short -d 'Reads pages of one to three blocks, too, as networks send that cut a page after its text'
 complete -c warnc -n '__fish_seen_subcommand_from verify' -x -l group -d 'Takes the book for a network book, and of it the group of this number, from 0'
 complete -c warnc -n '__fish_seen_subcommand_from verify' -x -l workers -d 'How many workers play cells and make tapes, or run groups, side by side, 1 to 64'
 complete -c warnc -n '__fish_seen_subcommand_from page' -x -l lang -d 'The text\'s language' \
@@ -59,6 +60,7 @@ complete -c warnc -n '__fish_seen_subcommand_from pcap' -l used -d 'Leaves out s
 complete -c warnc -n '__fish_seen_subcommand_from pcap' -x -l channel -d 'The CBCH that the packets name' -a '51 52'
 complete -c warnc -n '__fish_seen_subcommand_from tape' -x -l cell -d 'The cell that the tape names, as 1-2'
 complete -c warnc -n '__fish_seen_subcommand_from tape' -x -l slots -d 'How many slots the tape has, 1 to 65535, each 1.883 s'
+complete -c warnc -n '__fish_seen_subcommand_from tape' -x -l first-slot -d 'The slot of the tape in which the first block stands, 0 to 65535; 0 if it isn\'t given'
 complete -c warnc -n '__fish_seen_subcommand_from tape' -x -l from -d 'Takes the packets from this IPv4 address alone, as 127.0.0.1; all if it isn\'t given'
 complete -c warnc -n '__fish_seen_subcommand_from tape' -x -l arfcn -d 'Takes the packets of this radio channel alone, 0 to 1023; all if it isn\'t given'
 complete -c warnc -n '__fish_seen_subcommand_from tape' -x -l channel -d 'The channel that packets name, by its own type or, as receivers do that know none, SDCCH' \

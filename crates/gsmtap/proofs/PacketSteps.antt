@@ -9,7 +9,7 @@ use Rattle.gsmtap.specs.PieceSteps.{BeginsWithPiece, IsFrontFault, meant}
 use Rattle.gsmtap.specs.Pieces.{BringAll, Brings, IsCutPiece, IsWrongPiece, least, meaning, packets_in}
 use Rattle.gsmtap.specs.Section.{Meaning, Section}
 use Rattle.gsmtap.specs.TapeOfCapture.{AreKnown, AreTaken, EndsWith, HasWrongPacket, IsAirFaultOf, IsFileWith, Opens}
-use Rattle.gsmtap.specs.TapeOfCapture.{after_packet, after_packets, nothing_known, taken}
+use Rattle.gsmtap.specs.TapeOfCapture.{after_packet, after_packets, nothing_known, slots_taken, taken}
 use Rattle.gsmtap.specs.TapeSteps.{IsBeginFault, IsFoundKind, IsPacketKind, IsPieceFaultOf, after_found, count_of}
 use Rattle.gsmtap.specs.Track.{Known}
 use Rattle.gsmtap.specs.declared.fault.AirFaultKind.{AirFaultKind}
@@ -63,7 +63,7 @@ taken_more : (wanted : Wanted) (packets : List Packet) (packet : Packet) (known 
 unfolding taken
 taken_more wanted packets packet known result is comes =
     let here : 0 + length packets + 1 ≡ length packets + 1 = omega arith in
-    after_more wanted.from 0 (Ok (nothing_known wanted.slots)) packets packet known is
+    after_more wanted.from 0 (Ok (nothing_known (slots_taken wanted))) packets packet known is
     ∙ ap (λ n. after_packets wanted.from n (after_packet wanted.from known packet) []) here
     ∙ ap (λ state. after_packets wanted.from (length packets + 1) state []) comes
 
@@ -243,7 +243,7 @@ all_taken wanted here octets there left number known sofar end = record {
 
 -- before the first piece
 pub none_taken : (wanted : Wanted) (here : Section) (octets : List ℕ) (known : Known) →
-    known ≡ nothing_known wanted.slots → AreTaken wanted here octets here octets 0 known
+    known ≡ nothing_known (slots_taken wanted) → AreTaken wanted here octets here octets 0 known
 unfolding taken
 none_taken wanted here octets known is = record {
   pieces = [];

@@ -2,10 +2,12 @@
 use Rattle.std.proofs.Common.{◌≡◌, ℕ, ◌+◌, ◌*◌, ◌%◌, ◌<◌, ◌^◌, List, [], ◌∷◌, ◌++◌, length, map, take, drop, refl}
 use Rattle.std.proofs.Common.{suc, sym, ap, ◌∙◌, arith, append_assoc, append-nil, Option, Some, None, Result, Ok}
 use Rattle.std.proofs.Common.{replicate, Err, lit<, lit≤, inl, subst}
+use Rattle.std.proofs.Math.Nat.{zero-min}
 use Rattle.std.specs.List.{flat_map, AllByRecursion, slice_get}
 use Rattle.std.specs.Prelude.{slice_set, nat_lt, true}
 use Rattle.cbsp_wire.specs.declared.message.Cell.{Cell}
-use Rattle.gsmtap.specs.TapeOfCapture.{after_packet, after_packets, after_sent, blocks_in, nothing_known, taken}
+use Rattle.gsmtap.specs.TapeOfCapture.{after_packet, after_packets, after_sent, blocks_in, nothing_known}
+use Rattle.gsmtap.specs.TapeOfCapture.{slots_taken, taken}
 use Rattle.gsmtap.specs.declared.track.Track.{Track}
 use Rattle.byteorder.specs.Numbers.{big_number-reads_back}
 use Rattle.gsmtap.specs.File.{Packet, link_number, link_numbered, octet_order_of}
@@ -375,15 +377,15 @@ all_known [] = refl
 all_known (block ∷ blocks) = ap (λ rest. block ∷ rest) (all_known blocks)
 
 packets_taken : (wanted : Wanted) (channel : Channel) (cell : Cell) (slots : List (List ℕ)) →
-    wanted.from ≡ anyone → wanted.slots ≡ length slots → AllByRecursion (λ slot. length slot ≡ 92) slots →
+    wanted.from ≡ anyone → slots_taken wanted ≡ length slots → AllByRecursion (λ slot. length slot ≡ 92) slots →
     (known : Known) × (taken wanted (packets_on channel cell 0 slots) ≡ Ok known)
     × (known.blocks ≡ map Some (blocks_of_slots slots))
 unfolding taken
 packets_taken wanted channel cell slots anywhere many each =
     let all = all_taken channel cell 0 0 slots None [] each refl leads_first in (
       all.0,
-      ap (λ from. after_packets from 0 (Ok (nothing_known wanted.slots)) (packets_on channel cell 0 slots))
-          anywhere
+      ap (λ from. after_packets from 0 (Ok (nothing_known (slots_taken wanted)))
+          (packets_on channel cell 0 slots)) anywhere
           ∙ ap (λ n. after_packets anyone 0 (Ok (nothing_known n)) (packets_on channel cell 0 slots)) many
           ∙ all.1,
       all.2,
@@ -392,12 +394,12 @@ packets_taken wanted channel cell slots anywhere many each =
 -- the tape of a capture of a tape is that tape
 pub there_and_back : CaptureHasTheTape
 there_and_back cell channel slots few each =
-    let wanted : Wanted = record { cell = cell; slots = length slots; from = anyone } in
+    let wanted : Wanted = record { cell = cell; slots = length slots; first_slot = 0; from = anyone } in
     let settings : Settings = record { channel = channel; slots = All } in
     let said : Cell = cell_in (tape_octets cell (length slots) []) in
     let pieces : List (List ℕ) = pieces_on channel said 0 slots in
     let packets : List Packet = packets_on channel said 0 slots in
-    let taken_all = packets_taken wanted channel said slots refl refl each in
+    let taken_all = packets_taken wanted channel said slots refl (omega arith) each in
     let blocks : octets_of_blocks (blocks_in taken_all.0.blocks) ≡ flat_map (λ slot. slot) slots =
     ap (λ known. octets_of_blocks (blocks_in known)) taken_all.2
     ∙ ap octets_of_blocks (all_known (blocks_of_slots slots)) ∙ blocks_joined slots each in
@@ -432,5 +434,6 @@ there_and_back cell channel slots few each =
           };
         };
       };
-      written = ap (λ octets. tape_octets cell (length slots) [] ++ octets) (sym blocks);
+      written =
+          rw (zero-min (length slots)) (ap (λ octets. tape_octets cell (length slots) [] ++ octets) (sym blocks));
     }

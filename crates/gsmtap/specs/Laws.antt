@@ -18,6 +18,6 @@ abbrev pub CaptureHasTheTape : Type 0
 CaptureHasTheTape =
     (cell : Cell) (channel : Channel) (slots : List (List ℕ)) → length slots ≤ max_slots →
     AllByRecursion (λ slot. length slot ≡ 92) slots →
-    IsTapeOfCapture (record { cell = cell; slots = length slots; from = anyone })
+    IsTapeOfCapture (record { cell = cell; slots = length slots; first_slot = 0; from = anyone })
     (capture (record { channel = channel; slots = All }) (tape_with cell slots ∷ []))
     (octets_of_tape (tape_with cell slots))

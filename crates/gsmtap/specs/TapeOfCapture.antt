@@ -1,6 +1,6 @@
 -- The tape that a capture file is: a block that the file doesn't have is idle.
-use Rattle.std.specs.Prelude.{◌≡◌, ℕ, ◌+◌, ◌*◌, ◌<◌, ◌≤◌, ◌⊎◌, false, true, List, [], ◌∷◌, ◌++◌, length, map, replicate}
-use Rattle.std.specs.Prelude.{take, unwrap_or, Option, Some, None, Result, Ok, Err}
+use Rattle.std.specs.Prelude.{◌≡◌, ℕ, ◌+◌, ◌-◌, ◌*◌, ◌<◌, ◌≤◌, min, ◌⊎◌, false, true, List, [], ◌∷◌, ◌++◌, length, map}
+use Rattle.std.specs.Prelude.{replicate, take, unwrap_or, Option, Some, None, Result, Ok, Err}
 use Rattle.std.specs.List.{flat_map}
 use Rattle.cbch_blocks.specs.Blocks.{idle_block}
 use Rattle.handset.specs.Tape.{tape_octets}
@@ -45,13 +45,20 @@ after_packets from number (Ok known) (packet ∷ rest) =
     after_packets from (number + 1) (after_packet from known packet) rest
 after_packets from number (Err why) (packet ∷ rest) = Err (record { packet = number; kind = why })
 
--- packets of a file are taken from the first on, and this comes of them
-unfoldable pub taken : Wanted → List Packet → Result Known AirFault
-taken wanted packets = after_packets wanted.from 0 (Ok (nothing_known wanted.slots)) packets
+-- the slots of the tape from the first block's on: packets of a file are taken from the first on, and this comes of
+-- them
+abbrev pub slots_taken : Wanted → ℕ
+slots_taken wanted = wanted.slots - wanted.first_slot
 
--- the blocks of a tape
+unfoldable pub taken : Wanted → List Packet → Result Known AirFault
+taken wanted packets = after_packets wanted.from 0 (Ok (nothing_known (slots_taken wanted))) packets
+
+-- the blocks of a tape, and those of its slots before the first block's, of which none is known
 abbrev pub blocks_in : List (Option (List ℕ)) → List (List ℕ)
 blocks_in blocks = map (λ block. unwrap_or block idle_block) blocks
+
+abbrev pub blocks_before : Wanted → List (Option (List ℕ))
+blocks_before wanted = replicate (4 * min wanted.first_slot wanted.slots) None
 
 -- octets begin with whole pieces, of which the first begins here, and whose packets are so many and no fault; then
 -- comes the rest. This is known of the file and of the tape after them
@@ -130,7 +137,7 @@ pub record IsFileWith (input : List ℕ) (IsSo : Section → List ℕ → Type 0
 pub record IsTapeOfCapture (wanted : Wanted) (input output : List ℕ) : Type 0 where
   pub known : Known
   pub file : IsFileWith input (λ here after. AreKnown wanted here after known)
-  pub written : output ≡ tape_octets wanted.cell wanted.slots (blocks_in known.blocks)
+  pub written : output ≡ tape_octets wanted.cell wanted.slots (blocks_in (blocks_before wanted ++ known.blocks))
 
 -- the header is cut, or its magic number isn't known, and it isn't that of pcapng; or the link type isn't known
 pub record IsNoCapture (input : List ℕ) : Type 0 where

@@ -4,7 +4,8 @@ ghost use Rattle.std.specs.Prelude.{◌≡◌, ◌+◌, ◌*◌, ◌<◌, ◌≤
 ghost use Rattle.std.specs.Prelude.{Err, []};
 ghost use Rattle.handset.specs.Tape.{octets_of_blocks, tape_octets};
 ghost use Rattle.gsmtap.specs.PieceSteps.{section_of};
-ghost use Rattle.gsmtap.specs.TapeOfCapture.{AreKnown, IsAirFault, IsTapeOfCapture, Opens, after_packet, blocks_in};
+ghost use Rattle.gsmtap.specs.TapeOfCapture.{AreKnown, IsAirFault, IsTapeOfCapture, Opens, after_packet};
+ghost use Rattle.gsmtap.specs.TapeOfCapture.{blocks_before, blocks_in};
 ghost use Rattle.gsmtap.specs.TapeSteps.{IsBeginFault, IsFoundKind, IsPacketKind, IsPieceFault, after_found};
 ghost use Rattle.gsmtap.specs.TapeSteps.{count_of, known_of, last_slot};
 
@@ -49,12 +50,15 @@ pub struct Wanted {
     pub cell: Cell,
     /// How many slots it has.
     pub slots: u16,
+    /// In which of them the first block stands: a receiver may begin after the run whose slots they are.
+    pub first_slot: u16,
     /// Whose packets are taken.
     pub from: Sender,
 }
 
 /// The tape that a capture file is, in the classic format of libpcap or in pcapng: four blocks for each slot, idle
-/// where the file has none. Slot 0 is that of the first block; blocks after the last slot are passed over.
+/// where the file has none. The first block stands in the slot that is wanted; blocks after the last slot are passed
+/// over.
 ///
 /// # Errors
 ///
@@ -114,7 +118,7 @@ fn read_pieces(
     ensures known { IfOk result (λ air. AreKnown wanted.now (section_of reader) octets.now (known_of air)) }
     ensures fault { IfErr result (IsPieceFault wanted.now (section_of reader) octets.now) }
 {
-    let mut air = Air::new(alloc, wanted.slots)?;
+    let mut air = Air::new(alloc, wanted.slots.saturating_sub(wanted.first_slot))?;
     let mut left = octets;
     let mut number = 0;
     'pieces: while !left.is_empty() {
@@ -175,11 +179,13 @@ fn take_packet(air: &mut Air, from: Sender, packet: &Captured) -> Result<(), Air
 
 /// The octets of the tape of which this is known.
 fn tape_of(alloc: Global, wanted: &Wanted, air: &Air) -> Result<Vec<u8>, AllocError>
-    ensures { IfOk result (λ output. output.items
-        ≡ tape_octets wanted.now.cell wanted.now.slots (blocks_in air.now.blocks.items)) }
+    ensures { IfOk result (λ output. output.items ≡ tape_octets wanted.now.cell wanted.now.slots
+        (blocks_in (blocks_before wanted.now ++ air.now.blocks.items))) }
 {
+    let before = wanted.first_slot.min(wanted.slots);
     let mut output = Vec::new(alloc);
     output.extend_from_slice(&header_of(wanted.cell, wanted.slots))?;
+    push_blocks(&mut output, &vec![in alloc; None; 4 * usize::from(before)]?)?;
     push_blocks(&mut output, &air.blocks)?;
     Ok(output)
 }

@@ -82,7 +82,7 @@ fn capture(alloc: Global, bench: &mut Bench, words: &mut Words) -> Result<String
     }
 }
 
-/// The tape that words want.
+/// The tape that words want: a cell, a number of slots, whose packets, and the slot of the first block.
 fn wanted_in(words: &mut Words) -> Result<Wanted, Fail> {
     let cell = cbsp_wire::Cell {
         lac: words.number16()?,
@@ -93,11 +93,15 @@ fn wanted_in(words: &mut Words) -> Result<Wanted, Fail> {
         cell,
         slots,
         from: sender_in(words)?,
+        first_slot: match words.word() {
+            "" => 0,
+            slot => slot.parse::<u16>()?,
+        },
     })
 }
 
 /// Whose packets are wanted: an address in eight hexadecimal digits, a radio channel, each `-` for any, and `sdcch` for
-/// those that are marked so; nothing for anyone.
+/// those that are marked so, or `cbch`; nothing for anyone.
 fn sender_in(words: &mut Words) -> Result<Sender, Fail> {
     let address = match words.word() {
         "" | "-" => None,

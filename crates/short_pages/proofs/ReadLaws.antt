@@ -79,7 +79,7 @@ quarters page whole =
     ∙ quarter page 0
 
 -- a page's four blocks are one page, and no page stands among them
-page_in_front : (page : List ℕ) (rest : List (List ℕ)) → length page ≡ 88
+pub page_in_front : (page : List ℕ) (rest : List (List ℕ)) → length page ≡ 88
     → pages_read (blocks_of_page page ++ rest) ≡ view_of page ∷ pages_read rest
 page_in_front page rest whole = ap (λ octets. view_of octets ∷ pages_read rest) (quarters page whole)
 

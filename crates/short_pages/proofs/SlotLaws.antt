@@ -1,7 +1,6 @@
 -- The slots of a list of blocks, completed one after another.
-use Rattle.std.proofs.Common.{◌≡◌, ℕ, ◌+◌, ◌*◌, ◌<◌, ◌≤◌, zero, suc, List, [], ◌∷◌, ◌++◌, length, drop, refl, ap, sym}
-use Rattle.std.proofs.Common.{◌∙◌}
-use Rattle.std.proofs.Common.{append_assoc, arith}
+use Rattle.std.proofs.Common.{◌≡◌, ℕ, ◌+◌, ◌*◌, ◌/◌, ◌<◌, ◌≤◌, zero, suc, List, [], ◌∷◌, ◌++◌, length, take, drop}
+use Rattle.std.proofs.Common.{refl, ap, sym, ◌∙◌, append_assoc, arith}
 use Rattle.std.specs.List.{flat_map}
 use Rattle.std.specs.Simd.{first_chunks}
 use Rattle.short_pages.specs.Slots.{completed, completed_slot}
@@ -24,3 +23,13 @@ completed-slots (suc k) [] low high = absurd (omega arith)
 completed-slots (suc k) (a ∷ []) low high = absurd (omega arith)
 completed-slots (suc k) (a ∷ b ∷ []) low high = absurd (omega arith)
 completed-slots (suc k) (a ∷ b ∷ c ∷ []) low high = absurd (omega arith)
+
+-- what was read slot by slot, and the blocks that are left, are all blocks, completed
+pub completed-one-by-one : (n : ℕ) (blocks : List (List ℕ)) (slots : List (List (List ℕ))) (rest : List (List ℕ))
+    → take n slots ≡ slots → slots ≡ first_chunks 4 (length blocks / 4) blocks
+    → rest ≡ drop (length blocks / 4 * 4) blocks
+    → flat_map completed_slot (take n slots) ++ rest ≡ completed blocks
+completed-one-by-one n blocks slots rest all front back =
+    ap (λ read. flat_map completed_slot read ++ rest) (all ∙ front)
+    ∙ ap (λ more. flat_map completed_slot (first_chunks 4 (length blocks / 4) blocks) ++ more) back
+    ∙ sym (completed-slots (length blocks / 4) blocks (omega arith) (omega arith))

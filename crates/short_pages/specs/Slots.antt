@@ -9,6 +9,8 @@ use Rattle.handset.specs.Recording.{TapeRecording, AreRecordings}
 use Rattle.handset.specs.Tape.{TapeReading}
 use Rattle.cbch_blocks.specs.Blocks.{blocks_of_page}
 use Rattle.short_pages.specs.WholePage.{whole_page}
+use Rattle.short_pages.specs.declared.pages.Pages.{Pages}
+use Rattle.short_pages.specs.declared.pages.Pages.TheVariants.{OfAny, OfFour}
 
 -- the octets that came of the page in a slot, if it is sent in fewer blocks than four: the first blocks of the slot
 -- have these types, of which bit 5 marks the last block and bits 4 to 1 are the number
@@ -28,6 +30,15 @@ abbrev pub completed : List (List ℕ) → List (List ℕ)
 completed (first ∷ second ∷ third ∷ fourth ∷ rest) =
     completed_slot (first ∷ second ∷ third ∷ fourth ∷ []) ++ completed rest
 completed blocks = blocks
+
+-- a recording with four blocks of each page
+abbrev pub completed_recording : TapeRecording → TapeRecording
+completed_recording r = record { cell = r.cell; slots = r.slots; blocks = completed r.blocks }
+
+-- a recording as it is read by the wanted pages
+abbrev pub recording_by : Pages → TapeRecording → TapeRecording
+recording_by OfFour r = r
+recording_by OfAny r = completed_recording r
 
 -- the messages that the slots show, short pages and whole ones: those that they show with four blocks of each page
 abbrev pub shown_on_air : List (List ℕ) → List ShownMessage

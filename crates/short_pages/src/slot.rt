@@ -1,12 +1,13 @@
 //! Slots with short pages (3GPP TS 44.012, 3.3).
 
-ghost use Rattle.std.specs.Prelude.{◌≡◌, ◌≤◌, ◌==◌, ◌*◌, None, Some, length, take, if◌then◌else◌};
+ghost use Rattle.std.specs.Prelude.{◌≡◌, ◌≤◌, ◌==◌, ◌*◌, None, Some, length, take, if◌then◌else◌, IfOk};
 ghost use Rattle.handset.specs.Reception.{page_octets};
-ghost use Rattle.short_pages.specs.Slots.{completed_slot, short_page};
+ghost use Rattle.short_pages.specs.Slots.{completed, completed_slot, short_page};
 
 use crate::page::whole_page;
 use arrayvec::ArrayVec;
 use cbch_blocks::cut;
+use std::alloc::{AllocError, Global};
 
 /// The type of a block that is a page alone: number 0, and the last.
 const ALONE: u8 = 0x30;
@@ -34,6 +35,23 @@ pub fn completed_slot(slot: &[[u8; 23]; 4]) -> [[u8; 23]; 4]
     }
     let came = octets_of(&slot[..count]);
     cut(&whole_page(&came))
+}
+
+/// The blocks of a tape, four for each slot, with four blocks of each page.
+///
+/// # Errors
+///
+/// Out of memory.
+pub fn completed_blocks(alloc: Global, blocks: &[[u8; 23]]) -> Result<Vec<[u8; 23]>, AllocError>
+    ensures { IfOk result (λ whole. whole.items ≡ completed blocks.now) }
+{
+    let (slots, rest) = blocks.as_chunks::<4>();
+    let mut whole = Vec::with_capacity(alloc, blocks.len())?;
+    for slot in slots {
+        whole.extend_from_slice(&completed_slot(slot))?;
+    }
+    whole.extend_from_slice(rest)?;
+    Ok(whole)
 }
 
 /// How many blocks the short page of a slot has; 0 if there is none.

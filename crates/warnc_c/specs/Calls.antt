@@ -16,8 +16,8 @@ use Rattle.handset.specs.Tape.{IsShort, IsLong}
 use Rattle.handset.specs.declared.tape.TapeFault.{TapeFault}
 use Rattle.handset.specs.declared.tape.TapeFault.TheVariants as tape
 use Rattle.warnc_inspect.specs.ReadOutput.{IsReadOutput}
-use Rattle.warnc_inspect.specs.declared.read.Pages.{Pages as Wanted}
-use Rattle.warnc_inspect.specs.declared.read.Pages.TheVariants.{OfAny, OfFour}
+use Rattle.short_pages.specs.declared.pages.Pages.{Pages as Wanted}
+use Rattle.short_pages.specs.declared.pages.Pages.TheVariants.{OfAny, OfFour}
 use Rattle.warnc_c.specs.declared.paging.Pages.{Pages}
 
 -- the octets of contents, and how many of them each takes

@@ -8,8 +8,9 @@ use crate::output::put;
 use crate::status;
 use device_ends::Source;
 use handset::TapeFault;
+use short_pages::Pages;
 use std::alloc::Global;
-use warnc_inspect::read::{Pages, table_of_tapes};
+use warnc_inspect::read::table_of_tapes;
 
 /// Reads 0 to 64 tapes, and puts the table that `warnc read` writes of them, as CSV: `lac,ci,id,serial,text`, and a row
 /// for each message that a phone in the cell shows. With short pages those of one to three blocks are read, too (3GPP

@@ -1,8 +1,8 @@
 -- What `tape` writes and refuses: a tape has its header at least, and a fault of status 1 is one of the input.
-use Rattle.std.proofs.Common.{◌≡◌, ℕ, ◌/◌, ◌%◌, ◌<◌, ◌∷◌, List, length, sym, subst, arith, inl, inr}
+use Rattle.std.proofs.Common.{◌≡◌, ℕ, ◌/◌, ◌%◌, ◌<◌, ◌∷◌, ◌++◌, List, length, sym, subst, arith, inl, inr}
 use Rattle.std.proofs.Common.{Option, None, Some, IfSome}
 use Rattle.handset.specs.Tape.{octets_of_blocks, tape_octets}
-use Rattle.gsmtap.specs.TapeOfCapture.{IsTapeOfCapture, blocks_in}
+use Rattle.gsmtap.specs.TapeOfCapture.{IsTapeOfCapture, blocks_before, blocks_in}
 use Rattle.gsmtap.specs.declared.tape.Wanted.{Wanted}
 use Rattle.warnc_air.specs.TapeOutput.{IsTapeCommandFault}
 use Rattle.warnc_air.specs.declared.tape.TapeCommandFault.{TapeCommandFault}
@@ -22,7 +22,8 @@ some_octets wanted blocks =
 -- the tape of a capture is never empty: it has a header
 pub some_tape : (wanted : Wanted) (input output : List ℕ) → IsTapeOfCapture wanted input output → 0 < length output
 some_tape wanted input output is =
-    subst (λ (octets : List ℕ). 0 < length octets) (sym is.written) (some_octets wanted (blocks_in is.known.blocks))
+    subst (λ (octets : List ℕ). 0 < length octets) (sym is.written)
+    (some_octets wanted (blocks_in (blocks_before wanted ++ is.known.blocks)))
 
 refused_here : (wanted : Wanted) (input : List ℕ) (old new : Option (List ℕ)) (why : TapeCommandFault) →
     IsTapeCommandFault wanted input old new why → status_of_tape_fault why ≡ 1 → IsNoAir wanted input

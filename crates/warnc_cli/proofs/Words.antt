@@ -17,7 +17,7 @@ use Rattle.warnc_cli.specs.declared.command.Task.TheVariants as task
 pub of_one_input : (words : List (List ℕ)) (t : Task) → IsTaskOf words t
     → slice_get words 1 ≢ Some (codes "verify")
     → IsOfOneInput t
-of_one_input words (task.Verify from slots file workers) asked other = absurd (other asked.command)
+of_one_input words (task.Verify from slots pages file workers) asked other = absurd (other asked.command)
 of_one_input words (task.Page language id serial) asked other = tt
 of_one_input words (task.Read wanted) asked other = tt
 of_one_input words task.Whole asked other = tt
@@ -36,9 +36,9 @@ may_write words (task.Make run made) status asked (inl done) = inl done
 may_write words (task.Make run made) status asked (inr (inl device)) = inr (inl device)
 may_write words (task.Make run made) status asked (inr (inr early)) =
     inr (inr (inr (early.0, subst (GivesBooks words) early.1 asked.books_given)))
-may_write words (task.Verify from slots file workers) status asked (inl done) = inl done
-may_write words (task.Verify from slots file workers) status asked (inr (inl device)) = inr (inl device)
-may_write words (task.Verify from slots file workers) status asked (inr (inr differ)) =
+may_write words (task.Verify from slots pages file workers) status asked (inl done) = inl done
+may_write words (task.Verify from slots pages file workers) status asked (inr (inl device)) = inr (inl device)
+may_write words (task.Verify from slots pages file workers) status asked (inr (inr differ)) =
     inr (inr (inl (differ, inl asked.command)))
 may_write words task.Check status asked (inl done) = inl done
 may_write words task.Check status asked (inr (inl device)) = inr (inl device)
@@ -92,7 +92,7 @@ writes_some words (task.Make run product.Tapes) asked compile live whole report 
 writes_some words (task.Make run (product.Report columns)) asked compile live whole report =
     headed words run.books asked.books_given (report asked.made_given.0)
 writes_some words (task.Make run (product.Chart wanted)) asked compile live whole report = tt
-writes_some words (task.Verify from slots file workers) asked compile live whole report = tt
+writes_some words (task.Verify from slots pages file workers) asked compile live whole report = tt
 writes_some words (task.Page language id serial) asked compile live whole report = tt
 writes_some words (task.Read wanted) asked compile live whole report = tt
 writes_some words task.Whole asked compile live whole report = absurd (whole asked)

@@ -21,8 +21,8 @@ use Rattle.gsmtap.specs.declared.tape.ChannelType.{ChannelType}
 use Rattle.gsmtap.specs.declared.tape.ChannelType.TheVariants.{Cbch, Sdcch}
 use Rattle.report.specs.declared.row.Columns.{Columns}
 use Rattle.report.specs.declared.row.Columns.TheVariants.{Full, Plain}
-use Rattle.warnc_inspect.specs.declared.read.Pages.{Pages}
-use Rattle.warnc_inspect.specs.declared.read.Pages.TheVariants.{OfAny, OfFour}
+use Rattle.short_pages.specs.declared.pages.Pages.{Pages}
+use Rattle.short_pages.specs.declared.pages.Pages.TheVariants.{OfAny, OfFour}
 use Rattle.warnc_run.specs.declared.run.Books.{Books}
 use Rattle.warnc_run.specs.declared.run.Books.TheVariants as books
 use Rattle.warnc_run.specs.declared.product.Product.{Product}
@@ -195,11 +195,17 @@ GivesChannelType words Cbch =
     GivesValue words (codes "--channel") (codes "cbch") ⊎ (is_given words (codes "--channel") ≡ false)
 GivesChannelType words Sdcch = GivesValue words (codes "--channel") (codes "sdcch")
 
+-- the words give the slot in which the first block stands; it is 0 where no word begins with the option's name
+abbrev pub GivesFirstSlot : (words : List (List ℕ)) → ℕ → Type 0
+GivesFirstSlot words slot =
+    GivesNumber words (codes "--first-slot") slot ⊎ ((is_given words (codes "--first-slot") ≡ false) × (slot ≡ 0))
+
 -- the words ask for `tape`
 pub record AsksForTape (words : List (List ℕ)) (wanted : Wanted) : Type 0 where
   pub command : slice_get words 1 ≡ Some (codes "tape")
   pub cell_given : GivesCell words wanted.cell
   pub slots_given : GivesSlots words wanted.slots
+  pub first_given : GivesFirstSlot words wanted.first_slot
   pub from_given : GivesFrom words wanted.from.address
   pub arfcn_given : GivesArfcn words wanted.from.arfcn
   pub channel_given : GivesChannelType words wanted.from.channel
@@ -231,12 +237,14 @@ pub record AsksForRun (words : List (List ℕ)) (run : Run) (made : Product) : T
   pub workers_given : GivesThreads words (codes "--workers") run.workers.number
 
 -- the words ask for `verify` of the book, or the group's, in the file of this name, with this number of slots and of
--- workers
-pub record AsksForVerify (words : List (List ℕ)) (from : Origin) (slots : ℕ) (file : List ℕ) (workers : ℕ) : Type 0
+-- workers, by these pages of the tapes
+pub record AsksForVerify (words : List (List ℕ)) (from : Origin) (slots : ℕ) (pages : Pages) (file : List ℕ)
+    (workers : ℕ) : Type 0
   where
     pub command : slice_get words 1 ≡ Some (codes "verify")
     pub origin_given : GivesOrigin words from
     pub slots_given : GivesSlots words slots
+    pub wanted_given : pages ≡ pages_given words
     pub book_given : GivesValue words (codes "--book") file
     pub workers_given : GivesThreads words (codes "--workers") workers
 

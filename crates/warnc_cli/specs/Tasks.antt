@@ -17,6 +17,7 @@ use Rattle.gsmtap.specs.TapeOfCapture.{IsAirFault, IsTapeOfCapture}
 use Rattle.gsmtap.specs.declared.fault.AirFault.{AirFault}
 use Rattle.gsmtap.specs.declared.tape.Wanted.{Wanted}
 use Rattle.handset.specs.Tape.{IsShort, IsLong}
+use Rattle.short_pages.specs.declared.pages.Pages.{Pages}
 use Rattle.warnc_air.specs.TapeOutput.{max_capture}
 use Rattle.warnc_inspect.specs.PageOutput.{IsPageFault, IsPageOutput}
 use Rattle.warnc_inspect.specs.ReadOutput.{IsReadOutput}
@@ -49,7 +50,8 @@ IsTaskOf words task.Check = AsksForCheck words
 IsTaskOf words (task.Remark slots strict) = AsksForRemarks words slots strict
 IsTaskOf words (task.Texts pages) = AsksForTexts words pages
 IsTaskOf words (task.Make run made) = AsksForRun words run made
-IsTaskOf words (task.Verify from slots file workers) = AsksForVerify words from slots file.now workers.number
+IsTaskOf words (task.Verify from slots pages file workers) =
+    AsksForVerify words from slots pages file.now workers.number
 
 -- What is written with status 0.
 
@@ -65,7 +67,7 @@ Means task.Check = IsClean
 Means (task.Remark slots strict) = IsRemarkedFor slots strict
 Means (task.Texts pages) = IsTextsOutput pages
 Means (task.Make run made) = IsMadeBy run made
-Means (task.Verify from slots file workers) = λ input output. ⊥
+Means (task.Verify from slots pages file workers) = λ input output. ⊥
 
 -- a writer was given the output of a book and of tapes: of those that the readers had left, if they are known, and else
 -- of some
@@ -82,8 +84,8 @@ pub record WritesOutputOfBoth (IsOutput : (book tapes output : List ℕ) → Typ
 -- what a task writes: `book` and `input` are what the readers had left, if that is known, and `old` and `new` are what
 -- the writer held before and after
 abbrev pub WritesAll : Task → (book input old new : Option (List ℕ)) → Type 0
-WritesAll (task.Verify from slots file workers) book input old new =
-    WritesOutputOfBoth (IsVerified from slots) book input old new
+WritesAll (task.Verify from slots pages file workers) book input old new =
+    WritesOutputOfBoth (IsVerified from slots pages) book input old new
 WritesAll other book input old new = WritesOutput (Means other) input old new
 
 -- the line of the columns' names stands over a report
@@ -165,9 +167,9 @@ IsUnverified from slots book tapes = IsNoRun from slots 1 book ⊎ (HasRun from 
 
 -- these tapes don't keep this book: it is none or has no run; or it has one, and the tapes are no whole ones; or there
 -- is a difference
-abbrev pub IsNotVerified : (from : Origin) (slots : ℕ) (book tapes : List ℕ) → Type 0
-IsNotVerified from slots book tapes = IsNoRun from slots 1 book
-    ⊎ ((HasRun from slots book × IsNoTapes tapes) ⊎ Differs from slots book tapes)
+abbrev pub IsNotVerified : (from : Origin) (slots : ℕ) (pages : Pages) (book tapes : List ℕ) → Type 0
+IsNotVerified from slots pages book tapes = IsNoRun from slots 1 book
+    ⊎ ((HasRun from slots book × IsNoTapes tapes) ⊎ Differs from slots pages book tapes)
 
 -- the input that a command of one input refuses
 abbrev pub RefusesOne : Task → (input : List ℕ) → Type 0
@@ -181,12 +183,12 @@ RefusesOne task.Check = IsNotClean
 RefusesOne (task.Remark slots strict) = IsRemarkable slots strict
 RefusesOne (task.Texts pages) = IsNoRows
 RefusesOne (task.Make run made) = IsNoRunOf run.books run.slots run.sessions.number
-RefusesOne (task.Verify from slots file workers) = λ input. ⊥
+RefusesOne (task.Verify from slots pages file workers) = λ input. ⊥
 
 -- what a task refuses, of readers whose octets are known
 abbrev pub Refuses : Task → (book input : Option (List ℕ)) → Type 0
-Refuses (task.Verify from slots file workers) book input =
-    IfSome book (λ octets. IfSome input (IsNotVerified from slots octets))
+Refuses (task.Verify from slots pages file workers) book input =
+    IfSome book (λ octets. IfSome input (IsNotVerified from slots pages octets))
 Refuses other book input = IfSome input (RefusesOne other)
 
 -- What may be written with status 1 and 4.
@@ -198,7 +200,7 @@ IsUnremarked slots input = (max_book < length input) ⊎ ((f : RunFault) × IsSt
 -- a task refuses what it reads and has no table to write of it: `verify` has no run or no tapes, and a book is too long
 -- for `check`, or has no run with `--slots`. Other commands never write a table with status 1
 abbrev pub RefusesUnseen : Task → (book input : Option (List ℕ)) → Type 0
-RefusesUnseen (task.Verify from slots file workers) book input =
+RefusesUnseen (task.Verify from slots pages file workers) book input =
     IfSome book (λ octets. IfSome input (IsUnverified from slots octets))
 RefusesUnseen task.Check book input = IfSome input (λ octets. max_book < length octets)
 RefusesUnseen (task.Remark slots strict) book input = IfSome input (IsUnremarked slots)
@@ -217,8 +219,8 @@ WritesFirstGroups other book input old new = ⊥
 -- the table of the differences was written, of which there is one at least, or that of the rows with a fault, or that
 -- of the remarks
 abbrev pub WritesDifferences : Task → (book input old new : Option (List ℕ)) → Type 0
-WritesDifferences (task.Verify from slots file workers) book input old new =
-    WritesOutputOfBoth (HasDifferences from slots) book input old new
+WritesDifferences (task.Verify from slots pages file workers) book input old new =
+    WritesOutputOfBoth (HasDifferences from slots pages) book input old new
 WritesDifferences task.Check book input old new =
     (count : ℕ) × WritesOutput (HasFaults count) input old new
 WritesDifferences (task.Remark slots strict) book input old new =

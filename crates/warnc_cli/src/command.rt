@@ -4,7 +4,8 @@ ghost use Rattle.std.specs.Prelude.{◌≡◌, ◌<◌, ◌∷◌, ◌++◌, ◌
 ghost use Rattle.std.specs.Prelude.{slice_get};
 ghost use Rattle.warnc_cli.specs.CommandLine.{asks_for_text, begins_with, is_given, is_text_word, GivesNumber};
 ghost use Rattle.warnc_cli.specs.CommandLine.{GivesChannel, GivesChannelType, GivesSlots, GivesThreads, GivesValue};
-ghost use Rattle.warnc_cli.specs.CommandLine.{GivesArfcn, GivesCell, GivesFrom, GivesWanted, IsAddress, IsCell};
+ghost use Rattle.warnc_cli.specs.CommandLine.{GivesArfcn, GivesCell, GivesFirstSlot, GivesFrom, GivesWanted};
+ghost use Rattle.warnc_cli.specs.CommandLine.{IsAddress, IsCell};
 ghost use Rattle.warnc_cli.specs.CommandLine.{columns_given, slots_given, GivesBooks, GivesOrigin, GivesPages};
 ghost use Rattle.warnc_cli.specs.CommandLine.{pages_given, GivesProduct, IsNumber};
 ghost use Rattle.warnc_cli.specs.Tasks.{IsTaskOf};
@@ -16,13 +17,13 @@ use clap::builder::ValueParser;
 use clap::{Arg, ArgAction, Command, Error, value_parser};
 use gsmtap::{Channel, ChannelType, Sender, Settings, Slots, Wanted};
 use report::Columns;
+use short_pages::Pages;
 use std::alloc::{AllocError, Global};
 use std::convert::AsStr;
-use warnc_inspect::read::Pages;
 use warnc_run::{Books, Product, Run, Sessions, Workers};
 
 /// The version of the program, and on a line of its own what `rt version` says of the toolchain that proved it.
-const VERSION: &str = "1.4.0\nrattle-kit-13f logic dac8208d650f15bf";
+const VERSION: &str = "1.5.0\nrattle-kit-13f logic dac8208d650f15bf";
 
 /// The words for the channel that packets name.
 const CHANNEL_TYPES: &[&str] = &["cbch", "sdcch"];
@@ -76,6 +77,8 @@ pub enum Task<'a> {
         origin: Origin,
         /// How many slots each cell's run has, at least 1.
         slots: u16,
+        /// Which pages of the tapes are read.
+        pages: Pages,
         /// The name of the book's file.
         file: &'a str,
         /// How many workers play the cells.
@@ -114,6 +117,7 @@ fn task_in<'a, S: AsStr>(words: &'a [S]) -> Option<Task<'a>>
         "tape" => Some(Task::Tape(Wanted {
             cell: cell_in(words)?,
             slots: slots_in(words)?,
+            first_slot: first_slot_in(words)?,
             from: Sender {
                 address: from_in(words)?,
                 arfcn: arfcn_in(words)?,
@@ -140,6 +144,7 @@ fn task_in<'a, S: AsStr>(words: &'a [S]) -> Option<Task<'a>>
         "verify" => Some(Task::Verify {
             origin: origin_in(words)?,
             slots: slots_in(words)?,
+            pages: wanted_pages(words),
             file: value_of(words, "--book")?,
             workers: workers_in(words)?,
         }),
@@ -298,6 +303,16 @@ fn arfcn_in<S: AsStr>(words: &[S]) -> Option<Option<u16>>
     }
     let arfcn = number_of(words, "--arfcn")?;
     Some(Some(arfcn))
+}
+
+/// The slot in which the first block stands, by the words: 0 if they give none.
+fn first_slot_in<S: AsStr>(words: &[S]) -> Option<u16>
+    ensures { IfSome result (GivesFirstSlot (map S.text words.now)) }
+{
+    if !is_given(words, "--first-slot") {
+        return Some(0);
+    }
+    number_of(words, "--first-slot")
 }
 
 /// The channel that packets name for a cell broadcast channel, by the words: its own if they give none.
@@ -584,6 +599,7 @@ fn verify<'a>(alloc: Global) -> Result<Command<'a>, AllocError> {
         .after_help("Example: warnc verify --slots 4096 --book book.csv < tapes")
         .arg(book(alloc))?
         .arg(slots(alloc))?
+        .arg(short(alloc))?
         .arg(group(alloc))?
         .arg(workers(alloc))
 }
@@ -661,6 +677,7 @@ fn tape<'a>(alloc: Global) -> Result<Command<'a>, AllocError> {
         .after_help("Example: warnc tape --cell 1-1 --slots 4096 < air.pcap > tape")
         .arg(cell(alloc))?
         .arg(tape_slots(alloc))?
+        .arg(first_slot(alloc))?
         .arg(from(alloc))?
         .arg(arfcn(alloc))?
         .arg(channel_type(alloc))
@@ -875,6 +892,17 @@ fn tape_slots<'a>(alloc: Global) -> Arg<'a> {
         "How many slots the tape has, 1 to 65535, each 1.883 s",
     )
     .value_parser(value_parser!(u16).range(1..=65535))
+}
+
+/// The option of the slot in which the first block stands.
+fn first_slot<'a>(alloc: Global) -> Arg<'a> {
+    optional(
+        alloc,
+        "first-slot",
+        "SLOT",
+        "The slot of the tape in which the first block stands,\n0 to 65535; 0 if it isn't given",
+    )
+    .value_parser(value_parser!(u16))
 }
 
 /// The option of the address that packets come from.

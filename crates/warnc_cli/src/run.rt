@@ -26,6 +26,7 @@ use clap::error::ErrorKind;
 use device_ends::{Sink, Source, write_all};
 use gsmtap::{Settings, Wanted};
 use order_desk::Open;
+use short_pages::Pages;
 use std::alloc::{AllocGlobal, Global};
 use std::convert::AsStr;
 use std::io::{Read, Write};
@@ -34,7 +35,7 @@ use std::thread::Threads;
 use warnc_air::pcap::pcap_stream;
 use warnc_air::tape::tape_stream;
 use warnc_inspect::page::page_stream;
-use warnc_inspect::read::{Pages, read_stream};
+use warnc_inspect::read::read_stream;
 use warnc_inspect::whole::whole_stream;
 use warnc_run::{Product, Run, Workers, groups_stream, run_product};
 use warnc_verify::verify_stream;
@@ -165,9 +166,12 @@ fn run_task<T: AllocGlobal + Threads + Wait + Sync, B: Read, R: Read, W: Write, 
         Task::Verify {
             origin,
             slots,
+            pages,
             file,
             workers,
-        } => run_verify(rt, origin, slots, file, workers, book, source, sink, faults),
+        } => run_verify(
+            rt, origin, slots, pages, file, workers, book, source, sink, faults,
+        ),
     }
 }
 
@@ -379,6 +383,7 @@ fn run_verify<T: AllocGlobal + Threads + Wait + Sync, B: Read, R: Read, W: Write
     rt: &T,
     origin: Origin,
     slots: u16,
+    pages: Pages,
     file: &str,
     workers: Workers,
     book: &mut Source<B>,
@@ -386,22 +391,22 @@ fn run_verify<T: AllocGlobal + Threads + Wait + Sync, B: Read, R: Read, W: Write
     sink: &mut Sink<W>,
     faults: &mut F,
 ) -> u8
-    ensures done { result ≡ DONE → WritesOutputOfBoth (IsVerified origin slots)
+    ensures done { result ≡ DONE → WritesOutputOfBoth (IsVerified origin slots pages)
         (B.remaining (reader_of book.old)) (R.remaining (reader_of tapes.old))
         (W.contents (writer_of sink.old)) (W.contents (writer_of sink.new)) }
     ensures ends { IsVerifyRunBetween result book.old book.new tapes.old tapes.new sink.old sink.new
         (W.contents (writer_of sink.old)) (W.contents (writer_of sink.new)) }
     ensures wrote { result ≡ DONE → WritesSome (W.contents (writer_of sink.old)) (W.contents (writer_of sink.new)) }
     ensures refused { result ≡ REFUSED_INPUT → IfSome (B.remaining (reader_of book.old)) (λ octets.
-        IfSome (R.remaining (reader_of tapes.old)) (IsNotVerified origin slots octets)) }
+        IfSome (R.remaining (reader_of tapes.old)) (IsNotVerified origin slots pages octets)) }
     ensures differences { result ≡ REFUSED_INPUT → (IfSome (B.remaining (reader_of book.old)) (λ octets.
         IfSome (R.remaining (reader_of tapes.old)) (IsUnverified origin slots octets))
         × Keeps (W.contents (writer_of sink.old)) (W.contents (writer_of sink.new)))
-        ⊎ WritesOutputOfBoth (HasDifferences origin slots)
+        ⊎ WritesOutputOfBoth (HasDifferences origin slots pages)
         (B.remaining (reader_of book.old)) (R.remaining (reader_of tapes.old))
         (W.contents (writer_of sink.old)) (W.contents (writer_of sink.new)) }
 {
-    match verify_stream(rt, book, tapes, sink, origin, slots, workers) {
+    match verify_stream(rt, book, tapes, sink, origin, slots, pages, workers) {
         Ok(()) => DONE,
         Err(fault) => failed_with_book(&fault, file, faults),
     }

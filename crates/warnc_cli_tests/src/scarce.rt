@@ -4,7 +4,7 @@
 use crate::rows::expect_rows;
 use std::test::Fail;
 
-/// `page`, the engine of `page` alone, and `read`.
+/// `page`, the engine of `page` alone, `read` and `whole`.
 const PAGE: &str = "
 args page --lang en --id 4370 --scope 0 --code 1 --update 0
 in @
@@ -32,6 +32,14 @@ in-hex 2f2b2b2b2b2b2b2b2b2b2b2b2b2b2b2b2b2b2b2b2b2b2b
 worked lac,ci,id,serial,text
 worked 1,1,4383,0020,Bleib da
 scarce 5 1000 -> worked
+# the same page in four blocks
+args whole
+worked-hex 0001 0001 00000001
+worked-hex 200020111f01114276392d0691c38d46a3d168341a8d46
+worked-hex 21a3d168341a8d46a3d168341a8d46a3d168341a8d46a3
+worked-hex 22d168341a8d46a3d168341a8d46a3d168341a8d46a3d1
+worked-hex 3368341a8d46a3d168341a8d46a3d168341a8d46a3d100
+scarce 5 100 -> worked
 ";
 
 const CAPTURES: &str = "
@@ -150,6 +158,8 @@ worked lac,ci,id,serial,slot,difference
 scarce 22 2600 -> worked
 args verify --slots 1 --book network.csv --group 0
 scarce 23 2600 -> worked
+args verify --slots 1 --short --book book.csv
+scarce 22 2600 -> worked
 ";
 
 /// The second group of a network, once the first is written: 64 tapes of 100 octets, or a line under that of the names.
@@ -243,7 +253,7 @@ all -> worked
 
 #[test]
 fn pages_without_memory_are_status_4(rt: HostRuntime) -> Result<(), Fail> {
-    expect_rows(&rt, PAGE, 23)
+    expect_rows(&rt, PAGE, 30)
 }
 
 #[test]
@@ -273,7 +283,7 @@ fn a_chart_without_memory_is_status_4(rt: HostRuntime) -> Result<(), Fail> {
 
 #[test]
 fn a_verification_without_memory_is_status_4(rt: HostRuntime) -> Result<(), Fail> {
-    expect_rows(&rt, VERIFY, 12)
+    expect_rows(&rt, VERIFY, 14)
 }
 
 #[test]

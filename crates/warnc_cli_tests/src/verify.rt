@@ -189,6 +189,35 @@ run -> 3
 err -> warnc: write failed
 out -> lac,ci,id,serial,slot,difference
 
+# a page in one block, as a network may send it, is judged with --short alone
+args verify --slots 1 --short --book book.csv
+book cell,1,1
+book write,0,a,4370,0,1,en,2,1,1,*,@
+in-hex 00010001 00000001
+in-hex 300010111201118046a3d168341a8d46a3d168341a8d46
+in-hex 2f2b2b2b2b2b2b2b2b2b2b2b2b2b2b2b2b2b2b2b2b2b2b 2f2b2b2b2b2b2b2b2b2b2b2b2b2b2b2b2b2b2b2b2b2b2b
+in-hex 2f2b2b2b2b2b2b2b2b2b2b2b2b2b2b2b2b2b2b2b2b2b2b
+run -> 0
+out -> lac,ci,id,serial,slot,difference
+args verify --slots 1 --book book.csv
+run -> 1
+out -> lac,ci,id,serial,slot,difference
+out -> 1,1,4370,0010,1,broadcast 0 not whole
+err -> warnc: differences: 1
+# 18 letters come of 20
+args verify --slots 1 --book book.csv --short
+book cell,1,1
+book write,0,a,4370,0,1,en,2,1,1,*,AAAAAAAAAAAAAAAAAAAA
+in-hex 00010001 00000001
+in-hex 30001011120111c16030180c0683c16030180c0683c160
+in-hex 2f2b2b2b2b2b2b2b2b2b2b2b2b2b2b2b2b2b2b2b2b2b2b 2f2b2b2b2b2b2b2b2b2b2b2b2b2b2b2b2b2b2b2b2b2b2b
+in-hex 2f2b2b2b2b2b2b2b2b2b2b2b2b2b2b2b2b2b2b2b2b2b2b
+run -> 1
+out -> lac,ci,id,serial,slot,difference
+out -> 1,1,4370,0010,0,page 1 reads otherwise
+out -> 1,1,4370,0010,1,broadcast 0 not whole
+err -> warnc: differences: 2
+
 args verify --slots 1
 usage -> 2 error:
 args verify --book book.csv
@@ -205,5 +234,5 @@ usage -> 2 error:
 
 #[test]
 fn tapes_are_judged_by_their_book(rt: HostRuntime) -> Result<(), Fail> {
-    expect_rows(&rt, VERIFY, 176)
+    expect_rows(&rt, VERIFY, 202)
 }

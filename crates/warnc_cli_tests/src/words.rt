@@ -82,7 +82,7 @@ args read --group 0
 usage -> 2 error:
 args read --short=1
 usage -> 2 error:
-# only `read` reads short pages, and `whole` takes nothing
+# only `read` and `verify` read short pages, and `whole` takes nothing
 args pcap --short
 usage -> 2 error:
 args whole --short
@@ -144,11 +144,11 @@ says --workers <WORKERS> -> yes
 # the version names the toolchain
 args --version
 run -> 0
-out -> warnc 1.4.0
+out -> warnc 1.5.0
 starts rattle-kit- -> yes
 args -V
 run -> 0
-out -> warnc 1.4.0
+out -> warnc 1.5.0
 starts rattle-kit- -> yes
 
 # no device takes the text

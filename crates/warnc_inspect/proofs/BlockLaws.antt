@@ -1,43 +1,22 @@
 -- The pages in the blocks of some pages are these pages, and each says what it was made of.
-use Rattle.std.proofs.Common.{◌≡◌, ℕ, ◌+◌, ◌*◌, ◌/◌, ◌%◌, ◌≤◌, List, [], ◌∷◌, ◌++◌, length, take, drop, map, refl, sym}
-use Rattle.std.proofs.Common.{ap, ◌∙◌, append-nil, arith, suc}
+use Rattle.std.proofs.Common.{◌≡◌, ℕ, ◌+◌, ◌*◌, ◌/◌, ◌%◌, ◌≤◌, List, [], ◌∷◌, length, map, refl}
+use Rattle.std.proofs.Common.{ap, ◌∙◌, arith, suc}
 use Rattle.std.proofs.lemmas.Bool.{ne_eqb}
-use Rattle.std.proofs.lemmas.List.{take-append-drop, take_all, length-drop, drop-drop}
 use Rattle.std.specs.List.{flat_map, AllByRecursion}
 use Rattle.cbs_page.specs.declared.content.Content.{Content}
 use Rattle.cbs_page.specs.declared.octets.PageView.{PageView}
 use Rattle.cbs_page.specs.Page.{octets_of_page, place_of, view_of}
-use Rattle.handset.specs.Reception.{page_octets, pages_read}
+use Rattle.handset.specs.Reception.{pages_read}
 use Rattle.cbch_blocks.specs.Blocks.{blocks_of_page}
+use Rattle.short_pages.proofs.ReadLaws.{page_in_front}
 use Rattle.warnc_inspect.specs.PageOutput.{page_octets_from}
-
-quarter : (page : List ℕ) (n : ℕ) → take 22 (drop n page) ++ drop (n + 22) page ≡ drop n page
-quarter page n = ap (λ xs. take 22 (drop n page) ++ xs) (sym (drop-drop 22 n page)) ∙ take-append-drop 22 (drop n page)
-
-last_quarter : (page : List ℕ) → length page ≡ 88 → take 22 (drop 66 page) ++ [] ≡ drop 66 page
-last_quarter page whole =
-    append-nil (take 22 (drop 66 page)) ∙ take_all 22 (drop 66 page) (omega (arith, length-drop 66 page, whole))
-
--- the four quarters of a page are the page
-quarters : (page : List ℕ) → length page ≡ 88 → page_octets (blocks_of_page page) ≡ page
-quarters page whole =
-    ap (λ xs. take 22 page ++ (take 22 (drop 22 page) ++ (take 22 (drop 44 page) ++ xs))) (last_quarter page whole)
-    ∙ ap (λ xs. take 22 page ++ (take 22 (drop 22 page) ++ xs)) (quarter page 44)
-    ∙ ap (λ xs. take 22 page ++ xs) (quarter page 22)
-    ∙ quarter page 0
-
--- a page's four blocks are one page, and no page stands among them
-pages_in_front : (page : List ℕ) (rest : List (List ℕ)) →
-    pages_read (blocks_of_page page ++ rest) ≡ view_of (page_octets (blocks_of_page page)) ∷ pages_read rest
-pages_in_front page rest = refl
 
 -- a handset reads of the blocks of pages these pages
 pub pages_in_blocks : (pages : List (List ℕ)) → AllByRecursion (λ page. length page ≡ 88) pages →
     pages_read (flat_map blocks_of_page pages) ≡ map view_of pages
 pages_in_blocks [] whole = refl
 pages_in_blocks (page ∷ pages) whole =
-    pages_in_front page (flat_map blocks_of_page pages)
-    ∙ ap (λ octets. view_of octets ∷ pages_read (flat_map blocks_of_page pages)) (quarters page whole.0)
+    page_in_front page (flat_map blocks_of_page pages) whole.0
     ∙ ap (λ views. view_of page ∷ views) (pages_in_blocks pages whole.1)
 
 -- what the page of this number says

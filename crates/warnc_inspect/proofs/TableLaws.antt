@@ -9,8 +9,8 @@ use Rattle.handset.specs.Recording.{AreRecorded}
 use Rattle.handset.specs.Tape.{TapeReading, AreTaken}
 use Rattle.short_pages.specs.Slots.{reading_on_air, AreReadingsOnAir}
 use Rattle.warnc_inspect.specs.declared.air_table.AirTable.{AirTable}
-use Rattle.warnc_inspect.specs.declared.read.Pages.{Pages}
-use Rattle.warnc_inspect.specs.declared.read.Pages.TheVariants as pages
+use Rattle.short_pages.specs.declared.pages.Pages.{Pages}
+use Rattle.short_pages.specs.declared.pages.Pages.TheVariants as pages
 use Rattle.warnc_inspect.specs.declared.table.Table.{Table}
 use Rattle.warnc_inspect.specs.ReadOutput.{header_row, reading_rows, table_of, IsReadOutput}
 use Rattle.warnc_inspect.specs.ReadSteps.{IsTable, IsTableOf}

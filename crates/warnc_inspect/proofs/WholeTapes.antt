@@ -8,11 +8,11 @@ use Rattle.handset.specs.Recording.{TapeRecording, AreJoinedRecordings, AreRecor
 use Rattle.handset.specs.Recording.{reading_of_recording}
 use Rattle.handset.specs.Tape.{AreSlots, TapeReading, AreTapes, max_slots}
 use Rattle.handset.specs.Laws.{MadeAreRecordings, RecordingsAreOne, RecordingsAreRead}
-use Rattle.short_pages.specs.Slots.{completed, completed_slot, reading_on_air, short_page}
+use Rattle.short_pages.specs.Slots.{completed, completed_recording, completed_slot, reading_on_air, short_page}
 use Rattle.short_pages.specs.WholePage.{whole_page}
 use Rattle.short_pages.proofs.PageLaws.{length-whole_page}
 use Rattle.short_pages.proofs.ReadLaws.{AreBlocks, came}
-use Rattle.warnc_inspect.specs.WholeOutput.{WholeTapesHold, WholeTapesShow, completed_recording, whole_tape}
+use Rattle.warnc_inspect.specs.WholeOutput.{WholeTapesHold, WholeTapesShow, whole_tape}
 use Rattle.warnc_inspect.specs.WholeOutput.{whole_tapes}
 
 -- four blocks of 23 octets

@@ -4,7 +4,7 @@ use Rattle.std.specs.List.{AllByRecursion}
 use Rattle.handset.specs.Recording.{TapeRecording, AreRecordings}
 use Rattle.short_pages.specs.Laws.{EndsNoShortPage}
 use Rattle.warnc_inspect.specs.ReadOutput.{IsReadOutput}
-use Rattle.warnc_inspect.specs.declared.read.Pages.TheVariants.{OfAny, OfFour}
+use Rattle.short_pages.specs.declared.pages.Pages.TheVariants.{OfAny, OfFour}
 
 -- no block of a tape is the last of a page of one to three blocks
 abbrev pub HasNoShortPage : TapeRecording → Type 0

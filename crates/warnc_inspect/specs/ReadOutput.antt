@@ -11,8 +11,8 @@ use Rattle.handset.specs.Tape.{TapeReading, AreTapes, IsShort, IsLong, max_tapes
 use Rattle.handset.specs.TapeExtent.{StopsAt}
 use Rattle.handset.specs.declared.tape.TapeFault.TheVariants as tape
 use Rattle.short_pages.specs.Slots.{AreReadingsOnAir}
-use Rattle.warnc_inspect.specs.declared.read.Pages.{Pages}
-use Rattle.warnc_inspect.specs.declared.read.Pages.TheVariants as pages
+use Rattle.short_pages.specs.declared.pages.Pages.{Pages}
+use Rattle.short_pages.specs.declared.pages.Pages.TheVariants as pages
 use Rattle.warnc_inspect.specs.declared.read.ReadCommandFault.{ReadCommandFault}
 use Rattle.warnc_inspect.specs.declared.read.ReadCommandFault.TheVariants as fault
 

@@ -1,12 +1,12 @@
--- Steps of `read` (own): what a table holds as it is written, and as which fault a fault of tapes is reported. The
--- contracts of private functions alone speak of it.
+-- Steps of `read` (own): what a table holds as it is written, and as which fault a fault of tapes is reported. No
+-- contract of a public function speaks of it.
 use Rattle.std.specs.Prelude.{◌≡◌, ℕ, List, Option, Some, IfSome, false}
 use Rattle.csv.specs.Writing.{default_writer, fields_written, has_written, text_written, writer_setup}
 use Rattle.handset.specs.Tape.{TapeReading}
 use Rattle.handset.specs.declared.tape.TapeFault.{TapeFault}
 use Rattle.handset.specs.declared.tape.TapeFault.TheVariants as tape
 use Rattle.warnc_inspect.specs.ReadOutput.{AreReadings, table_of}
-use Rattle.warnc_inspect.specs.declared.read.Pages.{Pages}
+use Rattle.short_pages.specs.declared.pages.Pages.{Pages}
 use Rattle.warnc_inspect.specs.declared.read.ReadCommandFault.{ReadCommandFault}
 use Rattle.warnc_inspect.specs.declared.read.ReadCommandFault.TheVariants as fault
 use Rattle.warnc_inspect.specs.declared.table.Table.{Table}

@@ -5,7 +5,7 @@ use Rattle.std.specs.List.{flat_map}
 use Rattle.device_ends.specs.Moves.{AppendsFront}
 use Rattle.handset.specs.Recording.{TapeRecording, AreRecordings}
 use Rattle.handset.specs.Tape.{IsShort, IsLong, TapeReading, AreTapes, tape_octets}
-use Rattle.short_pages.specs.Slots.{AreReadingsOnAir, completed}
+use Rattle.short_pages.specs.Slots.{AreReadingsOnAir, completed, completed_recording}
 use Rattle.warnc_inspect.specs.declared.read.ReadCommandFault.{ReadCommandFault}
 use Rattle.warnc_inspect.specs.declared.read.ReadCommandFault.TheVariants as fault
 
@@ -33,10 +33,6 @@ IsWholeFault input old new fault.WriteFailed =
     (output : List ℕ) × IsWholeOutput input output × AppendsFront old new output
 
 -- Laws (own).
-
--- a recording with four blocks of each page
-abbrev pub completed_recording : TapeRecording → TapeRecording
-completed_recording r = record { cell = r.cell; slots = r.slots; blocks = completed r.blocks }
 
 -- the whole tapes of an input hold what its tapes hold, with four blocks of each page
 abbrev pub WholeTapesHold : Type 0

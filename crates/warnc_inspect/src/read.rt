@@ -13,6 +13,7 @@ use crate::air_table::AirTable;
 use crate::table::Table;
 use device_ends::{Failed, Sink, Source, write_all};
 use handset::{TapeFault, read_each, record_each};
+use short_pages::Pages;
 use std::alloc::Global;
 use std::io::{Read, Write};
 use thiserror::Error;
@@ -35,15 +36,6 @@ pub enum ReadCommandFault {
     /// The writer failed. Some of the table may be out.
     #[error("write failed")]
     WriteFailed,
-}
-
-/// Which pages of a tape are read.
-#[derive(Clone, Copy, Debug, PartialEq, Eq)]
-pub enum Pages {
-    /// Those of four blocks.
-    OfFour,
-    /// All, which have one to four blocks (3GPP TS 44.012).
-    OfAny,
 }
 
 /// Reads 0 to 64 tapes up to the end of the input, and writes a table of the messages that they show by the wanted

@@ -15,7 +15,10 @@ use Rattle.bsc_table.specs.Record.{Record}
 use Rattle.cbch_blocks.specs.RecordBlocks.{tape_of_record}
 use Rattle.cbsp_wire.specs.declared.message.Cell.{Cell}
 use Rattle.cbsp_wire.specs.Range.{are_distinct, cells_are_valid}
-use Rattle.handset.specs.Recording.{AreJoinedRecordings, AreRecordings, HoldsRecording}
+use Rattle.handset.specs.Recording.{AreJoinedRecordings, AreRecordings, HoldsRecording, TapeRecording}
+use Rattle.short_pages.specs.Slots.{recording_by}
+use Rattle.short_pages.specs.declared.pages.Pages.TheVariants.{OfFour}
+use Rattle.verification.specs.Rows.{AreRows}
 use Rattle.verification_laws.specs.OwnTapes.{AreOwnTapes, OwnTapesHaveNoRows, recording_of}
 use Rattle.verification_laws.specs.Recorded.{RecordsAreRecorded}
 use Rattle.warnc_run.specs.Products.{IsCompiledFrom}
@@ -78,6 +81,11 @@ recordings from slots input output compiled few valid recorded =
       );
     }
 
+-- read by pages of four blocks recordings are as they are
+as_they_are : (tapes : List TapeRecording) → map (recording_by OfFour) tapes ≡ tapes
+as_they_are [] = refl
+as_they_are (tape ∷ tapes) = ap (λ (rest : List TapeRecording). tape ∷ rest) (as_they_are tapes)
+
 -- the tapes of a compiled book have no difference from it
 pub compiled-differs-nowhere : CellsAreValid → RecordsAreRecorded → OwnTapesHaveNoRows → CompiledDiffersNowhere
 compiled-differs-nowhere valid recorded rows from slots input output few compiled = (
@@ -86,8 +94,10 @@ compiled-differs-nowhere valid recorded rows from slots input output few compile
     run = compiled.run;
     recordings = map recording_of compiled.records;
     recordings_are = recordings from slots input output compiled few valid recorded;
-    rows_are = rows compiled.records (map recording_of compiled.records)
-        (own-tapes from slots input output compiled valid);
+    rows_are = subst (λ (tapes : List TapeRecording). AreRows compiled.records tapes [])
+        (sym (as_they_are (map recording_of compiled.records)))
+        (rows compiled.records (map recording_of compiled.records)
+        (own-tapes from slots input output compiled valid));
   },
   refl,
 )

@@ -3,6 +3,7 @@ use Rattle.std.proofs.Common.{◌≡◌, ℕ, ◌<◌, List, [], ◌∷◌, ◌+
 use Rattle.std.proofs.Common.{length, drop, refl, sym, ap, ◌∙◌, subst, arith, append-nil}
 use Rattle.std.specs.Io.KnownBytes.{Consumes, IsAtEnd}
 use Rattle.alert_book.specs.declared.network.Origin.{Origin}
+use Rattle.short_pages.specs.declared.pages.Pages.{Pages}
 use Rattle.verification.specs.RowText.{rows_text}
 use Rattle.warnc_verify.specs.Verified.{IsVerified}
 
@@ -30,7 +31,8 @@ longer : (x : ℕ) (xs : List ℕ) → 0 < length (x ∷ xs)
 longer x xs = omega arith
 
 -- the table of verified tapes is never empty: it has the line of the columns' names
-pub some_table : (from : Origin) (slots : ℕ) (book tapes output : List ℕ) → IsVerified from slots book tapes output
+pub some_table : (from : Origin) (slots : ℕ) (pages : Pages) (book tapes output : List ℕ)
+    → IsVerified from slots pages book tapes output
     → 0 < length output
-some_table from slots book tapes output is =
+some_table from slots pages book tapes output is =
     subst (λ (octets : List ℕ). 0 < length octets) (sym is.1) (longer 108 (drop 1 (rows_text [])))

@@ -1,5 +1,5 @@
 -- What `warnc verify` makes of a book and of tapes: the table of what the tapes have otherwise. Own.
-use Rattle.std.specs.Prelude.{◌≡◌, ⊤, ℕ, ◌<◌, List, [], Option, IfSome, length}
+use Rattle.std.specs.Prelude.{◌≡◌, ⊤, ℕ, ◌<◌, List, [], Option, IfSome, length, map}
 use Rattle.std.specs.Io.KnownBytes.{Appends, Consumes, IsAtEnd}
 use Rattle.alert_book.specs.declared.network.Origin.{Origin}
 use Rattle.device_ends.specs.Moves.{AppendsFront}
@@ -8,6 +8,8 @@ use Rattle.device_ends.specs.declared.reading.Source.{Source}
 use Rattle.handset.specs.Recording.{TapeRecording, AreRecordings}
 use Rattle.handset.specs.Tape.{IsTapesFault}
 use Rattle.bsc_table.specs.Record.{Record}
+use Rattle.short_pages.specs.Slots.{recording_by}
+use Rattle.short_pages.specs.declared.pages.Pages.{Pages}
 use Rattle.verification.specs.Rows.{AreRows}
 use Rattle.verification.specs.RowText.{rows_text}
 use Rattle.verification.specs.declared.row.Row.{Row}
@@ -36,64 +38,69 @@ readers_of book_left left book_first book_last first last = record {
 abbrev pub RunsBook : (from : Origin) (slots : ℕ) → Readers → List Record → Type 0
 RunsBook from slots ends records = HasRunBook from slots ends.book_first ends.book_last records
 
--- the octets of a book and of tapes, and rows that tell how the tapes differ from what the cells of the book's run were
--- asked: none, if they don't
-pub record DiffersBy (from : Origin) (slots : ℕ) (rows : List Row) (book tapes : List ℕ) : Type 0 where
+-- the octets of a book and of tapes, and rows that tell how the tapes, read by these pages, differ from what the cells
+-- of the book's run were asked: none, if they don't
+pub record DiffersBy (from : Origin) (slots : ℕ) (pages : Pages) (rows : List Row) (book tapes : List ℕ) : Type 0 where
   pub records : List Record
   pub run : RunOf from slots 1 book records
   pub recordings : List TapeRecording
   pub recordings_are : AreRecordings tapes recordings
-  pub rows_are : AreRows records recordings rows
+  pub rows_are : AreRows records (map (recording_by pages) recordings) rows
 
 -- the octets are a book, or a network book whose group has one, and the book has a run
 abbrev pub HasRun : (from : Origin) (slots : ℕ) (book : List ℕ) → Type 0
 HasRun from slots book = (records : List Record) × RunOf from slots 1 book records
 
 -- there is one row at least
-abbrev pub Differs : (from : Origin) (slots : ℕ) → (book tapes : List ℕ) → Type 0
-Differs from slots book tapes = (rows : List Row) × DiffersBy from slots rows book tapes × (0 < length rows)
+abbrev pub Differs : (from : Origin) (slots : ℕ) (pages : Pages) → (book tapes : List ℕ) → Type 0
+Differs from slots pages book tapes = (rows : List Row) × DiffersBy from slots pages rows book tapes × (0 < length rows)
 
 -- these rows tell the differences, and this is their table
-abbrev pub IsTableOf : (from : Origin) (slots : ℕ) → List Row → (book tapes output : List ℕ) → Type 0
-IsTableOf from slots rows book tapes output = DiffersBy from slots rows book tapes × (output ≡ rows_text rows)
+abbrev pub IsTableOf : (from : Origin) (slots : ℕ) (pages : Pages) → List Row → (book tapes output : List ℕ) → Type 0
+IsTableOf from slots pages rows book tapes output = DiffersBy from slots pages rows book tapes
+    × (output ≡ rows_text rows)
 
 -- there is no difference, and the table has none
-abbrev pub IsVerified : (from : Origin) (slots : ℕ) → (book tapes output : List ℕ) → Type 0
-IsVerified from slots book tapes output = IsTableOf from slots [] book tapes output
+abbrev pub IsVerified : (from : Origin) (slots : ℕ) (pages : Pages) → (book tapes output : List ℕ) → Type 0
+IsVerified from slots pages book tapes output = IsTableOf from slots pages [] book tapes output
 
 -- there are some, and the table has them
-abbrev pub HasDifferences : (from : Origin) (slots : ℕ) → (book tapes output : List ℕ) → Type 0
-HasDifferences from slots book tapes output =
-    (rows : List Row) × IsTableOf from slots rows book tapes output × (0 < length rows)
+abbrev pub HasDifferences : (from : Origin) (slots : ℕ) (pages : Pages) → (book tapes output : List ℕ) → Type 0
+HasDifferences from slots pages book tapes output =
+    (rows : List Row) × IsTableOf from slots pages rows book tapes output × (0 < length rows)
 
 -- the book and the tapes were read to their ends, and these rows tell how the tapes differ from the book
-pub record Finds (from : Origin) (slots : ℕ) (ends : Readers) (rows : List Row) : Type 0 where
+pub record Finds (from : Origin) (slots : ℕ) (pages : Pages) (ends : Readers) (rows : List Row) : Type 0 where
   pub book : List ℕ
   pub book_read : Consumes ends.book_first ends.book_last book
   pub book_ended : IsAtEnd ends.book_last
   pub tapes : List ℕ
   pub tapes_read : IfSome ends.tapes_first (λ input. input ≡ tapes)
   pub tapes_ended : IsAtEnd ends.tapes_last
-  pub differ : DiffersBy from slots rows book tapes
+  pub differ : DiffersBy from slots pages rows book tapes
 
 -- the table of some rows was written, or a front of it
-abbrev pub FindsAndWrites : (from : Origin) (slots : ℕ) → Readers → (old new : Option (List ℕ)) → List Row → Type 0
-FindsAndWrites from slots ends old new rows = Finds from slots ends rows × Appends old new (rows_text rows)
+abbrev pub FindsAndWrites : (from : Origin) (slots : ℕ) (pages : Pages) → Readers → (old new : Option (List ℕ))
+    → List Row → Type 0
+FindsAndWrites from slots pages ends old new rows = Finds from slots pages ends rows × Appends old new (rows_text rows)
 
-abbrev pub FindsAndWritesFront : (from : Origin) (slots : ℕ) → Readers → (old new : Option (List ℕ)) → List Row → Type 0
-FindsAndWritesFront from slots ends old new rows = Finds from slots ends rows × AppendsFront old new (rows_text rows)
+abbrev pub FindsAndWritesFront : (from : Origin) (slots : ℕ) (pages : Pages) → Readers → (old new : Option (List ℕ))
+    → List Row → Type 0
+FindsAndWritesFront from slots pages ends old new rows = Finds from slots pages ends rows
+    × AppendsFront old new (rows_text rows)
 
 -- why it isn't so that there are no differences: the book has no run; or it has one, and the tapes are none; or there
 -- are as many differences, one or more, and they were written; or memory ran out; or the writer failed
-abbrev pub IsVerifyFault : (from : Origin) (slots : ℕ) → Readers → (old new : Option (List ℕ)) → VerifyFault → Type 0
-IsVerifyFault from slots ends old new (faults.Run f) = IsRecordsFault from slots ends.book_first ends.book_last f
-IsVerifyFault from slots ends old new (faults.Tapes f) =
+abbrev pub IsVerifyFault : (from : Origin) (slots : ℕ) (pages : Pages) → Readers → (old new : Option (List ℕ))
+    → VerifyFault → Type 0
+IsVerifyFault from slots pages ends old new (faults.Run f) = IsRecordsFault from slots ends.book_first ends.book_last f
+IsVerifyFault from slots pages ends old new (faults.Tapes f) =
     (records : List Record) × RunsBook from slots ends records × IfSome ends.tapes_first (λ input. IsTapesFault input f)
-IsVerifyFault from slots ends old new (faults.Differences count) =
-    (rows : List Row) × FindsAndWrites from slots ends old new rows × (length rows ≡ count) × (0 < count)
-IsVerifyFault from slots ends old new faults.Refused = ⊤
-IsVerifyFault from slots ends old new faults.WriteFailed =
-    (rows : List Row) × FindsAndWritesFront from slots ends old new rows
+IsVerifyFault from slots pages ends old new (faults.Differences count) =
+    (rows : List Row) × FindsAndWrites from slots pages ends old new rows × (length rows ≡ count) × (0 < count)
+IsVerifyFault from slots pages ends old new faults.Refused = ⊤
+IsVerifyFault from slots pages ends old new faults.WriteFailed =
+    (rows : List Row) × FindsAndWritesFront from slots pages ends old new rows
 
 -- a fault that tells of differences, and one with which something may have been written
 abbrev pub IsDifference : VerifyFault → Type 0

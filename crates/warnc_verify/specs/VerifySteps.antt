@@ -4,12 +4,18 @@ use Rattle.alert_book.specs.declared.network.Origin.{Origin}
 use Rattle.device_ends.specs.Moves.{AppendsFront}
 use Rattle.handset.specs.Tape.{IsTapesFault}
 use Rattle.bsc_table.specs.Record.{Record}
+use Rattle.short_pages.specs.declared.pages.Pages.{Pages}
 use Rattle.verification.specs.RowText.{rows_text}
 use Rattle.verification.specs.declared.row.Row.{Row}
 use Rattle.warnc_run.specs.Records.{IsRecordsFault}
 use Rattle.warnc_verify.specs.Verified.{Readers, RunsBook}
 use Rattle.warnc_verify.specs.declared.fault.VerifyFault.{VerifyFault}
 use Rattle.warnc_verify.specs.declared.fault.VerifyFault.TheVariants as faults
+
+-- what tapes are judged by: the records of a run, and which of their pages are read
+pub record Judged : Type 0 where
+  pub records : List Record
+  pub pages : Pages
 
 -- why there are no rows
 abbrev pub IsRowsFault : (from : Origin) (slots : ℕ) → Readers → VerifyFault → Type 0

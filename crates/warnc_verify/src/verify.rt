@@ -20,6 +20,7 @@ use crate::judge::Judge;
 use alert_book::Origin;
 use device_ends::{Failed, Sink, Source, write_all};
 use handset::record_each;
+use short_pages::Pages;
 use std::alloc::Global;
 use std::io::{Read, Write};
 use std::sync::Wait;
@@ -44,11 +45,12 @@ pub fn verify_stream<T: AllocGlobal + Threads + Wait + Sync, B: Read, R: Read, W
     sink: &mut Sink<W>,
     origin: Origin,
     slots: u16,
+    pages: Pages,
     workers: Workers,
 ) -> Result<(), VerifyFault>
-    ensures ok { OnOk result (Writes W.contents (λ old new. FindsAndWrites origin slots
+    ensures ok { OnOk result (Writes W.contents (λ old new. FindsAndWrites origin slots pages
         (readers_of B.remaining R.remaining book.old book.new tapes.old tapes.new) old new []) sink.old sink.new) }
-    ensures err { IfErr result (λ fault. Writes W.contents (λ old new. IsVerifyFault origin slots
+    ensures err { IfErr result (λ fault. Writes W.contents (λ old new. IsVerifyFault origin slots pages
         (readers_of B.remaining R.remaining book.old book.new tapes.old tapes.new) old new fault) sink.old sink.new) }
 
     // At any readers and any writer: which end failed is reported, the book's first, and what failed before is as it
@@ -68,7 +70,7 @@ pub fn verify_stream<T: AllocGlobal + Threads + Wait + Sync, B: Read, R: Read, W
     ensures tapes_stay { source_failed tapes.old ≡ true → tapes.new ≡ tapes.old }
     ensures sink_stays { sink_failed sink.old ≡ true → sink.new ≡ sink.old }
 {
-    let rows = rows_of(rt, book, tapes, origin, slots, workers)?;
+    let rows = rows_of(rt, book, tapes, origin, slots, pages, workers)?;
     write_rows(rt.alloc(), &rows, sink)?;
     match rows.len() {
         0 => Ok(()),
@@ -83,9 +85,10 @@ fn rows_of<T: AllocGlobal + Threads + Wait + Sync, B: Read, R: Read>(
     tapes: &mut Source<R>,
     origin: Origin,
     slots: u16,
+    pages: Pages,
     workers: Workers,
 ) -> Result<Vec<Row>, VerifyFault>
-    ensures ok { IfOk result (λ rows. Finds origin slots
+    ensures ok { IfOk result (λ rows. Finds origin slots pages
         (readers_of B.remaining R.remaining book.old book.new tapes.old tapes.new) rows.items) }
     ensures err { IfErr result (λ fault. IsRowsFault origin slots
         (readers_of B.remaining R.remaining book.old book.new tapes.old tapes.new) fault) }
@@ -101,6 +104,8 @@ fn rows_of<T: AllocGlobal + Threads + Wait + Sync, B: Read, R: Read>(
     let alloc = rt.alloc();
     let records = run_book(rt, book, origin, slots, workers)?;
     let mut judge = Judge {
+        alloc,
+        pages,
         findings: Findings::new(alloc, records)?,
     };
     record_each(alloc, tapes, &mut judge)?;

@@ -1,6 +1,6 @@
-use Rattle.std.proofs.Common.{◌≡◌, ◌+◌, ◌*◌, ◌≤◌, length, arith, subst, ap, sym}
+use Rattle.std.proofs.Common.{◌≡◌, ◌+◌, ◌*◌, ◌≤◌, ◌∙◌, length, arith, subst, ap, sym}
 use Rattle.gsmtap.specs.PieceSteps.{section_of}
-use Rattle.gsmtap.specs.TapeOfCapture.{AreTaken}
+use Rattle.gsmtap.specs.TapeOfCapture.{AreTaken, nothing_known}
 use Rattle.gsmtap.specs.TapeSteps.{IsPieceFault, count_of, known_of, last_slot}
 use Rattle.gsmtap.specs.Track.{Known}
 use Rattle.gsmtap.specs.declared.fault.AirFault.{AirFault}
@@ -14,7 +14,7 @@ pieces-init c =
     record {
       taken =
           none_taken c.args.wanted.now (section_of c.args.reader) c.args.octets.now (known_of c.in_ok-air.air)
-          c.in_ok-air.ensures;
+          (c.in_ok-air.ensures ∙ ap nothing_known c.saturating_sub.ensures);
       few = omega arith;
       near = omega (arith, none);
     }

@@ -1,5 +1,4 @@
 use Rattle.std.proofs.Common.{sym, ◌∙◌}
-use native.Mathlib.Omega.{arith}
 use Rattle.warnc_run.specs.Engine.{IsMadeBy}
 use Rattle.warnc_cli.proofs.NoRun.{refused_product}
 use Rattle.warnc_cli.proofs.Products.{fault_between, front_written, some_product, written_of}

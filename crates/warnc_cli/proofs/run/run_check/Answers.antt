@@ -1,8 +1,7 @@
-use Rattle.std.proofs.Common.{◌≡◌, ◌∙◌, arith, subst, sym}
+use Rattle.std.proofs.Common.{◌∙◌, subst, sym}
 use Rattle.std.proofs.KnownBytes.{Keeps-refl}
 use Rattle.std.specs.Io.KnownBytes.{Keeps}
 use Rattle.device_ends.specs.Sink.{writer_of}
-use Rattle.warnc_cli.specs.Status.{status_of_check_fault}
 use Rattle.warnc_cli.proofs.Faulty.{check_between, kept_without_memory, refused_check, some_names, unseen_or_written}
 use Rattle.warnc_cli.proofs.run.run_check.Goals as goal
 

@@ -1,5 +1,6 @@
 use Rattle.handset.specs.Recording.{AreRecordings}
-use Rattle.std.proofs.Common.{[], List, ℕ}
+use Rattle.std.proofs.Common.{[], List, ℕ, map, refl}
+use Rattle.short_pages.specs.Slots.{recording_by}
 use Rattle.verification.specs.Found.{HasTaken}
 use Rattle.warnc_verify.proofs.Inputs.{octets_of}
 use Rattle.warnc_verify.proofs.verify.rows_of.Goals as goal
@@ -9,8 +10,9 @@ returns-clause-ok g c =
     let records = c.in_ok-records.records.items in
     let run = c.in_ok-records.ensures.ok in
     let recorded = c.in_ok-record_each.ensures.ok in
-    let taken : HasTaken records c.record_each.new.taker.findings recorded.recordings =
-    recorded.taken records [] c.in_ok-new.ensures in
+    let taken : HasTaken records c.record_each.new.taker.findings
+    (map (recording_by c.args.pages) recorded.recordings) =
+    (recorded.taken (record { records = records; pages = c.args.pages }) [] (refl, c.in_ok-new.ensures)).1 in
     let tapes = octets_of (λ (octets : List ℕ). AreRecordings octets recorded.recordings) _ recorded.of_input
     recorded.of_some in record {
       book = run.input;
@@ -24,6 +26,6 @@ returns-clause-ok g c =
         run = run.made;
         recordings = recorded.recordings;
         recordings_are = tapes.2;
-        rows_are = c.in_ok-rows.ensures records recorded.recordings taken;
+        rows_are = c.in_ok-rows.ensures records (map (recording_by c.args.pages) recorded.recordings) taken;
       };
     }

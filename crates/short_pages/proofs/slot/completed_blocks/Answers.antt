@@ -1,0 +1,18 @@
+-- The slots are appended, and then the blocks that are no slot.
+use Rattle.std.proofs.Common.{◌≡◌, List, ℕ, ◌++◌, ◌∙◌, ap, take}
+use Rattle.std.specs.List.{flat_map}
+use Rattle.std.proofs.lemmas.List.{take_all}
+use Rattle.short_pages.specs.Slots.{completed, completed_slot}
+use Rattle.short_pages.proofs.SlotLaws.{completed-one-by-one}
+use Rattle.short_pages.proofs.slot.completed_blocks.Goals as goal
+
+pub returns : goal.returns
+returns c =
+    let slots : List (List (List ℕ)) = c.as_chunks.result.0.now in
+    let rest : List (List ℕ) = c.as_chunks.result.1.now in
+    let read : List (List ℕ) = flat_map completed_slot (take c.loop-slot.slot-index slots) in
+    let whole : read ++ rest ≡ completed c.args.blocks.now =
+    completed-one-by-one c.loop-slot.slot-index c.args.blocks.now slots rest
+    (take_all c.loop-slot.slot-index slots c.loop-slot-test.false) c.as_chunks.ensures.front c.as_chunks.ensures.back in
+    c.in_ok-extend_from_slice-2.ensures.items ∙ ap (λ (first : List (List ℕ)). first ++ rest) c.loop-slot.invariant
+    ∙ whole
