@@ -4,7 +4,6 @@
 // Slots between broadcasts: 15 s, 30 s, 1 min, 2 min. The more often, the stronger the bar.
 const STEPS = [8, 16, 32, 64];
 const MANY = 12, MOST_LINES = 300, MOST_MARKS = 400, LEAST_GAP = 4, LEAST_WINDOW = 16;
-const levelOf = (gap) => 5 - STEPS.filter((step) => gap > step + 1).length;
 const shownSlots = () => state.zoom || [0, state.slots];
 function placeOf(slot) {
     const [from, to] = shownSlots();
@@ -17,18 +16,15 @@ function nameOfGroup({ cells }) {
     const isRow = cells.every((cell, k) => k === 0 || cell.index === cells[k - 1].index + 1);
     return isRow ? say("cellsTo", cells[0].key, cells.at(-1).key) : cells.map((cell) => cell.key).join(", ");
 }
+const percent = (load) => Math.ceil((100 * load) / WHOLE_CELL); // as the chart rounds it
 const loadAt = (group, slot) => (group.loads.findLast(([from]) => from <= slot) || [0, 0])[1];
-function gapOf({ start, end, marks, whole, period }) {
-    if (marks.length > 1) return (marks.at(-1) - marks[0]) / (marks.length - 1);
-    return whole > 1 ? (end - start) / whole : period || Infinity;
-}
-const everyOf = (message) => message.period || gapOf(message);
 const nameOf = (message) => message.name || `${message.id} ${message.serial}`;
 const kindOf = (message) => `${message.id} · ${nameOfId(message.id)}`;
 const endOf = (message) => Math.max(message.start, message.end);
-const whyRefused = (message) => say("refusedBecause", say(`cause${message.cause}`));
-const fullestText = (group, key = "fullest") => (
-    say(key, number(100 * group.fullest.share), timeText(group.fullest.at)));
+const whyRefused = (message) => say("refusedBecause", say(message.cause));
+const fullestText = ({ fullest: [slot, load] }, key = "fullest") => say(key, percent(load), timeText(slot));
+// the slots after which a broadcast is whole: those of the chart, or of its cell's tape
+const marksOf = (message) => message.slots ??= Array.from(message.marks.matchAll(/M(\d+)/g), ([, slot]) => +slot);
 
 function setupAir() {
     const swatch = (step, k) => node("span", {},
@@ -69,7 +65,7 @@ function chooseCell(key) {
     showAir();
 }
 function drawStrip(group, isChosen) {
-    const { cells, messages } = group, refused = messages.filter((it) => it.isRefused);
+    const { cells, messages } = group, refused = messages.filter((it) => it.cause);
     const isMany = state.groups.length > MANY;
     const choose = () => {
         chooseCell(cells[0].key);
@@ -83,21 +79,18 @@ function drawStrip(group, isChosen) {
                 + say("messages", messages.length - refused.length))),
         node("span", { className: "lane thin" }, drawLoad(group, [0, state.slots]), refused.slice(0, 200).map(nick)),
         node("span", { className: "much" },
-            group.fullest.share ? fullestText(group, isMany ? "fullestShort" : "fullest") : say("empty"),
+            group.fullest[1] ? fullestText(group, isMany ? "fullestShort" : "fullest") : say("empty"),
             refused.length ? node("b", { className: "badtext" }, ` ✕ ${say("nRefused", refused.length)}`) : null));
 }
 
-// The load from 0 to 1,000, which is a full cell.
-const FULL = 1000;
 function drawLoad(group, [from, to], isTall) {
-    const steps = group.loads.map(([slot, share], k) => (
-        `${k ? `H${slot}` : `M${slot} ${FULL}`}V${(FULL * (1 - share)).toFixed(1)}`));
+    const steps = group.loads.map(([slot, load]) => `H${slot}V${WHOLE_CELL - load}`);
     const quarters = isTall ? [0.25, 0.5, 0.75] : [];
     return node("svg", {
-        viewBox: `${from} 0 ${to - from} ${FULL}`, preserveAspectRatio: "none", role: "img",
+        viewBox: `${from} 0 ${to - from} ${WHOLE_CELL}`, preserveAspectRatio: "none", role: "img",
         "aria-label": fullestText(group),
-    }, node("path", { class: "load", d: steps.length ? `${steps.join("")}H${state.slots}V${FULL}z` : "" }),
-    quarters.map((part) => node("path", { class: "quarter", d: `M${from} ${FULL * part}H${to}` })));
+    }, node("path", { class: "load", d: `M0 ${WHOLE_CELL}${steps.join("")}H${state.slots}V${WHOLE_CELL}z` }),
+    quarters.map((part) => node("path", { class: "quarter", d: `M${from} ${WHOLE_CELL * part}H${to}` })));
 }
 
 // The axis at round times, also of a clock.
@@ -138,30 +131,30 @@ function drawRefusal(message) {
         node("span", { className: isFar ? "why far" : "why", css: side }, whyRefused(message))];
 }
 function drawBar(message, from, to, wide) {
-    const gap = gapOf(message), level = levelOf(gap), high = 4 + 1.2 * level, { start, end, first } = message;
-    const marks = message.marks.filter((slot) => slot >= from && slot <= to);
-    const isDense = marks.length > 1 && ((gap * wide) / (to - from) < LEAST_GAP || marks.length > MOST_MARKS);
-    const bar = { class: `beam f${level}`, x: start, width: end - start, y: (10 - high) / 2, height: high };
-    const d = [...marks].map((slot) => `M${slot} 0v10`).join(""), isFirstHere = first >= from && first <= to;
+    const { level, start, end, first, period } = message, high = 4 + 1.2 * level[1];
+    const marks = marksOf(message).filter((slot) => slot >= from && slot <= to);
+    const isDense = marks.length > 1 && ((period * wide) / (to - from) < LEAST_GAP || marks.length > MOST_MARKS);
+    const bar = { class: `beam ${level}`, x: start, width: end - start, y: (10 - high) / 2, height: high };
+    const d = marks.map((slot) => `M${slot} 0v10`).join(""), isFirstHere = first >= from && first <= to;
     return [
         node("svg", { viewBox: `${from} 0 ${to - from} 10`, preserveAspectRatio: "none", "aria-hidden": "true" },
             end > start ? node("rect", bar) : null,
-            marks.length && !isDense ? node("path", { class: `whole f${level}`, d }) : null),
+            marks.length && !isDense ? node("path", { class: `whole ${level}`, d }) : null),
         isFirstHere ? node("span", { className: "flag first", css: { left: `${placeOf(first)}%` } }) : null];
 }
 function sentenceOf(message) {
-    if (message.isRefused) return `${nameOf(message)}: ${whyRefused(message)}, ${timeText(message.start)}`;
+    if (message.cause) return `${nameOf(message)}: ${whyRefused(message)}, ${timeText(message.start)}`;
     const first = message.first < 0 ? say("never") : timeText(message.first);
     return `${nameOf(message)}, ${kindOf(message)}, ${urgencyOf(message)}: ${timeText(message.start)} – `
-        + `${timeText(endOf(message))}, ${say("d_every")} ${spanText(everyOf(message))}, ${say("d_whole")} `
+        + `${timeText(endOf(message))}, ${say("d_every")} ${spanText(message.period)}, ${say("d_whole")} `
         + `${number(message.whole)}, ${say("d_first")} ${first}. ${message.text}`;
 }
 const urgencyOf = (message) => say(`category${["high", "background", "normal"].indexOf(message.category)}`);
 function drawLine(message, from, to, wide) {
     const lane = node("div", { className: "lane" },
-        message.isRefused ? drawRefusal(message) : drawBar(message, from, to, wide));
-    const urgency = message.isRefused || message.category === "normal" ? "" : ` · ${urgencyOf(message)}`;
-    const count = message.isRefused ? "" : ` · ${number(message.whole)}×`;
+        message.cause ? drawRefusal(message) : drawBar(message, from, to, wide));
+    const urgency = message.cause || message.category === "normal" ? "" : ` · ${urgencyOf(message)}`;
+    const count = message.cause ? "" : ` · ${number(message.whole)}×`;
     const label = node("button", {
         className: "msg", "aria-label": sentenceOf(message), "aria-expanded": "false",
         onclick: () => openDetails(line, label, message), onblur: hideTip,
@@ -169,7 +162,7 @@ function drawLine(message, from, to, wide) {
     }, node("span", {}, node("b", {}, node("bdi", {}, nameOf(message))),
         node("small", {}, `${message.id}${urgency}${count}`)), node("bdi", { dir: "auto" }, message.text));
     const line = node("li", {
-        className: message.isRefused ? "line refused" : "line", onmouseleave: hideTip,
+        className: message.cause ? "line refused" : "line", onmouseleave: hideTip,
         onmouseenter: () => showTip(lane, message),
     }, label, lane);
     return line;
@@ -178,15 +171,15 @@ function drawLine(message, from, to, wide) {
 function detailsOf(message) {
     const row = (key, value) => [node("dt", {}, say(key)), node("dd", {}, value)];
     const place = message.row ? ` · ${say("c_row")} ${message.row} · ${message.serial}` : "";
-    const period = message.period ? ` (${message.period})` : "";
     return [
         node("p", {}, node("b", {}, node("bdi", {}, nameOf(message))), " ", node("span", {}, kindOf(message)),
             node("small", {}, place)),
-        message.isRefused
+        message.cause
             ? node("p", { className: "badtext" },
                 `✕ ${whyRefused(message)} (${message.cause}), ${timeText(message.start)}`)
             : node("dl", {}, row("d_from", timeText(message.start)), row("d_to", timeText(endOf(message))),
-                row("d_every", spanText(everyOf(message)) + period), row("d_whole", number(message.whole)),
+                row("d_every", `${spanText(message.period)} (${message.period})`),
+                row("d_whole", number(message.whole)),
                 row("d_first", message.first < 0 ? say("never") : timeText(message.first))),
         message.text ? node("p", { dir: "auto", className: "whole-text" }, message.text) : null];
 }
@@ -235,7 +228,7 @@ function showTime() {
     $("a-over").style.setProperty("--where", `${(100 * slot) / state.slots}%`);
     $("a-now").textContent = $("a-clock").textContent = timeText(slot);
     $("a-slot").textContent = say("slotOf", number(slot), number(state.slots));
-    const load = `${say("load")} ${number(100 * loadAt(group, slot))} %`;
+    const load = `${say("load")} ${percent(loadAt(group, slot))} %`;
     $("a-time").setAttribute("aria-valuetext", `${timeText(slot)}, ${load}`);
     fill($("a-shown"), seen.length ? seen.map(phoneItem) : node("li", { className: "none" }, say("nothingYet")));
     clearTimeout(speakTimer);
@@ -252,7 +245,7 @@ function markByTape(message, { air, page }) {
     for (let slot = message.start; slot < Math.min(message.end, air.length); slot++) {
         if (air[slot] === key && page[slot] >> 4 === (page[slot] & 15)) marks.push(slot + 1);
     }
-    message.marks = Uint32Array.from(marks);
+    message.slots = marks;
 }
 async function showChannel(group) { // asked once for each cell
     const cell = group.cells.find((it) => it.key === state.cell);
@@ -266,12 +259,12 @@ async function showChannel(group) { // asked once for each cell
             return;
         }
         state.air = { key: cell.key, ...result };
-        const unmarked = group.messages.filter((it) => it.whole > 0 && !it.isRefused && !it.marks.length);
+        const unmarked = group.messages.filter((it) => it.whole > 0 && it.marks === "");
         unmarked.forEach((it) => markByTape(it, result));
         if (unmarked.length) drawChart();
     }
     const slot = Math.min(state.at, state.slots - 1), key = state.air.air?.[slot], page = state.air.page?.[slot];
-    const isOf = (it) => !it.isRefused && it.id === key >>> 16 && parseInt(it.serial, 16) === (key & 0xffff);
+    const isOf = (it) => !it.cause && it.id === key >>> 16 && parseInt(it.serial, 16) === (key & 0xffff);
     const message = key ? chosenGroup().messages.find(isOf) : null;
     $("a-onair").textContent = key === undefined ? "" : key === 0 ? say("idle")
         : say("onAir", page >> 4, page & 15, message ? nameOf(message) : key);
@@ -340,15 +333,15 @@ addEventListener("resize", () => {
 // The report, and what can be taken along.
 const MOST_REPORTED = 400;
 function reportRow(message) {
-    const { isRefused } = message, accepted = (text) => (isRefused ? "" : text);
-    const shown = isRefused ? node("span", { className: "badtext" }, `✕ ${say(`cause${message.cause}`)}`)
-        : message.isShown ? node("span", { className: "oktext" }, `✓ ${say("yes")}`)
+    const { cause, first } = message, accepted = (text) => (cause ? "" : text);
+    const shown = cause ? node("span", { className: "badtext" }, `✕ ${say(cause)}`)
+        : first >= 0 ? node("span", { className: "oktext" }, `✓ ${say("yes")}`)
             : node("span", { className: "warntext" }, `! ${say("no")}`);
     const fields = [message.row ?? "", node("bdi", {}, message.name ?? ""), message.id, message.serial,
         timeText(message.start), accepted(timeText(endOf(message))),
-        accepted(message.period ? spanText(message.period) : ""), accepted(number(message.whole)),
-        message.first < 0 ? "" : timeText(message.first), shown, node("bdi", { dir: "auto" }, message.text)];
-    return node("tr", { className: isRefused ? "refused" : "" }, fields.map((field) => node("td", {}, field)));
+        accepted(spanText(message.period)), accepted(number(message.whole)),
+        first < 0 ? "" : timeText(first), shown, node("bdi", { dir: "auto" }, message.text)];
+    return node("tr", { className: cause ? "refused" : "" }, fields.map((field) => node("td", {}, field)));
 }
 function showReport() {
     const group = chosenGroup();

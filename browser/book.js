@@ -29,15 +29,19 @@ function setupBook() {
         node("th", { scope: "col", className: `c-${name}` }, say(`c_${name}`)))));
     showBook();
 }
-function showCells(faulty) {
-    const chip = (cell) => node("li", {
-        className: faulty.has(cell.row) ? "bad" : "", title: `${say("c_row")} ${cell.row}`,
-    },
-        node("bdi", {}, cell.key),
-        node("button", { "aria-label": say("removeCell", cell.key), onclick: () => deleteRow(cell.row) }, "×"));
-    fill($("b-cells"), state.book.cells.map(chip));
+function showCells() {
+    const faulty = new Set(state.faults.map((fault) => +fault.row)), { cells } = state.book;
+    const silent = new Set(state.fault ? [] : allRemarks().map((it) => it.cell)); // each remark of a cell says so
+    const chip = ({ row, key }) => node("li", {
+        className: faulty.has(row) ? "bad" : silent.has(key) ? "odd" : "",
+        title: `${say("c_row")} ${row}${silent.has(key) ? `: ${saying("gets nothing")}` : ""}`,
+    }, silent.has(key) ? "!\u00a0" : null, node("bdi", {}, key),
+    node("button", { "aria-label": say("removeCell", key), onclick: () => deleteRow(row) }, "×"));
+    fill($("b-cells"), cells.map(chip));
     rove($("b-cells"), "button");
-    $("b-ncells").textContent = number(state.book.cells.length);
+    const count = cells.filter(({ key }) => silent.has(key)).length;
+    fill($("b-ncells"), number(cells.length), count ? node("b", { className: "warntext" },
+        ` · ! ${say(count === 1 ? "silent1" : "silent", number(count))}`) : null);
 }
 function showBook() {
     $("b-undo").disabled = !state.past.length;
@@ -48,7 +52,7 @@ function showBook() {
     if (document.activeElement !== $("b-slots")) $("b-slots").value = state.slots;
     $("b-length").textContent = `${say("slots")} = ${timeText(state.slots, false)}`;
     $("b-clock").value = state.clock;
-    showCells(new Set(state.faults.map((fault) => +fault.row)));
+    showCells();
     $("b-norders").textContent = number(orders.length);
     $("b-empty").hidden = cells.length + orders.length > 0;
     $("b-sheet").hidden = !orders.length;
@@ -79,14 +83,13 @@ function drawRows(isForced) {
     const to = Math.min(orders.length, last), hasFocus = body.contains(document.activeElement);
     if (!isForced && from === sheet.from && to === sheet.to) return;
     Object.assign(sheet, { from, to });
-    const byRow = (list) => new Map(list.map((it) => [+it.row, it]));
-    const faults = byRow(state.faults), verdicts = byRow(state.fault ? [] : state.verdicts);
-    const costs = byRow(state.fault ? [] : state.costs);
+    sheet.saidOf = saidByRow();
     const space = (count) => (
         node("tr", { className: "space", "aria-hidden": "true", css: { height: `${count * height}px` } }));
-    fill(body, space(Math.min(from, orders.length)), orders.slice(from, to).map((order, k) => (
-        drawRow(order, from + k, verdicts.get(order.row), faults.get(order.row), costs.get(order.row)))),
-    space(orders.length - to));
+    fill(body, space(Math.min(from, orders.length)),
+        orders.slice(from, to).map((order, k) => drawRow(order, from + k, sheet.saidOf(order.row))),
+        space(orders.length - to));
+    showSaid();
     const one = body.rows[1], isOther = one && !one.classList.contains("space") && one.offsetHeight !== sheet.height;
     if (isOther && one.offsetHeight) {
         sheet.height = one.offsetHeight;
@@ -114,38 +117,66 @@ const showField = {
         if (order.cells === "*") return pair(say("allCells", count), "*");
         return count > 1 ? pair(say("nCells", count), order.cells) : order.cells;
     },
-    text: (order, verdict, cost) => [node("bdi", { dir: "auto" }, order.text), cost ? costNote(cost) : null],
-    result: (order, verdict) => verdictNotes(order, verdict),
+    text: (order, { cost }) => [node("bdi", { dir: "auto" }, order.text), cost ? costNote(cost) : null],
 };
 function costNote(cost) {
     const pages = cost.pages === "1" ? say("cost1") : say("costs", cost.pages);
     if (cost.first_ucs2 === "") return node("small", {}, pages);
     return node("small", {}, `${pages} · `, say("costsFor", ""), node("bdi", {}, cost.first_ucs2));
 }
-function verdictNotes(order, verdict) {
-    if (!verdict) return "–";
-    const inWords = (it) => it.replace(/ (\w\w)$/, (_, cause) => `: ${say(`cause${cause}`)}`);
-    const causes = (list) => list.map(inWords).join("\n");
-    const line = (className, sign, key, count, title) => (
-        count ? node("span", { className, title }, `${sign} ${say(key, count)}`) : null);
-    const notes = verdict.notes.map(([key, what]) => (
-        say(key === "after" && what === 1 ? "n_after1" : `n_${key}`, key === "early" ? timeText(what) : what)));
-    return [line("badtext", "✕", "refusedIn", verdict.refused.length, causes(verdict.refused)),
-        line("warntext", "!", "nothingIn", verdict.nothing.length, causes(verdict.nothing)),
-        line("warntext", "!", "hiddenIn", verdict.hidden, ""),
-        line("oktext", "✓", order.verb === "stop" ? "doneIn" : "shownIn", verdict.shown, ""),
-        notes.length ? node("small", { className: "warntext", title: notes.join("\n") }, notes[0]) : null];
+
+// Returns a function that has what is said of a row: its fault, what its text costs, what became of it, and what is
+// remarked of it.
+function saidByRow() {
+    const byRow = (list) => Map.groupBy(list, (it) => +it.row), ofGood = (list) => byRow(state.fault ? [] : list);
+    const faults = byRow(state.faults), costs = ofGood(state.costs), fates = ofGood(state.fates);
+    const remarks = ofGood(allRemarks());
+    return (row) => {
+        const [fault, cost, fate] = [faults, costs, fates].map((it) => it.get(row)?.[0]);
+        return { fault, cost, fate, remarks: remarks.get(row) || [] };
+    };
 }
-function drawRow(order, k, verdict, fault, cost) {
-    const has = COLUMNS[order.verb] || ["text"], own = new Set([...has, "row", "verb", "result"]);
-    const faulty = fault && (fault.field === "VERB" ? "verb" : fault.field.toLowerCase());
+
+// Returns what is noted at an order: in how many cells it is done, and what is remarked of it; of a refusal also where.
+const PAST_THE_END = "cell broadcast not operational";
+function notesOf(order, { fate, remarks }) {
+    if (!fate) return [];
+    const isStop = order.verb === "stop", said = remarks.map((it) => it.says).join("\n");
+    const omitted = said.includes("orders nothing") ? order.where : /leaves out (.+)/.exec(said)?.[1].split(" ") || [];
+    const others = Object.values(fate.refused).flat().length + omitted.length;
+    const done = isStop ? order.where.length - others : fate.shown;
+    const rank = ({ says }) => SAYS.findIndex(([form]) => form.test(says));
+    const notes = remarks.toSorted((one, other) => rank(one) - rank(other)).map((it) => {
+        const cells = fate.refused[it.says === "past the end" ? PAST_THE_END : it.says.split(": ")[1]];
+        const text = saying(it.says) + (cells ? ` (${cells.join(" ")})` : "");
+        return isRefusal(it) ? ["badtext", `✕ ${text}`] : ["warntext", `! ${text}`];
+    });
+    if (done > 0) notes.unshift(["oktext", `✓ ${say(isStop ? "doneIn" : "shownIn", done)}`]);
+    return notes;
+}
+// In a row the first note, and after it the others, are as short as they can be; all stands below the table.
+function showNotes(notes) {
+    const span = ([className, text]) => node("span", { className }, text.split(": ")[0]);
+    const [first, ...others] = notes.map(span);
+    return first ? [node("div", {}, first), node("div", {}, others.flatMap((it, k) => (k ? [" ", it] : [it])))] : "–";
+}
+function showSaid() {
+    const order = chosenOrder(), notes = order ? notesOf(order, sheet.saidOf(order.row)) : [];
+    const isWarned = notes.some(([className]) => className !== "oktext");
+    fill($("b-said"), isWarned ? [`${say("c_row")} ${order.row}`, notes.map(([className, text]) => (
+        [" · ", node("span", { className }, text)]))] : null);
+}
+function drawRow(order, k, said) {
+    const has = COLUMNS[order.verb] || ["text"], own = new Set([...has, "row", "verb", "result"]), { fault } = said;
+    const faulty = fault && (fault.field === "VERB" ? "verb" : fault.field.toLowerCase()), notes = notesOf(order, said);
+    const titles = { text: order.text, cells: order.cells, result: notes.map(([, text]) => text).join("\n") };
     if (order.id && order.verb === "update") own.add("id");
     const cell = (name, column) => node("td", {
         role: name === "row" ? "rowheader" : "gridcell", tabIndex: k === sheet.k && column === sheet.column ? 0 : -1,
         className: `c-${name}${own.has(name) ? "" : " none"}${name === faulty ? " badcell" : ""}`,
         "aria-invalid": name === faulty ? "true" : undefined, "data-k": k, "data-column": column,
-        "data-h": say(`c_${name}`), title: name === "text" || name === "cells" ? order[name] : undefined,
-    }, own.has(name) ? showField[name](order, verdict, cost) : null);
+        "data-h": say(`c_${name}`), title: titles[name],
+    }, own.has(name) ? (name === "result" ? showNotes(notes) : showField[name](order, said)) : null);
     const className = `v-${order.verb}${fault ? " bad" : ""}${k === sheet.k ? " chosen" : ""}`;
     return node("tr", { role: "row", "aria-rowindex": k + 2, className }, GRID.map(cell));
 }
@@ -163,6 +194,7 @@ function moveTo(k, column) {
     if (top < box.scrollTop) box.scrollTop = top;
     else if (end > box.scrollTop + box.clientHeight) box.scrollTop = end - box.clientHeight + 4;
     drawRows();
+    showSaid();
     for (const one of $("b-grid").tBodies[0].querySelectorAll("td[tabindex='0']")) {
         one.tabIndex = -1;
         one.parentNode.classList.remove("chosen");

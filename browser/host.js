@@ -40,10 +40,11 @@ function pageOf(memory, words, input, written) {
 }
 
 // Runs the program once, in memory of its own, and returns its status, its output and its line of standard error.
-function run(words, input = new Uint8Array(0)) {
+function run(words, input = "") {
     const written = { 1: [], 2: [] }, all = ["warnc", ...words.map(String)].map(encode);
+    const given = typeof input === "string" ? encode(input) : input;
     let made = null, status = 0;
-    const page = pageOf(() => new Uint8Array(made.memory.buffer), all, input, written);
+    const page = pageOf(() => new Uint8Array(made.memory.buffer), all, given, written);
     made = new WebAssembly.Instance(program, { page }).exports;
     try {
         status = made.main(0, 0n);

@@ -2,16 +2,18 @@
 const $ = (id) => document.getElementById(id);
 const opened = performance.now(), times = { first: 0, firstBook: 0, text: 0, book: 0 };
 let language = /^de/.test(navigator.language) ? 1 : 0;
-const filled = (text, args) => text.replace(/\{(\d)\}/g, (_, k) => args[k]);
+// What is filled in stands as it is ({0}), or is a time ({t0}), the length of a list ({n0}) or words again ({w0}).
+const FILLINGS = { "": (it) => it, t: (it) => timeText(+it), n: (it) => it.split(" ").length, w: (it) => say(it) };
+const filled = (text, args) => text.replace(/\{([tnw]?)(\d)\}/g, (_, how, k) => FILLINGS[how](args[k]));
 const say = (key, ...args) => filled(WORDS[key] ? WORDS[key][language] : key, args);
 const number = (value, digits = 0) => (
     value.toLocaleString(language ? "de" : "en", { minimumFractionDigits: digits, maximumFractionDigits: digits }));
 
-// Returns what `check` says of a field, in the language of the page.
+// Returns what `check` says of a field, a row or a cell, in the language of the page.
 function saying(says) {
-    for (const [form, german] of language ? SAYS : []) {
-        const match = form.exec(says);
-        if (match) return filled(german, match.slice(1));
+    for (const [form, german, english] of SAYS) {
+        const match = form.exec(says), text = language ? german : english;
+        if (match && text) return filled(text, match.slice(1));
     }
     return says;
 }
@@ -101,23 +103,16 @@ function nameOfId(id) {
 // A desk is a worker; its jobs are done one after another. Cancelling ends the worker and starts another one with the
 // same module, so nothing is compiled twice.
 class Desk {
-    constructor() {
-        this.jobs = new Map();
-        this.count = 0;
-        this.open();
-    }
+    jobs = new Map();
+    count = 0;
+    constructor() { this.open(); }
 
     open() {
         this.worker = workers.pop() || new Worker(workerUrl);
-        this.worker.onmessage = ({ data }) => {
-            const job = this.jobs.get(data.number);
-            if (!job) return;
-            if (data.stage) {
-                if (job.tell) job.tell(data.stage);
-                return;
-            }
-            this.jobs.delete(data.number);
-            job.done(data.result);
+        this.worker.onmessage = ({ data: { number, stage, result } }) => {
+            const job = this.jobs.get(number);
+            if (stage) job?.tell?.(stage);
+            else if (this.jobs.delete(number)) job.done(result);
         };
     }
 
@@ -142,7 +137,7 @@ const started = textDesk.ask("start", { packed: $("packed").textContent });
 // The state: the book is its text, of which table and CSV are two views; `done` is the text of the last good book.
 const state = {
     text: "", book: readBook(""), slots: 9600, clock: "", fault: "", faults: [],
-    groups: [], verdicts: [], costs: [], done: "", past: [], future: [],
+    groups: [], fates: [], own: [], remarks: [], costs: [], done: "", past: [], future: [],
     pane: "text", row: 0, at: 0, cell: "", zoom: null, air: null,
 };
 const MOST_UNDO = 100, ONE_TYPING = 1200;
@@ -188,39 +183,20 @@ function undo(isRedo) {
 
 // Computing the book: the latest one wins; what is under way is left to end if it is young, and ended if not.
 const YOUNG = 800, QUIET = 300, LONG_BOOK = 1e5;
-let wanted = 0, under = 0, since = 0, timer = 0;
+let wanted = 0, under = 0, since = 0, timer = 0, isAskingMore = false;
 function compute() {
     clearTimeout(timer);
     wanted++;
     timer = setTimeout(work, state.text.length > LONG_BOOK ? 250 : 60);
 }
-function takeResult(result, text) {
-    state.fault = result.fault || "";
-    state.faults = result.faults || [];
-    if (!result.fault) {
-        Object.assign(state, { groups: result.groups, verdicts: result.verdicts, air: null, done: text });
-        askCosts(text);
-    }
-    showState();
-    showResults();
-    showAir();
-}
-async function askCosts(text) { // what the texts of a book cost, once it is shown what becomes of them
-    const { costs } = await bookDesk.ask("costs", { text });
-    if (!costs || text !== state.done) return;
-    state.costs = costs;
-    showResults();
-}
 async function work() {
-    if (!Desk.module) return;
-    if (under) {
-        if (performance.now() - since <= YOUNG) return;
-        await stop(false);
-    }
-    const own = under = wanted, began = since = performance.now(), text = state.text;
+    if (!Desk.module || (under && performance.now() - since <= YOUNG)) return;
+    // nobody waits for what would go unsaid of an older book
+    if (under || (isAskingMore && times.book > QUIET)) await stop(false);
+    const own = under = wanted, began = since = performance.now(), { text, slots } = state;
     const late = setTimeout(() => { $("busy").hidden = false; }, QUIET);
     $("bar").removeAttribute("value");
-    const result = await bookDesk.ask("book", { text, slots: state.slots }, (stage) => {
+    const result = await bookDesk.ask("book", { text, slots }, (stage) => {
         $("bar").value = stage - 1;
         tell(`${say("working")}: ${say(`stage${stage}`)}`, true);
     });
@@ -231,7 +207,24 @@ async function work() {
     times.book = performance.now() - began;
     times.firstBook ||= performance.now() - opened;
     if (own !== wanted) work();
-    takeResult(result, text);
+    const { fault = "", faults = [], ...good } = result;
+    Object.assign(state, { fault, faults }, fault ? {} : { ...good, air: null, done: text });
+    showState();
+    showResults();
+    showAir();
+    if (!fault && own === wanted) askMore(text, slots);
+}
+async function askMore(text, slots) { // once it is shown what becomes of a book: what would go unsaid, what texts cost
+    const own = wanted, answers = {};
+    isAskingMore = true;
+    for (const job of ["remarks", "costs"]) {
+        if (own === wanted) answers[job] = await bookDesk.ask(job, { text, slots });
+    }
+    isAskingMore = false;
+    if (own !== wanted || !Array.isArray(answers.costs)) return;
+    Object.assign(state, answers);
+    showState();
+    showResults();
 }
 async function stop(isTold = true) {
     const started = bookDesk.cancel();
@@ -250,26 +243,31 @@ function tell(text, isLate, button) {
     if (isLate) tellTimer = setTimeout(now, QUIET);
     else now();
 }
-function showBadge(id, count, isBad) {
-    $(id).hidden = !count;
-    $(id).textContent = typeof count === "number" && count ? number(count) : count || "";
-    $(id).className = isBad ? "dot bad" : "dot";
+// All that is remarked. That a cell gets nothing is no news where nothing is ordered.
+const allRemarks = () => [...state.own, ...state.remarks.filter((it) => it.row || state.book.orders.length)];
+const isRefusal = ({ says }) => /^(refused|past)/.test(says);
+function showBadge(id, text, isBad) {
+    $(id).hidden = !text;
+    $(id).textContent = text;
+    $(id).classList.toggle("bad", isBad);
 }
 function showState() {
-    const refused = state.verdicts.filter((it) => it.refused.length).length, faults = state.faults.length;
-    const nothing = state.verdicts.filter((it) => it.nothing.length || it.hidden).length;
+    const { fault, faults, book } = state, remarks = fault ? [] : allRemarks(), count = (key, many, ...more) => (
+        many === 1 ? say(`${key}1`, ...more) : say(key, number(many), ...more));
+    const places = (list) => new Set(list.map((it) => +it.row || it.cell)).size;
+    const refused = places(remarks.filter(isRefusal)), odd = places(remarks.filter((it) => !isRefusal(it)));
     clearTimeout(tellTimer);
-    if (state.fault) {
-        const words = !faults ? say("faultyBook") : faults === 1 ? say("faulty1") : say("faulty", number(faults));
+    if (fault) {
+        const words = faults.length ? count("faulty", faults.length) : say("faultyBook");
         fill($("state"), node("b", { className: "badtext" }, `✕ ${words}`));
     } else {
         fill($("state"), node("span", { className: "oktext" }, "✓ "),
-            say("good", number(state.book.rows.length), state.book.cells.length),
-            refused ? node("b", { className: "badtext" }, ` · ✕ ${say("nRefused", number(refused))}`) : null,
-            nothing ? node("b", { className: "warntext" }, ` · ! ${say("nNothing", number(nothing))}`) : null);
+            say("good", number(book.rows.length), book.cells.length),
+            refused ? node("b", { className: "badtext" }, ` · ✕\u00a0${say("nRefused", number(refused))}`) : null,
+            odd ? node("b", { className: "warntext" }, ` · !\u00a0${count("nOdd", odd)}`) : null);
     }
-    showBadge("n-book", state.fault ? faults || "!" : nothing, !!state.fault);
-    showBadge("n-air", state.fault ? 0 : refused, true);
+    showBadge("n-book", fault ? (faults.length ? number(faults.length) : "!") : odd ? number(odd) : "", !!fault);
+    showBadge("n-air", refused ? number(refused) : "", true);
     showSpeed();
 }
 function showSpeed() {
@@ -289,27 +287,12 @@ function showPane(name, isFocused) {
     hideTip();
 }
 
-const HELP = [["Alt+Shift+1 2 3", "k_panes"], ["← ↑ → ↓ Home End", "k_grid"], ["Enter / F2", "k_edit"],
-    ["Ctrl+Enter / Ctrl+Del", "k_row"], ["Ctrl+O / Ctrl+S", "k_file"], ["Ctrl+Z / Ctrl+Y", "k_undo"],
-    ["← → / PgUp PgDn", "k_time"], ["+ / − / 0", "k_zoom"], [", / .", "k_change"]];
 function setWords() {
     document.documentElement.lang = language ? "de" : "en";
     document.title = `warnc · ${say("title")}`;
-    for (const it of document.querySelectorAll("[data-s]")) it.textContent = say(it.dataset.s);
-    for (const it of document.querySelectorAll("[data-l]")) it.setAttribute("aria-label", say(it.dataset.l));
-    $("z-prev").textContent = `← ${say("prev")}`;
-    $("z-next").textContent = `${say("next")} →`;
-    for (const [id, key] of [["z-back", "earlier"], ["z-fwd", "later"], ["z-in", "zoomIn"], ["z-out", "zoomOut"]]) {
-        $(id).title = say(key);
-        $(id).setAttribute("aria-label", say(key));
+    for (const [name, attribute] of [["s", "textContent"], ["l", "ariaLabel"], ["t", "title"], ["p", "placeholder"]]) {
+        for (const it of document.querySelectorAll(`[data-${name}]`)) it[attribute] = say(it.dataset[name]);
     }
-    for (const [id, key] of [["open", "O"], ["save", "S"], ["undo", "Z"], ["redo", "Y"]]) {
-        $(`b-${id}`).title = `Ctrl+${key}`;
-    }
-    $("b-cell").placeholder = say("cellHint");
-    $("b-cell").setAttribute("aria-label", say("addCell"));
-    fill($("help-list"), HELP.map(([keys, what]) => (
-        [node("dt", {}, node("kbd", {}, keys)), node("dd", {}, say(what))])));
     setupText();
     setupBook();
     setupAir();

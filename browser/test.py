@@ -34,7 +34,7 @@ import release  # noqa: E402
 import texts_reference  # noqa: E402
 from devtools import ALT, CONTROL, SHIFT, Chromium  # noqa: E402
 
-READY = "times.book && !under && times.text && !isAsking"
+READY = "times.book && !under && !isAskingMore && times.text && !isAsking"
 HOSTILE = (
     "<script>document.title='x'</script>", "</script><img src=x onerror=alert(1)>", "\"quoted\" 'and' \"\"",
     "\u202eevil\u202c rtl", "אזהרה 12 !", "zero\u200bwidth\u200d", "a,b;c|d{}", "&amp;&lt;", "]]>", "-->",
@@ -67,7 +67,7 @@ def load(page, text, slots=None):
     """Gives the page a book, and waits until it is computed."""
     slots = f"state.slots = {slots};" if slots else ""
     page.run(f"{slots} setBook({json.dumps(text)}, 'load'); clearTimeout(timer); await work()")
-    page.until("!under")
+    page.until("!under && !isAskingMore")
 
 
 def records(text):
@@ -122,6 +122,24 @@ def first_slots(tape):
     return {(int.from_bytes(key[2:], "big"), key[:2].hex()): it for key, it in first.items()}
 
 
+PAST = "cell broadcast not operational"
+
+
+def well_judged(row, fate, said, declared):
+    """Whether what the page counts of an order is what `check --slots` says of it."""
+    is_stop = row[0] == "stop"
+    cells = row[-1 if is_stop else -2]
+    asked = declared if cells == "*" else len(cells.split())
+    for it in said:
+        asked = 0 if it == "orders nothing" else asked - len(it.split()) + 2 if it.startswith("leaves out") else asked
+    refused = {it.split(": ")[1]: int(it.split()[2]) for it in said if it.startswith("refused in")}
+    found = {cause: len(it) for cause, it in fate["refused"].items()}
+    past = found.pop(PAST, 0)
+    lines = fate["shown"] + fate["hidden"] + sum(found.values()) + past
+    is_right = found == refused and bool(past) == ("past the end" in said)
+    return is_right and (lines <= asked if is_stop else lines == asked)
+
+
 def messages_are_read_right(page, program, count):
     """Of each message the page says when a phone shows it as its tape does, and names a row of its text."""
     wrong, shown = [], 0
@@ -131,26 +149,29 @@ def messages_are_read_right(page, program, count):
         status, tapes, _ = ran(program, ["compile", "--slots", slots], book)
         if status:
             continue
-        groups, verdicts = page.run(f"""
-            const result = await bookDesk.ask("book", {{ text: {json.dumps(book.decode())}, slots: {slots} }});
-            const seen = ({{ marks, ...message }}) => message, {{ groups, verdicts }} = result;
-            return [groups.map(({{ cells, messages }}) => ({{ cells, messages: messages.map(seen) }})), verdicts];""")
-        rows = records(book.decode())
-        size, declared = gsm.size_of_tape(slots), sum(it[0] == "cell" for it in rows)
-        for it in verdicts:
-            cells = rows[it["row"] - 1][-1 if rows[it["row"] - 1][0] == "stop" else -2]
-            count = it["shown"] + it["hidden"] + len(it["refused"]) + len(it["nothing"])
-            if count != (declared if cells == "*" else len(cells.split())):
-                wrong.append(f"book {seed}: {it} isn't of {cells}")
+        groups, fates = page.run(f"""
+            const {{ groups, fates }} = await bookDesk.ask("book",
+                {{ text: {json.dumps(book.decode())}, slots: {slots} }});
+            const seen = ({{ marks, ...message }}) => message;
+            return [groups.map(({{ cells, messages }}) => ({{ cells, messages: messages.map(seen) }})), fates];""")
+        rows, remarks = records(book.decode()), {}
+        for row, _, _, says in records(ran(program, ["check", "--slots", slots], book)[1].decode())[1:]:
+            remarks.setdefault(row, []).append(says)
+        size, declared = gsm.size_of_tape(slots), 0
+        judged = {it["row"]: it for it in fates}
+        for number, row in enumerate(rows, 1):
+            declared += row[0] == "cell"
+            if row[0] != "cell" and not well_judged(row, judged[number], remarks.get(str(number), []), declared):
+                wrong.append(f"book {seed}: row {number}: {judged[number]}, {remarks.get(str(number))}")
         for group in groups:
             for cell in group["cells"]:
                 first = first_slots(tapes[cell["index"] * size:(cell["index"] + 1) * size])
                 for it in group["messages"]:
                     row = rows[it.get("row", 1) - 1]
-                    is_sent = row[0] in ("write", "update") or it["isRefused"] and row[0] == "stop"
+                    is_sent = row[0] in ("write", "update") or it["cause"] and row[0] == "stop"
                     if not is_sent or it["first"] >= 0 and row[-1] != it["text"]:
                         wrong.append(f"book {seed}: {it} isn't of row {it.get('row')}")
-                    if not it["isRefused"]:
+                    if not it["cause"]:
                         shown += 1
                         if it["first"] != first.get((it["id"], it["serial"]), -1):
                             wrong.append(f"book {seed}: {cell['key']} {it}: {first}")
@@ -233,7 +254,7 @@ def hostile_texts_do_nothing(page, _program, _):
                 + 'main i i').length""")
             if made or page.run("return document.title") != title:
                 wrong.append(f"{pane}: {made} elements of texts")
-    shown = page.run("return [state.groups[0].messages.filter((it) => it.isShown).length, $('t-text').value]")
+    shown = page.run("return [state.groups[0].messages.filter((it) => it.first >= 0).length, $('t-text').value]")
     if shown != [len(HOSTILE), HOSTILE[0]]:
         wrong.append(f"shown: {shown}")
     page.run("state.row = 0")
@@ -296,27 +317,73 @@ stop,60,c,*
 write,101,d,4371,0,3,en,2,8,0,*,twin
 write,102,e,4371,0,5,en,2,1,0,1-1,full
 write,103,f,4371,0,6,en,2,30,0,*," spaces "
+update,150,b,en,2,8,0,*,Two again
+write,160,i,4373,0,9,en,2,30,0,1-2," "
 write,200,h,4372,0,8,en,2,2,1,1-1,once
 stop,300,h,1-1
 stop,310,h,1-1
 write,900,g,4371,0,7,en,2,30,0,*,over
 cell,1,3
 """
-NOTED = {3: ("after", 0), 5: ("nothing", 2), 7: ("nothing", 1), 8: ("hidden", 2), 9: ("early", 0), 10: ("refused", 2),
-         11: ("refused", 1), 12: ("spaces", 0), 14: ("refused", 1), 15: ("nothing", 1), 16: ("refused", 2)}
+LATE = "! misses a cell: it is declared after this row"
+NOTED = {
+    3: ["✓ shown in 2", LATE], 4: ["✓ stopped in 2", LATE], 5: ["! no effect: nothing to change or stop", LATE],
+    6: ["✓ shown in 1"], 7: ["! no effect: nothing to change or stop"], 8: ["! never shown in 2", LATE],
+    9: ["✓ stopped in 2", "! only at 0:03:08: an earlier row is later", LATE],
+    10: ["✕ refused in 2: identifier and serial number are in use (1-1 1-2)",
+         "! twin of row 8: identifier, scope and code are the same", LATE],
+    11: ["✕ refused in 1: no room left in the cell (1-1)"],
+    12: ["✓ shown in 2", "! spaces: at an end of the text", LATE],
+    13: ["✓ shown in 1", "! no effect in 1: nothing to change or stop in 1-2", LATE],
+    14: ["✓ shown in 1", "! only spaces"], 15: ["✓ shown in 1"],
+    16: ["✕ refused in 1: there is nothing to replace or stop (1-1)"], 17: ["! no effect: nothing to change or stop"],
+    18: ["✕ refused: after the end of the run (1-1 1-2)", LATE],
+}
+# of the kinds of docs/formats.md each has to be in the book
+KINDS = ("orders nothing", "leaves out", "done at slot", "refused in", "past the end", "same identifier", "only spaces",
+         "gets nothing")
 
 
-def silent_mistakes_are_noted(page, _program, _):
-    """What no command refuses, and does less than was meant, is noted at its row."""
+def what_would_go_unsaid_is_noted(page, program, _):
+    """What `check --slots` remarks stands at its row or its cell, in both languages; nothing where it says nothing."""
+    page.run("showPane('book')")
     load(page, SILENT, 400)
-    verdicts = {it["row"]: it for it in page.run("return state.verdicts")}
-    wrong = []
-    for row, (what, count) in NOTED.items():
-        found = verdicts[row]
-        number = found.get(what) if isinstance(found.get(what), int) else len(found.get(what, []))
-        if number != count if count else what not in [it[0] for it in found["notes"]]:
-            wrong.append(f"row {row}: {what}: {found}")
-    return wrong, f"{len(NOTED)} silent mistakes are noted"
+    table = ran(program, ["check", "--slots", 400], SILENT.encode())[1].decode()
+    head, *rows = records(table)
+    wrong = [f"the book has none that {it}" for it in KINDS if not any(row[3].startswith(it) for row in rows)]
+    if page.run("return state.remarks") != [dict(zip(head, it)) for it in rows]:
+        wrong.append("the remarks are others")
+    noted = """const box = $('b-sheet'), noted = {};
+        for (let k = 0; k < state.book.orders.length; k++) {
+            moveTo(k, 3);
+            noted[state.book.orders[k].row] = [chosenCell().parentNode.querySelector('.c-result').title,
+                chosenCell().parentNode.querySelector('.c-result').textContent, $('b-said').textContent];
+        }
+        return [noted, [...document.querySelectorAll('#b-cells .odd')].map((it) => it.title),
+            $('b-ncells').textContent, $('n-book').textContent, $('n-air').textContent, $('state').textContent]"""
+    found, cells, counted, *badges = page.run(noted)
+    for row, notes in NOTED.items():
+        title, short, below = found[str(row)]
+        is_warned = any(it[0] != "✓" for it in notes)
+        if title.split("\n") != notes or below != (" · ".join([f"Row {row}", *notes]) if is_warned else ""):
+            wrong.append(f"row {row}: {found[str(row)]}")
+        wrong += [f"row {row}: {short}" for it in notes if it.split(": ")[0] not in short]
+    if cells != ["Row 19: gets nothing"] or counted != "3 · ! 1 gets nothing" or badges[:2] != ["13", "4"]:
+        wrong.append(f"{cells} {counted} {badges}")
+    german, cells, *_ = page.run(f"language = 1; setWords(); {noted}")
+    page.run("language = 0; setWords()")
+    wrong += [f"no German: {de[0]}" for row, de in german.items() if set(de[0].split("\n")) & set(NOTED[int(row)])]
+    wrong += [] if cells == ["Zeile 19: bekommt nichts"] else [f"{cells}"]
+    page.run("$('b-flood').click(); clearTimeout(timer); await work()")
+    page.until("!under && !isAskingMore")
+    said = page.run("""return [state.remarks.length, document.querySelectorAll('#b-grid .warntext, #b-grid .badtext,'
+        + '#b-cells .odd').length, $('n-book').hidden, $('n-air').hidden, $('b-said').textContent]""")
+    wrong += [] if said == [0, 0, True, True, ""] else [f"the flood has {said}"]
+    page.run("setBook('cell,1,1\\n', 'load'); clearTimeout(timer); await work()")
+    page.until("!under && !isAskingMore")
+    said = page.run("return [state.remarks.length, document.querySelectorAll('#b-cells .odd').length]")
+    wrong += [] if said == [1, 0] else [f"a book without orders has {said}"]
+    return wrong, f"{len(rows)} remarks of {len(KINDS)} kinds stand at their rows and cells, in both languages"
 
 
 def a_book_is_made_by_keys(page, _program, _):
@@ -471,7 +538,7 @@ def nothing_is_asked_for(page, _program, _):
 TESTS = (
     (examples_are_typed, 0), (random_books_are_the_programs, 1), (messages_are_read_right, 0.3),
     (texts_cost_what_the_program_says, 0.5), (csv_is_read_as_the_program_reads_it, 1), (hostile_texts_do_nothing, 0),
-    (faults_stand_at_their_fields, 0), (silent_mistakes_are_noted, 0), (a_book_is_made_by_keys, 0),
+    (faults_stand_at_their_fields, 0), (what_would_go_unsaid_is_noted, 0), (a_book_is_made_by_keys, 0),
     (files_of_spreadsheets_are_taken, 0), (texts_of_rows_are_written, 0), (work_is_cancelled, 0),
     (nothing_is_wider_than_the_window, 0), (nothing_is_asked_for, 0))
 

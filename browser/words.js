@@ -18,7 +18,8 @@ const WORDS = {
     good: ["{0} rows, {1} cells: no fault", "{0} Zeilen, {1} Zellen: kein Fehler"],
     faulty: ["{0} rows with a fault", "{0} Zeilen mit Fehlern"], faulty1: ["1 row with a fault", "1 Zeile mit Fehler"],
     faultyBook: ["Fault of the book", "Fehler des Buchs"],
-    nRefused: ["{0} refused", "{0} abgelehnt"], nNothing: ["{0} without effect", "{0} ohne Wirkung"],
+    nRefused: ["{0} refused", "{0} abgelehnt"],
+    nOdd: ["{0} remarks", "{0} Hinweise"], nOdd1: ["1 remark", "1 Hinweis"],
 
     // Text
     editing: ["Text of", "Text von"], draft: ["A draft, not in the book", "Entwurf, nicht im Buch"],
@@ -81,13 +82,7 @@ const WORDS = {
     cost1: ["1 page", "1 Seite"], costs: ["{0} pages", "{0} Seiten"],
     costsFor: ["UCS-2: {0}", "UCS-2: {0}"],
     shownIn: ["shown in {0}", "gezeigt in {0}"], doneIn: ["stopped in {0}", "gestoppt in {0}"],
-    hiddenIn: ["never shown in {0}", "nie gezeigt in {0}"], refusedIn: ["refused in {0}", "abgelehnt in {0}"],
-    nothingIn: ["no effect in {0}", "ohne Wirkung in {0}"],
-    n_early: ["done at {0}: an earlier row is later", "erst um {0}: eine frühere Zeile ist später"],
-    n_spaces: ["spaces at an end of the text", "Leerzeichen am Rand des Textes"],
-    n_same: ["same identifier, scope and code as row {0}", "Kennung, Bereich und Code wie Zeile {0}"],
-    n_after: ["{0} cells are declared after this row", "{0} Zellen stehen erst nach dieser Zeile"],
-    n_after1: ["a cell is declared after this row", "eine Zelle steht erst nach dieser Zeile"],
+    silent: ["{0} get nothing", "{0} bekommen nichts"], silent1: ["{0} gets nothing", "{0} bekommt nichts"],
     emptyBook: ["The book is empty. Add cells and a new alert, open a file, or take the example.",
         "Das Buch ist leer. Zellen und eine Warnung anlegen, eine Datei öffnen oder das Beispiel nehmen."],
     faultAt: ["Row {0}, line {1}, column {2}", "Zeile {0}, Dateizeile {1}, Spalte {2}"],
@@ -118,7 +113,8 @@ const WORDS = {
     l_refused: ["refused", "abgelehnt"], l_mark: ["one broadcast (zoom in)", "eine Aussendung (näher heran)"],
     load: ["Reserved load", "Reservierte Last"], time: ["Time", "Zeit"], zoomIn: ["Zoom in", "Näher"],
     zoomOut: ["Zoom out", "Weiter"], whole: ["Whole run", "Ganzer Lauf"], earlier: ["Earlier", "Früher"],
-    later: ["Later", "Später"], prev: ["Change before", "Änderung davor"], next: ["Next change", "Nächste Änderung"],
+    later: ["Later", "Später"], prev: ["← Change before", "← Änderung davor"],
+    next: ["Next change →", "Nächste Änderung →"],
     slotOf: ["slot {0} of {1}", "Slot {0} von {1}"], phone: ["A phone in this cell", "Ein Telefon in dieser Zelle"],
     phoneCell: ["Cell of the phone", "Zelle des Telefons"],
     nothingYet: ["Nothing shown yet.", "Noch nichts gezeigt."],
@@ -128,13 +124,15 @@ const WORDS = {
     d_from: ["From", "Von"], d_to: ["To", "Bis"], d_every: ["Every", "Alle"], d_whole: ["Broadcasts", "Aussendungen"],
     d_first: ["First shown", "Zuerst gezeigt"], never: ["never", "nie"],
     refusedBecause: ["Refused: {0}", "Abgelehnt: {0}"],
-    // causes of 3GPP TS 48.049, 8.2, Cause
-    cause02: ["there is nothing to replace or stop", "es gibt nichts zu ersetzen oder zu stoppen"],
-    cause06: ["no room left in the cell", "kein Platz mehr in der Zelle"],
-    cause07: ["64 messages are reserved already", "64 Nachrichten sind schon reserviert"],
-    cause08: ["the cell's log is full", "das Protokoll der Zelle ist voll"],
-    cause0a: ["the run is over by then", "der Lauf ist dann vorbei"],
-    cause0d: ["identifier and serial number are in use", "Kennung und Seriennummer sind vergeben"],
+    // causes of 3GPP TS 48.049, 8.2, as the program names them
+    "message reference not identified": ["there is nothing to replace or stop",
+        "es gibt nichts zu ersetzen oder zu stoppen"],
+    "BSC capacity exceeded": ["no room left in the cell", "kein Platz mehr in der Zelle"],
+    "cell memory exceeded": ["64 messages are reserved already", "64 Nachrichten sind schon reserviert"],
+    "BSC memory exceeded": ["the cell's log is full", "das Protokoll der Zelle ist voll"],
+    "cell broadcast not operational": ["the run is over by then", "der Lauf ist dann vorbei"],
+    "message reference already used": ["identifier and serial number are in use",
+        "Kennung und Seriennummer sind vergeben"],
     report: ["Report", "Bericht"], ofCell: ["of {0}", "von {0}"], c_serial: ["Serial", "Serien-Nr."],
     c_end: ["End", "Ende"], c_whole: ["Broadcasts", "Aussendungen"], c_first: ["First shown", "Zuerst gezeigt"],
     c_shown: ["Shown", "Gezeigt"], yes: ["yes", "ja"], no: ["no", "nein"],
@@ -160,7 +158,8 @@ const WORDS = {
     k_change: ["change before, next change", "Änderung davor, nächste Änderung"],
 };
 
-// What `check` says of a field, in German; what isn't here is shown as the program says it.
+// What `check` says of a field, and what it and unsaid.js remark of a row or a cell, the worst first: in German, and in
+// English where that isn't as the program says it. A row of the table has what stands before a colon.
 const SAYS = [
     [/^a number from (\d+) to (\d+)$/, "eine Zahl von {0} bis {1}"],
     [/^0 \(high\), 1 \(background\) or 2 \(normal\)$/, "0 (hoch), 1 (Hintergrund) oder 2 (normal)"],
@@ -185,6 +184,22 @@ const SAYS = [
     [/^(\d+) pages, (\d+) is the most$/, "{0} Seiten, {1} sind das Meiste"],
     [/^(\d+) pages, (\d+) is the most: UCS-2 because of ([^]+) at (\d+)$/,
         "{0} Seiten, {1} sind das Meiste: UCS-2 wegen {2} an Stelle {3}"],
+    [/^refused in (\d+) cells?: (.+)$/, "abgelehnt in {0}: {w1}", "refused in {0}: {w1}"],
+    [/^past the end$/, "abgelehnt: nach dem Ende des Laufs", "refused: after the end of the run"],
+    [/^orders nothing$/, "ohne Wirkung: nichts zu ändern oder zu stoppen", "no effect: nothing to change or stop"],
+    [/^leaves out (.+)$/, "ohne Wirkung in {n0}: nichts zu ändern oder zu stoppen in {0}",
+        "no effect in {n0}: nothing to change or stop in {0}"],
+    [/^never shown in (\d+)$/, "nie gezeigt in {0}"],
+    [/^done at slot (\d+)$/, "erst um {t0}: eine frühere Zeile ist später", "only at {t0}: an earlier row is later"],
+    [/^same identifier and serial number as row (\d+)$/, "wie Zeile {0}: gleich sind Kennung, Bereich und Code",
+        "twin of row {0}: identifier, scope and code are the same"],
+    [/^only spaces$/, "nur Leerzeichen"],
+    [/^spaces at an end of the text$/, "Leerzeichen: am Rand des Textes", "spaces: at an end of the text"],
+    [/^1 declared after it$/, "ohne eine Zelle: sie steht erst nach dieser Zeile",
+        "misses a cell: it is declared after this row"],
+    [/^(\d+) declared after it$/, "ohne {0} Zellen: sie stehen erst nach dieser Zeile",
+        "misses {0} cells: they are declared after this row"],
+    [/^gets nothing$/, "bekommt nichts"],
 ];
 
 // Message identifiers of 3GPP TS 23.041, clause 9.4.1.2.2, with the levels of EU-Alert (ETSI TS 102 900). Those of the

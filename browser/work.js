@@ -1,15 +1,15 @@
 // The worker: one job at a time, each made of runs of the program.
 let tapes = null;
 const TEXTS_A_RUN = 2000, MOST_PAGES = 15;
+const tableBy = (words, input) => tableOf(decode(run(words, input).out));
 
 // Returns what `texts` says of each text: its coding, its pages, the room on the last one, and how much of it fits.
 function costsOf(texts, lang) {
-    const costs = [];
-    for (let at = 0; at < texts.length; at += TEXTS_A_RUN) {
-        const rows = texts.slice(at, at + TEXTS_A_RUN).map((text, k) => (
-            rowText(["write", "0", `t${k}`, "0", "0", "0", lang, "2", "1", "0", "*", text])));
-        const said = run(["texts", "--pages", MOST_PAGES], encode(`cell,0,0\n${rows.join("\n")}\n`));
-        costs.push(...tableOf(decode(said.out)));
+    const costs = [], rows = texts.map((text, k) => (
+        rowText(["write", "0", `t${k}`, "0", "0", "0", lang, "2", "1", "0", "*", text])));
+    while (rows.length) {
+        const book = `cell,0,0\n${rows.splice(0, TEXTS_A_RUN).join("\n")}\n`;
+        costs.push(...tableBy(["texts", "--pages", MOST_PAGES], book));
     }
     return costs;
 }
@@ -27,39 +27,40 @@ const jobs = {
         const result = { cost, mendedCost: other, letters: letters.map((letter, k) => [letter, each[k]]) };
         if (cost.pages === "" || cost.pages === "0" || +cost.pages > MOST_PAGES) return result;
         const words = ["page", "--lang", lang, "--id", id, "--scope", scope, "--code", code, "--update", update];
-        const input = encode(`${text}\n`); // one LF at the end isn't part of the text
-        const lines = decode(run(words, input).out).split("\n").slice(0, 4 * +cost.pages);
+        const said = decode(run(words, `${text}\n`).out); // one LF at the end isn't part of the text
+        const lines = said.split("\n").slice(0, 4 * +cost.pages);
         return { ...result, blocks: lines, serial: lines[0].slice(2, 6), pages: textsOfPages(lines) };
     },
 
     book({ text, slots }, say) {
-        const words = ["--slots", slots, "--workers", 1], octets = encode(text);
+        const words = ["--slots", slots, "--workers", 1];
         tapes = null;
         say(1);
-        const report = run(["report", "--full", ...words], octets);
-        if (report.status) return { fault: report.says, faults: tableOf(decode(run(["check"], octets).out)) };
+        const report = run(["report", "--full", ...words], text);
+        if (report.status) return { fault: report.says, faults: tableBy(["check"], text) };
         say(2);
-        const chart = run(["chart", ...words], octets);
-        if (chart.status) return { fault: chart.says, faults: [] };
+        const chart = run(["chart", ...words], text);
+        if (chart.status) return { fault: chart.says };
         say(3);
         const book = readBook(text), groups = groupsOf(decode(chart.out), decode(report.out), book);
-        return { groups, verdicts: judge(book, groups, slots) };
+        const fates = fatesOf(groups, book);
+        return { groups, fates, own: ownRemarks(book, fates) };
     },
 
-    costs: ({ text }) => ({ costs: tableOf(decode(run(["texts"], encode(text)).out)) }),
+    // What would go unsaid of a book without a fault, and what its texts cost.
+    remarks: ({ text, slots }) => tableBy(["check", "--slots", slots], text),
+    costs: ({ text }) => tableBy(["texts"], text),
 
     channel({ text, slots, cell }) {
-        if (!tapes) {
-            const made = run(["compile", "--slots", slots, "--workers", 1], encode(text));
-            if (made.status) return { fault: made.says };
-            tapes = made.out;
-        }
+        const made = tapes ? null : run(["compile", "--slots", slots, "--workers", 1], text);
+        if (made?.status) return { fault: made.says };
+        tapes ??= made.out;
         return channelOf(tapes, slots, cell);
     },
 
     // Runs of the program, each with what the one before it wrote; the last one's status and output.
     run({ text, commands }) {
-        let made = { status: 0, out: encode(text), says: "" };
+        let made = { status: 0, out: text };
         for (const words of commands) if (!made.status) made = run(words, made.out);
         return made;
     },
