@@ -1,8 +1,5 @@
 // The pane "Air". Each x is a share of the slots that are shown, in hundredths, so nothing is drawn anew when a width
 // changes, but for the marks of broadcasts, which stand only where they are 4 px apart.
-
-// Slots between broadcasts: 15 s, 30 s, 1 min, 2 min. The more often, the stronger the bar.
-const STEPS = [8, 16, 32, 64];
 const MANY = 12, MOST_LINES = 300, MOST_MARKS = 400, LEAST_GAP = 4, LEAST_WINDOW = 16;
 const shownSlots = () => state.zoom || [0, state.slots];
 function placeOf(slot) {
@@ -18,26 +15,25 @@ function nameOfGroup({ cells }) {
 }
 const percent = (load) => Math.ceil((100 * load) / WHOLE_CELL); // as the chart rounds it
 const loadAt = (group, slot) => (group.loads.findLast(([from]) => from <= slot) || [0, 0])[1];
+const fullestText = ({ fullest: [slot, load] }, key = "fullest") => say(key, percent(load), timeText(slot));
+
+// Of a message: the slots after which a broadcast is whole, by the chart or by its cell's tape, and what is said of it.
+const marksOf = (message) => message.slots ??= Array.from(message.marks.matchAll(/M(\d+)/g), ([, slot]) => +slot);
 const nameOf = (message) => message.name || `${message.id} ${message.serial}`;
 const kindOf = (message) => `${message.id} · ${nameOfId(message.id)}`;
-const endOf = (message) => Math.max(message.start, message.end);
-const whyRefused = (message) => say("refusedBecause", say(message.cause));
-const fullestText = ({ fullest: [slot, load] }, key = "fullest") => say(key, percent(load), timeText(slot));
-// the slots after which a broadcast is whole: those of the chart, or of its cell's tape
-const marksOf = (message) => message.slots ??= Array.from(message.marks.matchAll(/M(\d+)/g), ([, slot]) => +slot);
-
-function setupAir() {
-    const swatch = (step, k) => node("span", {},
-        node("i", { className: `swatch f${5 - k}`, css: { height: `${1 - 0.12 * k}rem` } }),
-        step ? `≤ ${spanText(step)}` : say("rarer"));
-    fill($("a-legend"), node("span", { className: "by-day" }, say("byDay")),
-        node("span", { className: "by-night" }, say("byNight")), [...STEPS, 0].map(swatch),
-        node("span", {}, node("i", { className: "swatch tick" }), say("l_mark")),
-        node("span", {}, node("i", { className: "flag first" }), say("l_first")),
-        node("span", {}, node("i", { className: "flag no" }, "✕"), say("l_refused")));
-    const columns = ["row", "name", "id", "serial", "at", "end", "period", "whole", "first", "shown", "text"];
-    fill($("a-report").tHead.rows[0], columns.map((name) => node("th", { scope: "col" }, say(`c_${name}`))));
+const urgencyOf = (message) => say(`category${["high", "background", "normal"].indexOf(message.category)}`);
+const refusalOf = ({ cause, start }) => `${say("refusedBecause", say(cause))} (${cause}), ${timeText(start)}`;
+function factsOf({ start, end, period, whole, first }) {
+    return [["d_from", timeText(start)], ["d_to", timeText(Math.max(start, end))],
+        ["d_every", `${spanText(period)} (${period})`], ["d_whole", number(whole)],
+        ["d_first", first < 0 ? say("never") : timeText(first)]];
 }
+function sentenceOf(message) {
+    const facts = message.cause ? [refusalOf(message)]
+        : [kindOf(message), urgencyOf(message), ...factsOf(message).map(([key, value]) => `${say(key)} ${value}`)];
+    return `${nameOf(message)}, ${facts.join(", ")}. ${message.text}`;
+}
+
 function showAir() {
     if (state.pane !== "air") return;
     const isThere = state.groups.length > 0;
@@ -49,7 +45,7 @@ function showAir() {
     const group = chosenGroup();
     if (!hasCell(group)) state.cell = group.cells[0].key;
     $("a-strips").classList.toggle("many", state.groups.length > MANY);
-    fill($("a-strips"), state.groups.map((one) => node("li", {}, drawStrip(one, one === group))));
+    fill($("a-strips"), state.groups.map((one) => node("li", drawStrip(one, one === group))));
     rove($("a-strips"), ".strip");
     // at first the moment when a phone shows something
     const firsts = group.messages.map((it) => (it.first < 0 ? state.slots : it.first));
@@ -65,46 +61,42 @@ function chooseCell(key) {
     showAir();
 }
 function drawStrip(group, isChosen) {
-    const { cells, messages } = group, refused = messages.filter((it) => it.cause);
-    const isMany = state.groups.length > MANY;
-    const choose = () => {
+    const { cells, messages } = group, refused = messages.filter((it) => it.cause), isMany = state.groups.length > MANY;
+    const onclick = () => {
         chooseCell(cells[0].key);
         $("a-strips").querySelector("[aria-pressed=true]").focus();
     };
-    const nick = (it) => node("i", { className: "nick", css: { left: `${(100 * it.start) / state.slots}%` } });
-    return node("button", { className: "strip", "aria-pressed": String(isChosen), onclick: choose },
-        node("span", { className: "who" },
-            node("b", {}, isMany && cells.length === 1 ? cells[0].key : nameOfGroup(group)),
-            node("small", {}, (cells.length > 1 ? `${say("equal", cells.length)} · ` : "")
-                + say("messages", messages.length - refused.length))),
-        node("span", { className: "lane thin" }, drawLoad(group, [0, state.slots]), refused.slice(0, 200).map(nick)),
-        node("span", { className: "much" },
-            group.fullest[1] ? fullestText(group, isMany ? "fullestShort" : "fullest") : say("empty"),
-            refused.length ? node("b", { className: "badtext" }, ` ✕ ${say("nRefused", refused.length)}`) : null));
+    const nick = (it) => node("i.nick", { css: { left: `${(100 * it.start) / state.slots}%` } });
+    const equal = cells.length > 1 ? `${say("equal", cells.length)} · ` : "";
+    return node("button.strip", { "aria-pressed": String(isChosen), onclick },
+        node("span.who", node("b", isMany && cells.length === 1 ? cells[0].key : nameOfGroup(group)),
+            node("small", equal + say("messages", messages.length - refused.length))),
+        node("span.lane.thin", drawLoad(group, [0, state.slots]), refused.slice(0, 200).map(nick)),
+        node("span.much", group.fullest[1] ? fullestText(group, isMany ? "fullestShort" : "fullest") : say("empty"),
+            refused.length ? node("b.badtext", ` ✕ ${say("nRefused", refused.length)}`) : null));
 }
-
 function drawLoad(group, [from, to], isTall) {
-    const steps = group.loads.map(([slot, load]) => `H${slot}V${WHOLE_CELL - load}`);
-    const quarters = isTall ? [0.25, 0.5, 0.75] : [];
-    return node("svg", {
-        viewBox: `${from} 0 ${to - from} ${WHOLE_CELL}`, preserveAspectRatio: "none", role: "img",
-        "aria-label": fullestText(group),
-    }, node("path", { class: "load", d: `M0 ${WHOLE_CELL}${steps.join("")}H${state.slots}V${WHOLE_CELL}z` }),
-    quarters.map((part) => node("path", { class: "quarter", d: `M${from} ${WHOLE_CELL * part}H${to}` })));
+    const steps = group.loads.map(([slot, load]) => `H${slot}V${WHOLE_CELL - load}`).join("");
+    const quarter = (part) => node("path.quarter", { d: `M${from} ${WHOLE_CELL * part}H${to}` });
+    const box = { viewBox: `${from} 0 ${to - from} ${WHOLE_CELL}`, preserveAspectRatio: "none", role: "img" };
+    return node("svg", { ...box, "aria-label": fullestText(group) },
+        node("path.load", { d: `M0 ${WHOLE_CELL}${steps}H${state.slots}V${WHOLE_CELL}z` }),
+        isTall ? [0.25, 0.5, 0.75].map(quarter) : null);
 }
 
 // The axis at round times, also of a clock.
 const ROUND = [5, 10, 15, 30, 60, 120, 300, 600, 900, 1800, 3600, 7200, 10800, 21600, 43200, DAY];
 const A_LABEL = 88;
 function drawAxis(from, to, wide) {
-    const least = ((to - from) * SLOT) / Math.max(2, Math.floor(wide / A_LABEL));
-    const step = ROUND.find((it) => it >= least) || DAY, off = startOfClock() % step, ticks = [];
+    const least = ((to - from) * SLOT) / Math.max(2, Math.floor(wide / A_LABEL)), ticks = [];
+    const step = ROUND.find((it) => it >= least) || DAY, off = startOfClock() % step;
     for (let time = Math.ceil((from * SLOT + off) / step) * step - off; time <= to * SLOT + 0.01; time += step) {
-        if (time >= 0) ticks.push(time / SLOT);
+        if (time < 0) continue;
+        const slot = time / SLOT, place = placeOf(slot), side = place > 96 ? "last" : place < 3 ? "start" : "";
+        const text = step >= 60 ? timeText(slot).replace(/:00$/, "") : timeText(slot);
+        ticks.push(node("span", { css: { left: `${place}%` }, className: side }, text));
     }
-    const side = (place) => (place > 96 ? "last" : place < 3 ? "start" : "");
-    return ticks.map((slot) => node("span", { css: { left: `${placeOf(slot)}%` }, className: side(placeOf(slot)) },
-        timeText(slot).replace(step >= 60 ? /:00$/ : /^$/, "")));
+    return ticks;
 }
 function drawChart() {
     const group = chosenGroup(), [from, to] = shownSlots(), wide = $("a-load").clientWidth || 600;
@@ -112,9 +104,9 @@ function drawChart() {
     const more = messages.length - MOST_LINES;
     $("a-title").textContent = say("chartOf", nameOfGroup(group));
     fill($("a-lines"), messages.slice(0, MOST_LINES).map((it) => drawLine(it, from, to, wide)),
-        more > 0 ? node("li", { className: "faint" }, `… +${more}`) : null);
+        more > 0 ? node("li.faint", `… +${more}`) : null);
     rove($("a-lines"), ".msg");
-    fill($("a-load"), drawLoad(group, [from, to], true), node("span", { className: "edge" }, "100 %"));
+    fill($("a-load"), drawLoad(group, [from, to], true), node("span.edge", "100 %"));
     $("a-fullest").textContent = fullestText(group);
     fill($("a-axis"), drawAxis(from, to, wide));
     state.at = Math.min(Math.max(state.at, from), to);
@@ -124,79 +116,56 @@ function drawChart() {
     $("z-in").disabled = to - from <= LEAST_WINDOW + 4;
     showTime();
 }
-function drawRefusal(message) {
-    const left = placeOf(message.start), isFar = left > 55;
-    const side = isFar ? { right: `${100 - left}%` } : { left: `${left}%` };
-    return [node("span", { className: "flag no", css: { left: `${left}%` } }, "✕"),
-        node("span", { className: isFar ? "why far" : "why", css: side }, whyRefused(message))];
+function drawRefusal({ start, cause }) {
+    const left = placeOf(start), isFar = left > 55, side = isFar ? { right: `${100 - left}%` } : { left: `${left}%` };
+    return [node("span.flag.no", { css: { left: `${left}%` } }, "✕"),
+        node(isFar ? "span.why.far" : "span.why", { css: side }, say("refusedBecause", say(cause)))];
 }
 function drawBar(message, from, to, wide) {
     const { level, start, end, first, period } = message, high = 4 + 1.2 * level[1];
     const marks = marksOf(message).filter((slot) => slot >= from && slot <= to);
-    const isDense = marks.length > 1 && ((period * wide) / (to - from) < LEAST_GAP || marks.length > MOST_MARKS);
-    const bar = { class: `beam ${level}`, x: start, width: end - start, y: (10 - high) / 2, height: high };
-    const d = marks.map((slot) => `M${slot} 0v10`).join(""), isFirstHere = first >= from && first <= to;
+    const isDense = marks.length > MOST_MARKS || (period * wide) / (to - from) < LEAST_GAP;
+    const d = marks.map((slot) => `M${slot} 0v10`).join("");
+    const bar = { x: start, width: end - start, y: (10 - high) / 2, height: high };
     return [
         node("svg", { viewBox: `${from} 0 ${to - from} 10`, preserveAspectRatio: "none", "aria-hidden": "true" },
-            end > start ? node("rect", bar) : null,
-            marks.length && !isDense ? node("path", { class: `whole ${level}`, d }) : null),
-        isFirstHere ? node("span", { className: "flag first", css: { left: `${placeOf(first)}%` } }) : null];
+            end > start ? node(`rect.beam.${level}`, bar) : null,
+            marks.length === 1 || !isDense ? node(`path.whole.${level}`, { d }) : null),
+        first >= from && first <= to ? node("span.flag.first", { css: { left: `${placeOf(first)}%` } }) : null];
 }
-function sentenceOf(message) {
-    if (message.cause) return `${nameOf(message)}: ${whyRefused(message)}, ${timeText(message.start)}`;
-    const first = message.first < 0 ? say("never") : timeText(message.first);
-    return `${nameOf(message)}, ${kindOf(message)}, ${urgencyOf(message)}: ${timeText(message.start)} – `
-        + `${timeText(endOf(message))}, ${say("d_every")} ${spanText(message.period)}, ${say("d_whole")} `
-        + `${number(message.whole)}, ${say("d_first")} ${first}. ${message.text}`;
-}
-const urgencyOf = (message) => say(`category${["high", "background", "normal"].indexOf(message.category)}`);
 function drawLine(message, from, to, wide) {
-    const lane = node("div", { className: "lane" },
-        message.cause ? drawRefusal(message) : drawBar(message, from, to, wide));
-    const urgency = message.cause || message.category === "normal" ? "" : ` · ${urgencyOf(message)}`;
-    const count = message.cause ? "" : ` · ${number(message.whole)}×`;
-    const label = node("button", {
-        className: "msg", "aria-label": sentenceOf(message), "aria-expanded": "false",
-        onclick: () => openDetails(line, label, message), onblur: hideTip,
+    const { id, cause, category, whole, text } = message;
+    const lane = node("div.lane", cause ? drawRefusal(message) : drawBar(message, from, to, wide));
+    const urgency = cause || category === "normal" ? "" : ` · ${urgencyOf(message)}`;
+    const label = node("button.msg", {
+        "aria-label": sentenceOf(message), "aria-expanded": "false", onblur: hideTip,
+        onclick: () => openDetails(line, label, message),
         onfocus: () => { if (label.matches(":focus-visible")) showTip(lane, message); },
-    }, node("span", {}, node("b", {}, node("bdi", {}, nameOf(message))),
-        node("small", {}, `${message.id}${urgency}${count}`)), node("bdi", { dir: "auto" }, message.text));
-    const line = node("li", {
-        className: message.cause ? "line refused" : "line", onmouseleave: hideTip,
-        onmouseenter: () => showTip(lane, message),
+    }, node("span", node("b", node("bdi", nameOf(message))),
+        node("small", `${id}${urgency}${cause ? "" : ` · ${number(whole)}×`}`)), node("bdi", { dir: "auto" }, text));
+    const line = node(cause ? "li.line.refused" : "li.line", {
+        onmouseenter: () => showTip(lane, message), onmouseleave: hideTip,
     }, label, lane);
     return line;
 }
 
 function detailsOf(message) {
-    const row = (key, value) => [node("dt", {}, say(key)), node("dd", {}, value)];
-    const place = message.row ? ` · ${say("c_row")} ${message.row} · ${message.serial}` : "";
+    const { row, cause, serial, text } = message, place = row ? ` · ${say("c_row")} ${row} · ${serial}` : "";
     return [
-        node("p", {}, node("b", {}, node("bdi", {}, nameOf(message))), " ", node("span", {}, kindOf(message)),
-            node("small", {}, place)),
-        message.cause
-            ? node("p", { className: "badtext" },
-                `✕ ${whyRefused(message)} (${message.cause}), ${timeText(message.start)}`)
-            : node("dl", {}, row("d_from", timeText(message.start)), row("d_to", timeText(endOf(message))),
-                row("d_every", `${spanText(message.period)} (${message.period})`),
-                row("d_whole", number(message.whole)),
-                row("d_first", message.first < 0 ? say("never") : timeText(message.first))),
-        message.text ? node("p", { dir: "auto", className: "whole-text" }, message.text) : null];
+        node("p", node("b", node("bdi", nameOf(message))), " ", node("span", kindOf(message)), node("small", place)),
+        cause ? node("p.badtext", `✕ ${refusalOf(message)}`)
+            : node("dl", factsOf(message).map(([key, value]) => [node("dt", say(key)), node("dd", value)])),
+        text ? node("p.whole-text", { dir: "auto" }, text) : null];
 }
 function openDetails(line, label, message) {
-    const open = line.querySelector(".more");
-    hideTip();
-    label.setAttribute("aria-expanded", String(!open));
-    if (open) {
-        open.remove();
-        return;
-    }
-    const go = () => {
+    const open = line.querySelector(".more"), go = () => {
         showPane("book");
         selectRow(message.row, "text");
     };
-    const button = message.row ? node("button", { className: "small", onclick: go }, say("showRow")) : null;
-    line.append(node("div", { className: "more" }, detailsOf(message), button));
+    hideTip();
+    label.setAttribute("aria-expanded", String(!open));
+    if (open) open.remove();
+    else line.append(node("div.more", detailsOf(message), message.row ? button(say("showRow"), go) : null));
 }
 function showTip(lane, message) {
     if (lane.parentNode.querySelector(".more")) return;
@@ -214,11 +183,10 @@ function hideTip() {
 // The moment: what a phone in the cell has shown by then, newest on top, and what is on the channel.
 const HIGHEST = [4370, 4383];
 let speakTimer = 0, spoken = "";
-function phoneItem(message) {
-    const isOver = message.end <= state.at, className = isOver ? "over" : HIGHEST.includes(message.id) ? "highest" : "";
-    return node("li", { className },
-        node("header", {}, node("b", {}, nameOfId(message.id)), node("time", {}, timeText(message.first))),
-        node("p", { dir: "auto" }, message.text), isOver ? node("small", {}, say("over")) : null);
+function phoneItem({ id, end, first, text }) {
+    const isOver = end <= state.at, className = isOver ? "over" : HIGHEST.includes(id) ? "highest" : "";
+    return node("li", { className }, node("header", node("b", nameOfId(id)), node("time", timeText(first))),
+        node("p", { dir: "auto" }, text), isOver ? node("small", say("over")) : null);
 }
 function showTime() {
     const group = chosenGroup(), slot = state.at;
@@ -228,9 +196,8 @@ function showTime() {
     $("a-over").style.setProperty("--where", `${(100 * slot) / state.slots}%`);
     $("a-now").textContent = $("a-clock").textContent = timeText(slot);
     $("a-slot").textContent = say("slotOf", number(slot), number(state.slots));
-    const load = `${say("load")} ${percent(loadAt(group, slot))} %`;
-    $("a-time").setAttribute("aria-valuetext", `${timeText(slot)}, ${load}`);
-    fill($("a-shown"), seen.length ? seen.map(phoneItem) : node("li", { className: "none" }, say("nothingYet")));
+    $("a-time").setAttribute("aria-valuetext", `${timeText(slot)}, ${say("load")} ${percent(loadAt(group, slot))} %`);
+    fill($("a-shown"), seen.length ? seen.map(phoneItem) : node("li.none", say("nothingYet")));
     clearTimeout(speakTimer);
     speakTimer = setTimeout(() => {
         const text = seen.length ? say("shownNow", `${nameOf(seen[0])}, ${seen[0].text}`) : say("nothingYet");
@@ -241,11 +208,11 @@ function showTime() {
 // Gives a message that is sent so often that the chart has no marks of it those that its cell's tape has: after each
 // slot that sends a last page.
 function markByTape(message, { air, page }) {
-    const key = message.id * 0x10000 + parseInt(message.serial, 16), marks = [];
+    const key = message.id * 0x10000 + parseInt(message.serial, 16);
+    message.slots = [];
     for (let slot = message.start; slot < Math.min(message.end, air.length); slot++) {
-        if (air[slot] === key && page[slot] >> 4 === (page[slot] & 15)) marks.push(slot + 1);
+        if (air[slot] === key && page[slot] >> 4 === (page[slot] & 15)) message.slots.push(slot + 1);
     }
-    message.slots = marks;
 }
 async function showChannel(group) { // asked once for each cell
     const cell = group.cells.find((it) => it.key === state.cell);
@@ -254,7 +221,7 @@ async function showChannel(group) { // asked once for each cell
         state.air = { asked: state.cell };
         const result = await bookDesk.ask("channel", { text: state.done, slots: state.slots, cell: cell.index });
         if (cell.key !== state.cell) return;
-        if (result.fault || result.isCancelled) {
+        if (!result.air) {
             $("a-onair").textContent = result.fault || "";
             return;
         }
@@ -263,21 +230,17 @@ async function showChannel(group) { // asked once for each cell
         unmarked.forEach((it) => markByTape(it, result));
         if (unmarked.length) drawChart();
     }
-    const slot = Math.min(state.at, state.slots - 1), key = state.air.air?.[slot], page = state.air.page?.[slot];
+    const slot = Math.min(state.at, state.slots - 1), key = state.air.air[slot], page = state.air.page[slot];
     const isOf = (it) => !it.cause && it.id === key >>> 16 && parseInt(it.serial, 16) === (key & 0xffff);
     const message = key ? chosenGroup().messages.find(isOf) : null;
-    $("a-onair").textContent = key === undefined ? "" : key === 0 ? say("idle")
-        : say("onAir", page >> 4, page & 15, message ? nameOf(message) : key);
+    $("a-onair").textContent = key ? say("onAir", page >> 4, page & 15, message ? nameOf(message) : key) : say("idle");
 }
 function setTime(slot) {
     const [from, to] = shownSlots();
     state.at = Math.max(0, Math.min(state.slots, Math.round(slot)));
-    if (state.at < from || state.at > to) {
-        zoomTo(state.at - (to - from) / 2, state.at + (to - from) / 2);
-    } else {
-        $("a-time").value = state.at;
-        showTime();
-    }
+    $("a-time").value = state.at;
+    if (state.at < from || state.at > to) zoomTo(state.at - (to - from) / 2, state.at + (to - from) / 2);
+    else showTime();
 }
 function zoomTo(from, to) {
     const width = Math.max(LEAST_WINDOW, Math.min(state.slots, Math.round(to - from)));
@@ -296,8 +259,9 @@ function pan(direction) {
     zoomTo(from + step, to + step);
 }
 function zoomBy(factor) { // about the moment
-    const [from, to] = shownSlots(), width = (to - from) * factor, first = state.at - width / 2;
-    zoomTo(factor < 1 ? Math.max(from, first) : first, (factor < 1 ? Math.max(from, first) : first) + width);
+    const [from, to] = shownSlots(), width = (to - from) * factor, middle = state.at - width / 2;
+    const first = factor < 1 ? Math.max(from, middle) : middle;
+    zoomTo(first, first + width);
 }
 $("a-time").oninput = () => {
     state.at = +$("a-time").value;
@@ -316,10 +280,7 @@ $("z-in").onclick = () => zoomBy(1 / 3);
 $("z-out").onclick = () => zoomBy(3);
 $("z-back").onclick = () => pan(-1);
 $("z-fwd").onclick = () => pan(1);
-$("z-all").onclick = () => {
-    state.zoom = null;
-    drawChart();
-};
+$("z-all").onclick = () => zoomTo(0, state.slots);
 let resized = 0;
 addEventListener("resize", () => {
     clearTimeout(resized);
@@ -333,47 +294,39 @@ addEventListener("resize", () => {
 // The report, and what can be taken along.
 const MOST_REPORTED = 400;
 function reportRow(message) {
-    const { cause, first } = message, accepted = (text) => (cause ? "" : text);
-    const shown = cause ? node("span", { className: "badtext" }, `✕ ${say(cause)}`)
-        : first >= 0 ? node("span", { className: "oktext" }, `✓ ${say("yes")}`)
-            : node("span", { className: "warntext" }, `! ${say("no")}`);
-    const fields = [message.row ?? "", node("bdi", {}, message.name ?? ""), message.id, message.serial,
-        timeText(message.start), accepted(timeText(endOf(message))),
-        accepted(spanText(message.period)), accepted(number(message.whole)),
-        first < 0 ? "" : timeText(first), shown, node("bdi", { dir: "auto" }, message.text)];
-    return node("tr", { className: cause ? "refused" : "" }, fields.map((field) => node("td", {}, field)));
+    const { row, name, id, serial, start, end, period, whole, first, cause, text } = message;
+    const shown = cause ? node("span.badtext", `✕ ${say(cause)}`)
+        : first >= 0 ? node("span.oktext", `✓ ${say("yes")}`) : node("span.warntext", `! ${say("no")}`);
+    const times = cause ? ["", "", ""] : [timeText(Math.max(start, end)), spanText(period), number(whole)];
+    const fields = [row ?? "", node("bdi", name ?? ""), id, serial, timeText(start), ...times,
+        first < 0 ? "" : timeText(first), shown, node("bdi", { dir: "auto" }, text)];
+    return node(cause ? "tr.refused" : "tr", fields.map((field) => node("td", field)));
 }
 function showReport() {
     const group = chosenGroup();
     $("a-of").textContent = say("ofCell", nameOfGroup(group));
     fill($("a-report").tBodies[0], group.messages.slice(0, MOST_REPORTED).map(reportRow));
 }
-const FILES = {
-    compile: ["tapes.bin", "application/octet-stream"], pcap: ["air.pcap", "application/vnd.tcpdump.pcap"],
-    report: ["report.csv", "text/csv"], chart: ["chart.html", "text/html"],
-};
-for (const button of document.querySelectorAll("[data-file]")) button.onclick = async () => {
-    const kind = button.dataset.file, [name, type] = FILES[kind], options = ["--slots", state.slots, "--workers", 1];
-    const commands = kind === "pcap" ? [["compile", ...options], ["pcap", "--used"]] : [[kind, ...options]];
-    button.disabled = true;
+for (const it of document.querySelectorAll("[data-command]")) it.onclick = async () => {
+    const { command, file } = it.dataset, options = ["--slots", state.slots, "--workers", 1];
+    const commands = command === "pcap" ? [["compile", ...options], ["pcap", "--used"]] : [[command, ...options]];
+    it.disabled = true;
     const result = await bookDesk.ask("run", { text: state.text, commands });
-    button.disabled = false;
+    it.disabled = false;
     if (result.isCancelled) return;
     if (result.fault || result.status) tell(result.fault || result.says);
-    else download(name, result.out, type);
+    else download(file, result.out);
 };
 $("a-print").onclick = () => print();
 const MOST_PRINTED = 24;
 function printedGroup(group) {
-    const [from, to] = shownSlots(), lines = group.messages.slice(0, MOST_LINES);
-    const axis = $("a-axis").cloneNode(true);
+    const [from, to] = shownSlots(), lines = group.messages.slice(0, MOST_LINES), axis = $("a-axis").cloneNode(true);
     axis.removeAttribute("id");
-    return node("div", { className: "card" }, node("h2", {}, say("chartOf", nameOfGroup(group))),
-        node("ol", { className: "lines" }, lines.map((it) => drawLine(it, from, to, 700))),
-        node("div", { className: "line" },
-            node("p", {}, say("load"), node("br"), node("small", {}, fullestText(group))),
-            node("div", { className: "lane tall" }, drawLoad(group, [from, to], true))),
-        node("div", { className: "line" }, node("p"), axis));
+    return node("div.card", node("h2", say("chartOf", nameOfGroup(group))),
+        node("ol.lines", lines.map((it) => drawLine(it, from, to, 700))),
+        node("div.line", node("p", say("load"), node("br"), node("small", fullestText(group))),
+            node("div.lane.tall", drawLoad(group, [from, to], true))),
+        node("div.line", node("p"), axis));
 }
 addEventListener("beforeprint", () => { // on paper all groups of cells stand one below the other
     hideTip();

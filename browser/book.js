@@ -1,14 +1,13 @@
 // The pane "Book": the table is a window on the rows of the text; each edit replaces one row of it and nothing else.
-const GRID = ["row", "at", "verb", "name", "id", "scope", "code", "lang", "category", "period", "broadcasts", "cells",
-    "text", "result"];
+const GRID = "row at verb name id scope code lang category period broadcasts cells text result".split(" ");
 const sheet = { k: 0, column: 1, from: 0, to: 0, height: 0, isEditing: false, isTouched: false };
 
-function editFields(number, changes, why) {
+function editFields(number, changes, why) { // those that the row has
     const row = state.book.rows[number - 1], fields = row.fields.slice();
     for (const [name, value] of Object.entries(changes)) {
         const at = COLUMNS[fields[0]].indexOf(name) + 1;
         while (fields.length < at) fields.push("");
-        fields[at] = value;
+        if (at > 0) fields[at] = value;
     }
     if (rowText(fields) === rowText(row.fields)) return;
     setBook(state.text.slice(0, row.from) + rowText(fields) + state.text.slice(row.to), why);
@@ -24,24 +23,20 @@ function deleteRow(number) {
     setBook(state.text.slice(0, row.from) + state.text.slice(row.to).replace(/^(\r\n|\n|\r)/, ""));
 }
 
-function setupBook() {
-    fill($("b-grid").tHead.rows[0], GRID.map((name) => (
-        node("th", { scope: "col", className: `c-${name}` }, say(`c_${name}`)))));
-    showBook();
-}
-function showCells() {
-    const faulty = new Set(state.faults.map((fault) => +fault.row)), { cells } = state.book;
-    const silent = new Set(state.fault ? [] : allRemarks().map((it) => it.cell)); // each remark of a cell says so
-    const chip = ({ row, key }) => node("li", {
-        className: faulty.has(row) ? "bad" : silent.has(key) ? "odd" : "",
-        title: `${say("c_row")} ${row}${silent.has(key) ? `: ${saying("gets nothing")}` : ""}`,
-    }, silent.has(key) ? "!\u00a0" : null, node("bdi", {}, key),
-    node("button", { "aria-label": say("removeCell", key), onclick: () => deleteRow(row) }, "×"));
+function showCells() { // each remark of a cell says that it gets nothing
+    const { cells } = state.book, faulty = new Set(state.faults.map((fault) => +fault.row));
+    const silent = new Set(state.fault ? [] : allRemarks().map((it) => it.cell));
+    const chip = ({ row, key }) => {
+        const isSilent = silent.has(key), said = isSilent ? `: ${saying("gets nothing")}` : "";
+        const className = faulty.has(row) ? "bad" : isSilent ? "odd" : "";
+        return node("li", { className, title: `${say("c_row")} ${row}${said}` },
+            isSilent ? "!\u00a0" : null, node("bdi", key),
+            node("button", { "aria-label": say("removeCell", key), onclick: () => deleteRow(row) }, "×"));
+    };
     fill($("b-cells"), cells.map(chip));
     rove($("b-cells"), "button");
     const count = cells.filter(({ key }) => silent.has(key)).length;
-    fill($("b-ncells"), number(cells.length), count ? node("b", { className: "warntext" },
-        ` · ! ${say(count === 1 ? "silent1" : "silent", number(count))}`) : null);
+    fill($("b-ncells"), number(cells.length), count ? node("b.warntext", ` · ! ${sayCount("silent", count)}`) : null);
 }
 function showBook() {
     $("b-undo").disabled = !state.past.length;
@@ -56,7 +51,7 @@ function showBook() {
     $("b-norders").textContent = number(orders.length);
     $("b-empty").hidden = cells.length + orders.length > 0;
     $("b-sheet").hidden = !orders.length;
-    sheet.k = Math.min(sheet.k, Math.max(0, orders.length - 1));
+    sheet.k = within(sheet.k, 0, orders.length - 1);
     $("b-grid").setAttribute("aria-rowcount", orders.length + 1);
     if (!sheet.isEditing) drawRows(true);
     for (const id of ["b-text", "b-copy", "b-delete"]) $(id).disabled = !orders.length;
@@ -83,113 +78,99 @@ function drawRows(isForced) {
     const to = Math.min(orders.length, last), hasFocus = body.contains(document.activeElement);
     if (!isForced && from === sheet.from && to === sheet.to) return;
     Object.assign(sheet, { from, to });
-    sheet.saidOf = saidByRow();
-    const space = (count) => (
-        node("tr", { className: "space", "aria-hidden": "true", css: { height: `${count * height}px` } }));
+    if (isForced) sheet.saidOf = saidByRow();
+    const space = (count) => node("tr.space", { "aria-hidden": "true", css: { height: `${count * height}px` } });
     fill(body, space(Math.min(from, orders.length)),
-        orders.slice(from, to).map((order, k) => drawRow(order, from + k, sheet.saidOf(order.row))),
-        space(orders.length - to));
+        orders.slice(from, to).map((order, k) => drawRow(order, from + k)), space(orders.length - to));
     showSaid();
     const one = body.rows[1], isOther = one && !one.classList.contains("space") && one.offsetHeight !== sheet.height;
     if (isOther && one.offsetHeight) {
         sheet.height = one.offsetHeight;
         if (orders.length > 30) requestAnimationFrame(() => drawRows(true));
     }
-    if (hasFocus) focusCell();
+    if (hasFocus) chosenCell()?.focus({ preventScroll: true });
 }
 
 // Returns what a field of an order shows: the person's unit above, and the program's below.
-const pair = (above, below) => [node("span", {}, above), node("small", {}, below)];
+const pair = (above, below) => [node("span", above), node("small", below)];
 const showField = {
-    row: (order) => order.row,
-    at: (order) => (isNumber(order.at, "at") ? pair(timeText(+order.at), order.at) : order.at),
-    verb: (order) => (COLUMNS[order.verb] ? say(order.verb) : order.verb),
-    name: (order) => node("bdi", {}, order.name),
-    id: (order) => (order.verb === "write" ? pair(order.id, nameOfId(+order.id)) : node("small", {}, order.id || "")),
-    scope: (order) => order.scope,
-    code: (order) => order.code,
-    lang: (order) => order.lang,
-    category: (order) => (WORDS[`category${order.category}`] ? say(`category${order.category}`) : order.category),
-    period: (order) => (isNumber(order.period, "period") ? pair(spanText(+order.period), order.period) : order.period),
-    broadcasts: (order) => (/^0+$/.test(order.broadcasts) ? node("small", {}, say("untilStop")) : order.broadcasts),
-    cells(order) {
-        const count = order.where.length;
-        if (order.cells === "*") return pair(say("allCells", count), "*");
-        return count > 1 ? pair(say("nCells", count), order.cells) : order.cells;
+    at: ({ at }) => (isNumber(at, "at") ? pair(timeText(+at), at) : at),
+    verb: ({ verb }) => (COLUMNS[verb] ? say(verb) : verb),
+    name: ({ name }) => node("bdi", name),
+    id: ({ verb, id }) => (verb === "write" ? pair(id, nameOfId(+id)) : node("small", id || "")),
+    category: ({ category }) => (WORDS[`category${category}`] ? say(`category${category}`) : category),
+    period: ({ period }) => (isNumber(period, "period") ? pair(spanText(+period), period) : period),
+    broadcasts: ({ broadcasts }) => (/^0+$/.test(broadcasts) ? node("small", say("untilStop")) : broadcasts),
+    cells({ cells, where: { length } }) {
+        if (cells === "*") return pair(say("allCells", length), "*");
+        return length > 1 ? pair(say("nCells", length), cells) : cells;
     },
-    text: (order, { cost }) => [node("bdi", { dir: "auto" }, order.text), cost ? costNote(cost) : null],
+    text({ text }, { cost }) {
+        const ucs2 = cost?.first_ucs2 ? [" · UCS-2: ", node("bdi", cost.first_ucs2)] : null;
+        return [node("bdi", { dir: "auto" }, text), cost ? node("small", sayCount("costs", +cost.pages), ucs2) : null];
+    },
+    result: (order, { notes }) => showNotes(notes),
 };
-function costNote(cost) {
-    const pages = cost.pages === "1" ? say("cost1") : say("costs", cost.pages);
-    if (cost.first_ucs2 === "") return node("small", {}, pages);
-    return node("small", {}, `${pages} · `, say("costsFor", ""), node("bdi", {}, cost.first_ucs2));
-}
 
-// Returns a function that has what is said of a row: its fault, what its text costs, what became of it, and what is
-// remarked of it.
+// Returns a function that has what is said of an order: its fault, what its text costs, and what is noted of it.
 function saidByRow() {
     const byRow = (list) => Map.groupBy(list, (it) => +it.row), ofGood = (list) => byRow(state.fault ? [] : list);
     const faults = byRow(state.faults), costs = ofGood(state.costs), fates = ofGood(state.fates);
     const remarks = ofGood(allRemarks());
-    return (row) => {
-        const [fault, cost, fate] = [faults, costs, fates].map((it) => it.get(row)?.[0]);
-        return { fault, cost, fate, remarks: remarks.get(row) || [] };
+    return (order) => {
+        const [fault, cost, fate] = [faults, costs, fates].map((it) => it.get(order.row)?.[0]);
+        return { fault, cost, notes: fate ? notesOf(order, fate, remarks.get(order.row) || []) : [] };
     };
 }
 
-// Returns what is noted at an order: in how many cells it is done, and what is remarked of it; of a refusal also where.
+// Returns what is noted of an order: in how many cells it is done, and what is remarked of it; of a refusal also where.
 const PAST_THE_END = "cell broadcast not operational";
-function notesOf(order, { fate, remarks }) {
-    if (!fate) return [];
-    const isStop = order.verb === "stop", said = remarks.map((it) => it.says).join("\n");
-    const omitted = said.includes("orders nothing") ? order.where : /leaves out (.+)/.exec(said)?.[1].split(" ") || [];
-    const others = Object.values(fate.refused).flat().length + omitted.length;
-    const done = isStop ? order.where.length - others : fate.shown;
-    const rank = ({ says }) => SAYS.findIndex(([form]) => form.test(says));
-    const notes = remarks.toSorted((one, other) => rank(one) - rank(other)).map((it) => {
-        const cells = fate.refused[it.says === "past the end" ? PAST_THE_END : it.says.split(": ")[1]];
-        const text = saying(it.says) + (cells ? ` (${cells.join(" ")})` : "");
-        return isRefusal(it) ? ["badtext", `✕ ${text}`] : ["warntext", `! ${text}`];
+function notesOf({ verb, where }, { shown, refused }, remarks) {
+    const said = remarks.map((it) => it.says), isStop = verb === "stop";
+    const omitted = /leaves out (.+)/.exec(said.join("\n"))?.[1].split(" ") || [];
+    const stopped = said.includes("orders nothing") ? 0
+        : where.length - omitted.length - Object.values(refused).flat().length;
+    const done = isStop ? stopped : shown, rank = (says) => SAYS.findIndex(([form]) => form.test(says));
+    const notes = said.sort((one, other) => rank(one) - rank(other)).map((says) => {
+        const cells = refused[says === "past the end" ? PAST_THE_END : says.split(": ")[1]];
+        const text = saying(says) + (cells ? ` (${cells.join(" ")})` : "");
+        return isRefusal({ says }) ? ["badtext", `✕ ${text}`] : ["warntext", `! ${text}`];
     });
-    if (done > 0) notes.unshift(["oktext", `✓ ${say(isStop ? "doneIn" : "shownIn", done)}`]);
-    return notes;
+    return done > 0 ? [["oktext", `✓ ${say(isStop ? "doneIn" : "shownIn", done)}`], ...notes] : notes;
 }
-// In a row the first note, and after it the others, are as short as they can be; all stands below the table.
+// In a row the first note, and after it the others, are as short as they can be; all of them stand below the table.
 function showNotes(notes) {
-    const span = ([className, text]) => node("span", { className }, text.split(": ")[0]);
-    const [first, ...others] = notes.map(span);
-    return first ? [node("div", {}, first), node("div", {}, others.flatMap((it, k) => (k ? [" ", it] : [it])))] : "–";
+    const [first, ...others] = notes.map(([color, text]) => node(`span.${color}`, text.split(": ")[0]));
+    return first ? [node("div", first), node("div", others.map((it) => [it, " "]))] : "–";
 }
 function showSaid() {
-    const order = chosenOrder(), notes = order ? notesOf(order, sheet.saidOf(order.row)) : [];
-    const isWarned = notes.some(([className]) => className !== "oktext");
-    fill($("b-said"), isWarned ? [`${say("c_row")} ${order.row}`, notes.map(([className, text]) => (
-        [" · ", node("span", { className }, text)]))] : null);
+    const order = chosenOrder(), notes = order ? sheet.saidOf(order).notes : [];
+    const isWarned = notes.some(([color]) => color !== "oktext");
+    const all = notes.map(([color, text]) => [" · ", node(`span.${color}`, text)]);
+    fill($("b-said"), isWarned ? [`${say("c_row")} ${order.row}`, all] : null);
 }
-function drawRow(order, k, said) {
-    const has = COLUMNS[order.verb] || ["text"], own = new Set([...has, "row", "verb", "result"]), { fault } = said;
-    const faulty = fault && (fault.field === "VERB" ? "verb" : fault.field.toLowerCase()), notes = notesOf(order, said);
-    const titles = { text: order.text, cells: order.cells, result: notes.map(([, text]) => text).join("\n") };
-    if (order.id && order.verb === "update") own.add("id");
+function drawRow(order, k) {
+    const { verb, row, id, text, cells } = order, said = sheet.saidOf(order), { fault, notes } = said;
+    const own = new Set([...COLUMNS[verb] || ["text"], "row", "verb", "result"]);
+    const faulty = fault?.field.toLowerCase();
+    const titles = { text, cells, result: notes.map(([, note]) => note).join("\n") };
+    if (id && verb === "update") own.add("id");
     const cell = (name, column) => node("td", {
         role: name === "row" ? "rowheader" : "gridcell", tabIndex: k === sheet.k && column === sheet.column ? 0 : -1,
         className: `c-${name}${own.has(name) ? "" : " none"}${name === faulty ? " badcell" : ""}`,
         "aria-invalid": name === faulty ? "true" : undefined, "data-k": k, "data-column": column,
         "data-h": say(`c_${name}`), title: titles[name],
-    }, own.has(name) ? (name === "result" ? showNotes(notes) : showField[name](order, said)) : null);
-    const className = `v-${order.verb}${fault ? " bad" : ""}${k === sheet.k ? " chosen" : ""}`;
+    }, own.has(name) ? showField[name]?.(order, said) ?? order[name] : null);
+    const className = `v-${verb}${fault ? " bad" : ""}${k === sheet.k ? " chosen" : ""}`;
     return node("tr", { role: "row", "aria-rowindex": k + 2, className }, GRID.map(cell));
 }
 
+const chosenOrder = () => state.book.orders[sheet.k];
 const chosenCell = () => $("b-grid").querySelector(`td[data-k="${sheet.k}"][data-column="${sheet.column}"]`);
-function focusCell() {
-    const cell = chosenCell();
-    if (cell) cell.focus({ preventScroll: true });
-}
 function moveTo(k, column) {
-    const box = $("b-sheet"), count = state.book.orders.length, head = $("b-grid").tHead.offsetHeight;
-    sheet.k = Math.max(0, Math.min(count - 1, k));
-    sheet.column = Math.max(0, Math.min(GRID.length - 1, column));
+    const box = $("b-sheet"), head = $("b-grid").tHead.offsetHeight;
+    sheet.k = within(k, 0, state.book.orders.length - 1);
+    sheet.column = within(column, 0, GRID.length - 1);
     const top = sheet.k * sheet.height, end = top + sheet.height + head;
     if (top < box.scrollTop) box.scrollTop = top;
     else if (end > box.scrollTop + box.clientHeight) box.scrollTop = end - box.clientHeight + 4;
@@ -216,46 +197,41 @@ function selectCsv(number) { // marks the row in the CSV too, and brings it into
     const row = state.book.rows[number - 1], box = $("b-csv");
     if (!row) return;
     box.setSelectionRange(row.from, row.to);
-    box.scrollTop = Math.max(0, (row.line - 3) * parseFloat(getComputedStyle(box).lineHeight));
+    const line = state.text.slice(0, row.from).split(/\r\n|\r|\n/).length;
+    box.scrollTop = Math.max(0, (line - 3) * parseFloat(getComputedStyle(box).lineHeight));
 }
 
 // Edits the chosen field; what is typed replaces it, if something is.
 const CHOICES = {
     lang: () => LANGUAGES.map((word) => [word, word]),
     category: () => [0, 1, 2].map((k) => [k, say(`category${k}`)]),
-    scope: () => [0, 1, 2, 3].map((k) => [k, `${k} · ${say(`scope${k}`)}`]),
+    scope: () => [0, 1, 2, 3].map((k) => [k, say(`scope${k}`)]),
 };
-const isTime = (name) => name === "at" || name === "period";
-function fieldBox(order, name) {
-    const label = `${say(`c_${name}`)}, ${say("c_row")} ${order.row}`;
-    if (CHOICES[name]) {
-        const options = CHOICES[name]().map(([value, text]) => node("option", { value }, text));
-        return node("select", { "aria-label": label }, options);
-    }
-    const isText = name === "text";
-    return node(isText ? "textarea" : "input", {
-        "aria-label": label, className: isText ? "big" : "", dir: "auto", autocomplete: "off", rows: 6,
-        title: isTime(name) ? say("h_time") : undefined,
-    });
+function fieldBox(order, name, isTime) {
+    const label = { "aria-label": `${say(`c_${name}`)}, ${say("c_row")} ${order.row}` };
+    const choices = CHOICES[name]?.().map(([value, text]) => node("option", { value }, text));
+    if (choices) return node("select", label, choices);
+    const given = { ...label, dir: "auto", autocomplete: "off", title: isTime ? say("h_time") : undefined };
+    return name === "text" ? node("textarea.big", given) : node("input", given);
 }
 function placeBox(box, cell) { // over the table, within the window
     const { right, top } = cell.getBoundingClientRect(), width = Math.min(560, innerWidth - 16);
     box.style.width = `${width}px`;
     box.style.left = `${Math.max(8, Math.min(right, innerWidth - 8) - width)}px`;
-    box.style.top = `${Math.max(8, Math.min(top, innerHeight - 190))}px`;
+    box.style.top = `${within(top, 8, innerHeight - 190)}px`;
 }
 function edit(typed) {
-    const order = state.book.orders[sheet.k], name = GRID[sheet.column], cell = chosenCell();
+    const order = chosenOrder(), name = GRID[sheet.column], cell = chosenCell(), isTime = /^(at|period)$/.test(name);
     if (!order || !cell || !(COLUMNS[order.verb] || []).includes(name)) return;
     sheet.isEditing = true;
-    const box = fieldBox(order, name), old = order[name];
+    const box = fieldBox(order, name, isTime), old = order[name];
     const done = (isTaken, down = 0, right = 0) => {
         if (!sheet.isEditing) return;
         sheet.isEditing = false;
-        const slots = isTime(name) && isTaken && box.value !== old ? slotsOf(box.value, name === "at") : null;
-        if (isTime(name) && isTaken && box.value !== old && slots === null) tell(say("badTime", box.value));
+        const isNew = isTaken && box.value !== old, slots = isNew && isTime ? slotsOf(box.value, name === "at") : null;
         const value = slots === null ? box.value : String(slots);
-        if (isTaken && value !== old) editFields(order.row, { [name]: value });
+        if (isNew && isTime && slots === null) tell(say("badTime", value));
+        if (isNew && value !== old) editFields(order.row, { [name]: value });
         else drawRows(true);
         moveTo(sheet.k + down, sheet.column + right);
     };
@@ -278,10 +254,9 @@ function edit(typed) {
 $("b-grid").tBodies[0].onclick = (event) => {
     const cell = event.target.closest("td[data-k]");
     if (!cell || sheet.isEditing) return;
-    const k = +cell.dataset.k, column = +cell.dataset.column;
-    const isSame = k === sheet.k && column === sheet.column && sheet.isTouched;
+    const isSame = cell === chosenCell() && sheet.isTouched;
     sheet.isTouched = true;
-    moveTo(k, column);
+    moveTo(+cell.dataset.k, +cell.dataset.column);
     if (isSame || event.detail > 1) edit();
 };
 $("b-grid").onkeydown = (event) => {
@@ -312,24 +287,24 @@ $("b-sheet").onscroll = () => {
     });
 };
 
-// New rows. A new alert has a name and a code that no other has.
-const chosenOrder = () => state.book.orders[sheet.k];
+// New rows. A new alert has a name that no other has, and a code that none with its identifier and scope has.
+function freshName(base, k = 2) {
+    while (state.book.names.has(`${base}-${k}`)) k++;
+    return `${base}-${k}`;
+}
+function freshCode(id, scope, code) {
+    const isTaken = (it) => it.verb === "write" && +it.id === +id && +it.scope === +scope && +it.code === code;
+    for (let tries = 0; tries < 1024 && state.book.orders.some(isTaken); tries++) code = (code + 1) % 1024;
+    return String(code);
+}
 function newFields(verb) {
     const first = state.book.names.get(chosenOrder()?.name)?.write, at = String(state.book.latest);
-    if (verb === "write") {
-        let name = 1, code = 1;
-        while (state.book.names.has(`alert-${name}`)) name++;
-        while (state.book.orders.some((it) => it.verb === "write" && +it.code === code)) code++;
-        const lang = language ? "de" : "en";
-        return ["write", at, `alert-${name}`, "4371", "0", String(code), lang, "2", "32", "0", "*", "…"];
-    }
-    if (!first) return null;
-    const { name, lang, category, period, broadcasts, cells, text } = first;
-    if (verb === "stop") return ["stop", at, name, cells];
-    return ["update", at, name, lang, category, period, broadcasts, cells, text];
+    const code = freshCode(4371, 0, 1), lang = language ? "de" : "en";
+    if (verb === "write") return [verb, at, freshName("alert", 1), "4371", "0", code, lang, "2", "32", "0", "*", "…"];
+    return first ? [verb, at, ...COLUMNS[verb].slice(1).map((name) => first[name])] : null;
 }
-for (const button of document.querySelectorAll("[data-add]")) button.onclick = () => {
-    const fields = newFields(button.dataset.add);
+for (const it of document.querySelectorAll("[data-add]")) it.onclick = () => {
+    const fields = newFields(it.dataset.add);
     if (!fields) return;
     addRows([fields], state.book.rows.length);
     moveTo(state.book.orders.length - 1, 1);
@@ -339,10 +314,8 @@ $("b-copy").onclick = () => {
     if (!order) return;
     const fields = state.book.rows[order.row - 1].fields.slice();
     if (order.verb === "write") {
-        let k = 2;
-        while (state.book.names.has(`${order.name}-${k}`)) k++;
-        fields[2] = `${order.name}-${k}`;
-        fields[5] = String((+order.code + 1) % 1024);
+        fields[2] = freshName(order.name);
+        fields[5] = freshCode(order.id, order.scope, +order.code);
     }
     addRows([fields], order.row);
     moveTo(sheet.k + 1, 3);
@@ -378,30 +351,30 @@ $("b-addcell").onsubmit = (event) => {
 
 // What `check` says of each row that has a fault, in its words, and what may help.
 const MOST_FAULTS = 5;
-function hintOf(fault) {
-    const row = state.book.rows[fault.row - 1], want = (COLUMNS[row?.fields[0]] || []).length + 1;
-    if (row?.isOpen) return say("h_open");
-    if (fault.field === "AT" || fault.field === "PERIOD") return say("h_time");
-    if (fault.field !== "VERB" || !COLUMNS[row?.fields[0]] || row.fields.length <= want) return "";
-    return say(row.fields.slice(want).every((it) => it === "") ? "h_filled" : "h_comma");
+function hintOf({ row, field }) {
+    const { fields, isOpen } = state.book.rows[row - 1] || { fields: [] }, columns = COLUMNS[fields[0]];
+    const more = columns ? fields.slice(columns.length + 1) : [];
+    if (isOpen) return say("h_open");
+    if (field === "AT" || field === "PERIOD") return say("h_time");
+    if (field !== "VERB" || !more.length) return "";
+    return say(more.every((it) => it === "") ? "h_filled" : "h_comma");
 }
 function faultItem(fault) {
-    const go = () => {
-        selectRow(+fault.row, fault.field.toLowerCase());
-        selectCsv(+fault.row);
+    const { row, line, column, field, value, says } = fault, go = () => {
+        selectRow(+row, field.toLowerCase());
+        selectCsv(+row);
     };
-    return node("li", {}, node("p", {},
-        node("b", {}, `${say("faultAt", fault.row, fault.line, fault.column)} ${fault.field} · `),
-        fault.value === "" ? null : ["“", node("bdi", {}, fault.value), "”: "], `${saying(fault.says)}. `,
-        node("small", {}, hintOf(fault))), node("button", { className: "small", onclick: go }, say("goThere")));
+    return node("li", node("p", node("b", `${say("faultAt", row, line, column)} ${field} · `),
+        value === "" ? null : ["“", node("bdi", value), "”: "], `${saying(says)}. `, node("small", hintOf(fault))),
+    button(say("goThere"), go));
 }
 function showFaults() {
     const { fault, faults } = state, more = faults.length - MOST_FAULTS;
     $("b-faults").hidden = !fault;
     if (!fault) return;
     fill($("b-faults"), faults.slice(0, MOST_FAULTS).map(faultItem),
-        more > 0 ? node("li", {}, say("furtherFaults", number(more))) : null,
-        faults.length ? null : node("li", {}, say("faultWord", fault)));
+        more > 0 ? node("li", say("furtherFaults", number(more))) : null,
+        faults.length ? null : node("li", say("faultWord", fault)));
 }
 
 $("b-csv").oninput = () => setBook($("b-csv").value, "typing");
@@ -438,12 +411,12 @@ $("b-file").onchange = () => {
     if ($("b-file").files[0]) openFile($("b-file").files[0]);
     $("b-file").value = "";
 };
-function download(name, octets, type) {
-    const link = node("a", { href: URL.createObjectURL(new Blob([octets], { type })), download: name });
+function download(name, octets) {
+    const link = node("a", { href: URL.createObjectURL(new Blob([octets])), download: name });
     link.click();
     setTimeout(() => URL.revokeObjectURL(link.href), 9000);
 }
-$("b-save").onclick = () => download("book.csv", state.text, "text/csv");
+$("b-save").onclick = () => download("book.csv", state.text);
 
 // Returns the text of a file, and how it was taken: what a spreadsheet writes is no book as it stands.
 function textOf(octets) {

@@ -1,4 +1,5 @@
 // In a worker: runs the program as on a command line, with words and octets in, and a status and octets out.
+const WASM_PAGE = 65536;
 let program = null;
 const encode = (text) => new TextEncoder().encode(text);
 const decode = (octets) => new TextDecoder("utf-8", { ignoreBOM: true }).decode(octets);
@@ -39,19 +40,24 @@ function pageOf(memory, words, input, written) {
     };
 }
 
-// Runs the program once, in memory of its own, and returns its status, its output and its line of standard error.
+// Runs the program once, in memory of its own, and returns its status, its output and its line of standard error. It
+// begins with as much memory as the last run took, since some browsers copy all of it each time that it grows.
+let most = 0;
 function run(words, input = "") {
     const written = { 1: [], 2: [] }, all = ["warnc", ...words.map(String)].map(encode);
     const given = typeof input === "string" ? encode(input) : input;
     let made = null, status = 0;
     const page = pageOf(() => new Uint8Array(made.memory.buffer), all, given, written);
     made = new WebAssembly.Instance(program, { page }).exports;
+    const sizeOf = () => made.memory.buffer.byteLength / WASM_PAGE;
+    made.memory.grow(BigInt(Math.max(0, most - sizeOf())));
     try {
         status = made.main(0, 0n);
     } catch (end) {
         if (!(end instanceof Exit)) throw end;
         status = end.status;
     }
+    most = sizeOf();
     return { status, out: joined(written[1]), says: decode(joined(written[2])).trim().replace(/^warnc: /, "") };
 }
 

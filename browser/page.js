@@ -9,6 +9,8 @@ const say = (key, ...args) => filled(WORDS[key] ? WORDS[key][language] : key, ar
 const number = (value, digits = 0) => (
     value.toLocaleString(language ? "de" : "en", { minimumFractionDigits: digits, maximumFractionDigits: digits }));
 
+const sayCount = (key, count) => (count === 1 ? say(`${key}1`, count) : say(key, number(count)));
+
 // Returns what `check` says of a field, a row or a cell, in the language of the page.
 function saying(says) {
     for (const [form, german, english] of SAYS) {
@@ -20,26 +22,30 @@ function saying(says) {
 
 // All that is shown is made of nodes and text, never of markup, so no text of a book can become an element.
 const kept = (kids) => kids.flat(9).filter((kid) => kid !== null && kid !== undefined && kid !== false);
-function node(tag, given = {}, ...kids) {
+function node(name, ...kids) { // a tag with classes, what the element is given, if anything, and what is in it
+    const [tag, ...classes] = name.split("."), given = kids[0]?.constructor === Object ? kids.shift() : {};
     const isSvg = /^(svg|path|rect)$/.test(tag);
     const made = isSvg ? document.createElementNS("http://www.w3.org/2000/svg", tag) : document.createElement(tag);
-    for (const [name, value] of Object.entries(given)) {
+    if (classes.length) made.setAttribute("class", classes.join(" "));
+    for (const [key, value] of Object.entries(given)) {
         if (value === undefined || value === false || value === null) continue;
-        if (name.startsWith("on")) made.addEventListener(name.slice(2), value);
-        else if (name === "css") for (const [one, what] of Object.entries(value)) made.style.setProperty(one, what);
-        else if (name in made && !isSvg && name !== "role") made[name] = value;
-        else made.setAttribute(name, value === true ? "" : value);
+        if (key.startsWith("on")) made.addEventListener(key.slice(2), value);
+        else if (key === "css") for (const [one, what] of Object.entries(value)) made.style.setProperty(one, what);
+        else if (key in made && !isSvg && key !== "role") made[key] = value;
+        else made.setAttribute(key, value === true ? "" : value);
     }
     made.append(...kept(kids));
     return made;
 }
+const within = (value, least, most) => Math.max(least, Math.min(most, value));
 const fill = (element, ...kids) => element.replaceChildren(...kept(kids));
+const button = (text, onclick, className = "small") => node("button", { type: "button", className, onclick }, text);
 
 // Of a list of buttons one is in the tab order; arrows, Home and End move within it.
 function rove(list, selector) {
     const all = [...list.querySelectorAll(selector)];
     const choose = (k) => {
-        const one = all[Math.max(0, Math.min(all.length - 1, k))];
+        const one = all[within(k, 0, all.length - 1)];
         all.forEach((it) => { it.tabIndex = it === one ? 0 : -1; });
         return one;
     };
@@ -233,7 +239,7 @@ async function stop(isTold = true) {
     await started;
     if (!isTold) return;
     clearTimeout(timer);
-    tell(say("cancelled"), false, node("button", { className: "small", onclick: compute }, say("again")));
+    tell(say("cancelled"), false, button(say("again"), compute));
 }
 
 let tellTimer = 0;
@@ -252,19 +258,18 @@ function showBadge(id, text, isBad) {
     $(id).classList.toggle("bad", isBad);
 }
 function showState() {
-    const { fault, faults, book } = state, remarks = fault ? [] : allRemarks(), count = (key, many, ...more) => (
-        many === 1 ? say(`${key}1`, ...more) : say(key, number(many), ...more));
+    const { fault, faults, book } = state, remarks = fault ? [] : allRemarks();
     const places = (list) => new Set(list.map((it) => +it.row || it.cell)).size;
     const refused = places(remarks.filter(isRefusal)), odd = places(remarks.filter((it) => !isRefusal(it)));
     clearTimeout(tellTimer);
     if (fault) {
-        const words = faults.length ? count("faulty", faults.length) : say("faultyBook");
-        fill($("state"), node("b", { className: "badtext" }, `✕ ${words}`));
+        const words = faults.length ? sayCount("faulty", faults.length) : say("faultyBook");
+        fill($("state"), node("b.badtext", `✕ ${words}`));
     } else {
-        fill($("state"), node("span", { className: "oktext" }, "✓ "),
+        fill($("state"), node("span.oktext", "✓ "),
             say("good", number(book.rows.length), book.cells.length),
-            refused ? node("b", { className: "badtext" }, ` · ✕\u00a0${say("nRefused", number(refused))}`) : null,
-            odd ? node("b", { className: "warntext" }, ` · !\u00a0${count("nOdd", odd)}`) : null);
+            refused ? node("b.badtext", ` · ✕\u00a0${say("nRefused", number(refused))}`) : null,
+            odd ? node("b.warntext", ` · !\u00a0${sayCount("nOdd", odd)}`) : null);
     }
     showBadge("n-book", fault ? (faults.length ? number(faults.length) : "!") : odd ? number(odd) : "", !!fault);
     showBadge("n-air", refused ? number(refused) : "", true);
@@ -294,8 +299,6 @@ function setWords() {
         for (const it of document.querySelectorAll(`[data-${name}]`)) it[attribute] = say(it.dataset[name]);
     }
     setupText();
-    setupBook();
-    setupAir();
     showState();
     showPane(state.pane);
 }

@@ -1,11 +1,9 @@
 // The pane "Text". What a text costs, and what each letter costs, is asked of the program; a letter is asked once.
-const SEPTETS = 93, UNITS = 41, MOST_PAGES = 15, A_MINUTE = 32; // septets and units a page; slots of a draft's period
+const SEPTETS = 93, UNITS = 41, A_MINUTE = 32; // septets and units of a page, slots of a draft's period
 const letters = new Map();
 
 // What can be written for a sign without changing a word.
-const MENDS = {
-    '"': "“”„‟«»″", "'": "‹›‘’‚‛′´`", "-": "–—‐‑−•·", "...": "…", " ": "\t", "": "\r",
-};
+const MENDS = { '"': "“”„‟«»″", "'": "‹›‘’‚‛′´`", "-": "–—‐‑−•·", "...": "…", " ": "\t", "": "\r" };
 const MENDED = new Map(Object.entries(MENDS).flatMap(([to, signs]) => [...signs].map((sign) => [sign, to])));
 const NAMES = {
     "\u00a0": "NBSP", "\u202f": "NNBSP", "\u2009": "THIN", "\u200b": "ZWSP", "\u200c": "ZWNJ", "\u200d": "ZWJ",
@@ -30,14 +28,10 @@ const isBad = (piece) => [...piece].some((letter) => letters.get(letter)?.isBad)
 const codesOf = (piece) => [...piece].map((sign) => (
     `U+${sign.codePointAt(0).toString(16).toUpperCase().padStart(4, "0")}`)).join(" ");
 
-function learn(answers) {
-    for (const [letter, cost] of answers) {
-        const isOfGsm = cost.coding !== "UCS-2";
-        letters.set(letter, { isPlain: isOfGsm, isBad: cost.pages === "", cost: isOfGsm ? SEPTETS - cost.room : 1 });
-    }
-    return answers.length > 0;
+function learn([letter, { coding, pages, room }]) {
+    const isOfGsm = coding !== "UCS-2";
+    letters.set(letter, { isPlain: isOfGsm, isBad: pages === "", cost: isOfGsm ? SEPTETS - room : 1 });
 }
-const unknownOf = (text) => [...new Set(text)].filter((letter) => !letters.has(letter));
 
 const draft = {
     id: "4370", scope: "0", code: "1", lang: "en",
@@ -53,7 +47,6 @@ function setupText() {
     fill($("t-lang"), words.map(([value, text]) => node("option", { value }, text)));
     fill($("t-kind"), ORDER_OF_KINDS.map((id) => node("option", { value: id }, `${id} · ${IDENTIFIERS[id][language]}`)),
         node("option", { value: "" }, say("otherId")));
-    fill($("t-scope"), [0, 1, 2, 3].map((k) => node("option", { value: k }, `${k} · ${say(`scope${k}`)}`)));
 }
 const hasText = (order) => !!COLUMNS[order.verb]?.includes("text");
 const currentOrder = () => (state.row ? state.book.orders.find((it) => it.row === state.row && hasText(it)) : null);
@@ -79,8 +72,7 @@ function refreshText() {
     if ($("t-text").value !== shown.text) $("t-text").value = shown.text;
     $("t-add").hidden = !!state.row;
     $("t-show").hidden = !state.row;
-    markText();
-    askText();
+    judgeText();
 }
 
 // Takes what the fields have: into the row, or into the draft.
@@ -89,9 +81,11 @@ function takeText(isTyped) {
     for (const name of ["id", "scope", "code", "lang", "text"]) given[name] = $(`t-${name}`).value;
     // what a row has and a list lacks stays
     for (const name of ["scope", "lang"]) given[name] ||= (order || draft)[name];
-    if (!order) Object.assign(draft, given);
-    else if (order.verb === "write") editFields(order.row, given, isTyped ? "typing" : "edit");
-    else editFields(order.row, { lang: given.lang, text: given.text }, isTyped ? "typing" : "edit");
+    if (order) editFields(order.row, given, isTyped ? "typing" : "edit");
+    else Object.assign(draft, given);
+    judgeText();
+}
+function judgeText() {
     markText();
     askText();
 }
@@ -99,28 +93,29 @@ function takeText(isTyped) {
 // Returns the pieces of a text that GSM 7-bit lacks, each once, and the nodes that mark them: those that can be written
 // otherwise, those that no page carries, and letters of a language, of which a word is one mark.
 function foreignOf(text) {
+    if ([...new Set(text)].every(isPlain)) return { found: [], nodes: [text] };
     const found = new Map(), nodes = [];
     let plain = "", word = null;
-    for (const piece of [...new Set(text)].every(isPlain) ? [] : piecesOf(text)) {
-        if (isPlain(piece.text)) {
-            plain += piece.text;
+    for (const { text: piece, at } of piecesOf(text)) {
+        if (isPlain(piece)) {
+            plain += piece;
             word = null;
             continue;
         }
-        const made = { text: piece.text, at: piece.at, count: 0, to: insteadOf(piece.text), isBad: isBad(piece.text) };
-        const one = found.get(piece.text) || found.set(piece.text, made).get(piece.text);
-        one.count++;
+        const made = { text: piece, at, count: 0, to: insteadOf(piece), isBad: isBad(piece) };
+        const one = found.get(piece) || found.set(piece, made).get(piece);
         const className = one.isBad ? "bad" : one.to !== null ? "mend" : "";
+        one.count++;
         if (word && className === "") {
-            word.firstChild.data += piece.text;
+            word.firstChild.data += piece;
             continue;
         }
-        const mark = node("mark", { className }, piece.text);
+        const mark = node("mark", { className }, piece);
         nodes.push(plain, mark);
         plain = "";
         word = className === "" ? mark : null;
     }
-    return { found: [...found.values()], nodes: [...nodes, found.size ? plain : text] };
+    return { found: [...found.values()], nodes: [...nodes, plain] };
 }
 const withMends = (text, mends) => {
     const to = new Map(mends.map((it) => [it.text, it.to]));
@@ -130,7 +125,7 @@ const withMends = (text, mends) => {
 function glyph(one) {
     const shown = NAMES[one.text] || (/\p{C}|\p{Zs}/u.test(one.text) ? codesOf(one.text) : one.text);
     return node("span", { className: one.isBad ? "glyph bad" : "glyph", title: codesOf(one.text) },
-        node("bdi", {}, shown), one.to !== null ? node("small", {}, codesOf(one.text)) : null);
+        node("bdi", shown), one.to !== null ? node("small", codesOf(one.text)) : null);
 }
 function mendItem(one) {
     const what = one.to === "" ? say("removeIt") : say("replaceWith", one.to === " " ? say("space") : one.to);
@@ -138,11 +133,9 @@ function mendItem(one) {
         $("t-text").focus();
         $("t-text").setSelectionRange(one.at, one.at + one.text.length);
     };
-    return node("li", {}, glyph(one), one.count > 1 ? node("span", {}, `×${one.count}`) : null,
-        node("button", { type: "button", className: "small", onclick: () => {
-            replaceText(withMends($("t-text").value, [one]));
-        } }, what),
-        node("button", { type: "button", className: "small quiet", onclick: find }, say("findIt")));
+    const mend = () => replaceText(withMends($("t-text").value, [one]));
+    return node("li", glyph(one), one.count > 1 ? node("span", `×${one.count}`) : null,
+        button(what, mend), button(say("findIt"), find, "small quiet"));
 }
 
 // Marks the text, and lists below it what can be mended. Marks of direction are offered singly only, as a text from
@@ -153,16 +146,15 @@ function markText() {
     fill($("t-back"), nodes, "\n\u200b");
     const mends = found.filter((one) => one.to !== null), all = mends.filter((one) => !DIRECTION.test(one.text));
     const others = found.filter((one) => one.to === null), sum = (list) => list.reduce((of, one) => of + one.count, 0);
+    const kept = [...others.slice(0, MOST_LETTERS).map(glyph), node("span", say("foreign"))], total = sum(found);
     mended = all.length ? withMends(text, all) : text;
     $("t-force").hidden = !found.length;
     $("t-all").hidden = sum(all) < 2;
     $("t-all").textContent = say("replaceAll", sum(all));
     $("t-all").onclick = () => replaceText(withMends($("t-text").value, all));
-    const isOne = sum(found) === 1;
-    $("t-why").dataset.count = isOne ? say("forced1", say("character")) : say("forced", say("characters", sum(found)));
-    const kept = [...others.slice(0, MOST_LETTERS).map(glyph), node("span", {}, say("foreign"))];
+    $("t-why").dataset.count = sayCount("forced", total);
     fill($("t-list"), mends.slice(0, MOST_MENDS).map(mendItem),
-        others.length ? node("li", { className: "kept" }, kept) : null);
+        others.length ? node("li.kept", kept) : null);
 }
 function replaceText(to) { // by the browser's own editing, so that its undo knows it
     $("t-text").focus();
@@ -179,8 +171,9 @@ async function askText() { // the latest text wins; the first is asked before th
     const order = currentOrder() || draft, began = performance.now(), text = $("t-text").value, asked = mended;
     const isGood = isNumber(String(order.id), "id") && isNumber(String(order.code), "code");
     const result = await textDesk.ask("text", {
-        text, mended, letters: unknownOf(text + mended), lang: $("t-lang").value || "und", scope: order.scope || 0,
-        id: isGood ? order.id : 0, code: isGood ? order.code : 0, update: order.update || 0,
+        text, mended, letters: [...new Set(text + mended)].filter((letter) => !letters.has(letter)),
+        lang: $("t-lang").value || "und", scope: order.scope || 0, id: isGood ? order.id : 0,
+        code: isGood ? order.code : 0, update: order.update || 0,
     });
     times.text = performance.now() - began;
     times.first ||= performance.now() - opened;
@@ -190,14 +183,15 @@ async function askText() { // the latest text wins; the first is asked before th
         if (Desk.module) tell(result.fault);
         return;
     }
-    if (learn(result.letters)) markText();
+    result.letters.forEach(learn);
+    if (result.letters.length) markText();
     if (!asksAgain) showText(result, text);
     if (asksAgain || mended !== asked) await askText();
 }
 
 function fact(key, value, mark, ...notes) {
-    const shown = notes.filter(Boolean).map((note) => (typeof note === "string" ? node("small", {}, note) : note));
-    return node("div", { className: mark }, node("dt", {}, say(key)), node("dd", {}, node("b", {}, value), shown));
+    const shown = notes.filter(Boolean).map((note) => (typeof note === "string" ? node("small", note) : note));
+    return node("div", { className: mark }, node("dt", say(key)), node("dd", node("b", value), shown));
 }
 function showFacts(cost, mendedCost) {
     const isUcs = cost.coding === "UCS-2", room = isUcs ? UNITS : SEPTETS, pages = +cost.pages;
@@ -221,15 +215,15 @@ function showTextFault(cost, text) {
     else if (isLong) {
         const cut = () => replaceText([...text].slice(0, +cost.fits).join(""));
         fill(box, say("tooLong", number(+cost.pages), number(+cost.fits), number(+cost.characters)), " ",
-            node("button", { type: "button", className: "small", onclick: cut }, say("cut")));
+            button(say("cut"), cut));
     }
 }
 function showPages(result) {
     const isUcs = result.cost.coding === "UCS-2", room = isUcs ? UNITS : SEPTETS, { pages, blocks } = result;
     const usedOf = (page) => [...page].reduce((sum, letter) => sum + (isUcs ? 1 : letters.get(letter)?.cost ?? 1), 0);
-    fill($("t-pages"), pages.map((page, k) => node("li", { className: "card-phone" },
-        node("header", {}, node("span", {}, say("page", k + 1, pages.length)),
-            node("span", {}, say("used", usedOf(page), room))),
+    fill($("t-pages"), pages.map((page, k) => node("li.card-phone",
+        node("header", node("span", say("page", k + 1, pages.length)),
+            node("span", say("used", usedOf(page), room))),
         node("progress", { max: room, value: usedOf(page), "aria-hidden": "true" }),
         node("p", { dir: "auto" }, page))));
     $("t-pages").setAttribute("aria-label", nameOfId(+(currentOrder() || draft).id));
@@ -248,7 +242,7 @@ function showText(result, text) {
     if (result.pages) {
         showPages(result);
     } else {
-        fill($("t-pages"), text ? null : node("li", { className: "none" }, say("noText")));
+        fill($("t-pages"), text ? null : node("li.none", say("noText")));
         $("t-blocks").textContent = "";
         $("t-octets").textContent = say("blocks", 0);
     }
@@ -278,15 +272,11 @@ $("t-show").onclick = () => {
     showPane("book");
     selectRow(state.row, "text");
 };
-// Adds the draft to the book, under a name and a code that no other row has.
-$("t-add").onclick = () => {
-    const { id, scope, lang, text } = draft, { names, orders, rows } = state.book;
-    let name = `alert-${lang}`, code = +draft.code;
-    for (let k = 2; names.has(name); k++) name = `alert-${lang}-${k}`;
-    const isTaken = (it) => it.verb === "write" && +it.id === +id && +it.scope === +scope && +it.code === code;
-    while (orders.some(isTaken)) code = (code + 1) % 1024;
-    const fields = ["write", "0", name, id, scope, String(code), lang, "2", String(A_MINUTE), "0", "*", text];
-    addRows([fields], rows.length);
+$("t-add").onclick = () => { // adds the draft to the book
+    const { id, scope, code, lang, text } = draft, { names, rows } = state.book;
+    const name = names.has(`alert-${lang}`) ? freshName(`alert-${lang}`) : `alert-${lang}`;
+    const own = ["write", "0", name, id, scope, freshCode(id, scope, +code), lang];
+    addRows([[...own, "2", String(A_MINUTE), "0", "*", text]], rows.length);
     state.row = state.book.rows.length;
     refreshText();
 };

@@ -1,6 +1,6 @@
 // The worker: one job at a time, each made of runs of the program.
 let tapes = null;
-const TEXTS_A_RUN = 2000, MOST_PAGES = 15;
+const TEXTS_A_RUN = 2000;
 const tableBy = (words, input) => tableOf(decode(run(words, input).out));
 
 // Returns what `texts` says of each text: its coding, its pages, the room on the last one, and how much of it fits.
