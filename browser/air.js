@@ -172,9 +172,8 @@ function showTip(lane, message) {
     const tip = $("tip"), { top, bottom, left } = lane.getBoundingClientRect();
     fill(tip, detailsOf(message));
     tip.hidden = false;
-    const below = bottom + 6, isBelow = below + tip.offsetHeight <= innerHeight;
-    tip.style.left = `${Math.max(8, Math.min(innerWidth - tip.offsetWidth - 8, left + 24))}px`;
-    tip.style.top = `${Math.max(8, isBelow ? below : top - tip.offsetHeight - 6)}px`;
+    const isBelow = bottom + 6 + tip.offsetHeight <= innerHeight;
+    place(tip, left + 24, isBelow ? bottom + 6 : top - tip.offsetHeight - 6);
 }
 function hideTip() {
     $("tip").hidden = true;
@@ -325,8 +324,7 @@ function printedGroup(group) {
     return node("div.card", node("h2", say("chartOf", nameOfGroup(group))),
         node("ol.lines", lines.map((it) => drawLine(it, from, to, 700))),
         node("div.line", node("p", say("load"), node("br"), node("small", fullestText(group))),
-            node("div.lane.tall", drawLoad(group, [from, to], true))),
-        node("div.line", node("p"), axis));
+            node("div.lane.tall", drawLoad(group, [from, to], true))), node("div.line", node("p"), axis));
 }
 addEventListener("beforeprint", () => { // on paper all groups of cells stand one below the other
     hideTip();

@@ -214,12 +214,6 @@ function fieldBox(order, name, isTime) {
     const given = { ...label, dir: "auto", autocomplete: "off", title: isTime ? say("h_time") : undefined };
     return name === "text" ? node("textarea.big", given) : node("input", given);
 }
-function placeBox(box, cell) { // over the table, within the window
-    const { right, top } = cell.getBoundingClientRect(), width = Math.min(560, innerWidth - 16);
-    box.style.width = `${width}px`;
-    box.style.left = `${Math.max(8, Math.min(right, innerWidth - 8) - width)}px`;
-    box.style.top = `${within(top, 8, innerHeight - 190)}px`;
-}
 function edit(typed) {
     const order = chosenOrder(), name = GRID[sheet.column], cell = chosenCell(), isTime = /^(at|period)$/.test(name);
     if (!order || !cell || !(COLUMNS[order.verb] || []).includes(name)) return;
@@ -247,7 +241,8 @@ function edit(typed) {
     box.onblur = () => done(true);
     fill(cell, box);
     cell.classList.add("editing");
-    if (name === "text") placeBox(box, cell);
+    const { right, top } = cell.getBoundingClientRect();
+    if (name === "text") place(box, right - box.offsetWidth, top);
     box.focus();
     if (typed === undefined && box.select) box.select();
 }

@@ -38,6 +38,10 @@ function node(name, ...kids) { // a tag with classes, what the element is given,
     return made;
 }
 const within = (value, least, most) => Math.max(least, Math.min(most, value));
+function place(element, left, top) { // over the page, within the window
+    element.style.left = `${within(left, 8, innerWidth - element.offsetWidth - 8)}px`;
+    element.style.top = `${within(top, 8, innerHeight - element.offsetHeight - 8)}px`;
+}
 const fill = (element, ...kids) => element.replaceChildren(...kept(kids));
 const button = (text, onclick, className = "small") => node("button", { type: "button", className, onclick }, text);
 
@@ -151,11 +155,9 @@ const MOST_UNDO = 100, ONE_TYPING = 1200;
 // Keeps the book in the browser's own storage, if that is wished, or no longer.
 function keepBook() {
     try {
-        if (!$("b-keep").checked) {
-            for (const name of ["warnc.book", "warnc.slots"]) localStorage.removeItem(name);
-        } else {
-            localStorage.setItem("warnc.book", state.text);
-            localStorage.setItem("warnc.slots", state.slots);
+        for (const [name, value] of [["warnc.book", state.text], ["warnc.slots", state.slots]]) {
+            if ($("b-keep").checked) localStorage.setItem(name, value);
+            else localStorage.removeItem(name);
         }
     } catch {
         $("b-keep").checked = false;
@@ -200,15 +202,10 @@ async function work() {
     // nobody waits for what would go unsaid of an older book
     if (under || (isAskingMore && times.book > QUIET)) await stop(false);
     const own = under = wanted, began = since = performance.now(), { text, slots } = state;
-    const late = setTimeout(() => { $("busy").hidden = false; }, QUIET);
-    $("bar").removeAttribute("value");
-    const result = await bookDesk.ask("book", { text, slots }, (stage) => {
-        $("bar").value = stage - 1;
-        tell(`${say("working")}: ${say(`stage${stage}`)}`, true);
-    });
-    clearTimeout(late);
+    showBusy(0);
+    const result = await bookDesk.ask("book", { text, slots }, showBusy);
     if (result.isCancelled || own !== under) return;
-    $("busy").hidden = true;
+    showIdle();
     under = 0;
     times.book = performance.now() - began;
     times.firstBook ||= performance.now() - opened;
@@ -223,11 +220,13 @@ async function work() {
 async function askMore(text, slots) { // once it is shown what becomes of a book: what would go unsaid, what texts cost
     const own = wanted, answers = {};
     isAskingMore = true;
+    showBusy(4);
     for (const job of ["remarks", "costs"]) {
         if (own === wanted) answers[job] = await bookDesk.ask(job, { text, slots });
     }
     isAskingMore = false;
-    if (own !== wanted || !Array.isArray(answers.costs)) return;
+    if (own !== wanted || !Object.values(answers).every(Array.isArray)) return;
+    showIdle();
     Object.assign(state, answers);
     showState();
     showResults();
@@ -235,14 +234,26 @@ async function askMore(text, slots) { // once it is shown what becomes of a book
 async function stop(isTold = true) {
     const started = bookDesk.cancel();
     under = 0;
-    $("busy").hidden = true;
+    showIdle();
     await started;
     if (!isTold) return;
     clearTimeout(timer);
     tell(say("cancelled"), false, button(say("again"), compute));
 }
 
-let tellTimer = 0;
+// That something is under way, and how far it is, is shown after 0.3 s.
+let busyTimer = 0, tellTimer = 0;
+function showBusy(stage) {
+    clearTimeout(busyTimer);
+    if ($("busy").hidden) busyTimer = setTimeout(() => { $("busy").hidden = false; }, QUIET);
+    if (stage) $("bar").value = stage - 1;
+    else $("bar").removeAttribute("value");
+    if (stage) tell(`${say("working")}: ${say(`stage${stage}`)}`, true);
+}
+function showIdle() {
+    clearTimeout(busyTimer);
+    $("busy").hidden = true;
+}
 function tell(text, isLate, button) {
     clearTimeout(tellTimer);
     const now = () => fill($("state"), text, button);
@@ -266,8 +277,7 @@ function showState() {
         const words = faults.length ? sayCount("faulty", faults.length) : say("faultyBook");
         fill($("state"), node("b.badtext", `✕ ${words}`));
     } else {
-        fill($("state"), node("span.oktext", "✓ "),
-            say("good", number(book.rows.length), book.cells.length),
+        fill($("state"), node("span.oktext", "✓ "), say("good", number(book.rows.length), book.cells.length),
             refused ? node("b.badtext", ` · ✕\u00a0${say("nRefused", number(refused))}`) : null,
             odd ? node("b.warntext", ` · !\u00a0${sayCount("nOdd", odd)}`) : null);
     }

@@ -460,8 +460,8 @@ def texts_of_rows_are_written(page, program, _):
     return [] if good else [f"{first!r}, {then}"], "a row's text is typed and mended in the pane of texts"
 
 
-def work_is_cancelled(page, _program, _):
-    """A run that takes long can be cancelled, and the book be computed again."""
+def work_is_cancelled(page, program, _):
+    """A run that takes long can be cancelled, and the book be computed again; remarks of an older book are dropped."""
     page.run("showPane('air')")
     load(page, big_book(), 4096)
     page.run("""setBook(`${state.text}\\n`, 'edit'); while (!under) await new Promise((done) => setTimeout(done, 5));
@@ -472,6 +472,14 @@ def work_is_cancelled(page, _program, _):
     page.until("!under")
     again = page.run("return [state.fault, state.groups.length > 0]")
     wrong = [] if said == [0, "Cancelled"] and again == ["", True] else [f"{said} {again}"]
+    page.run("""times.book = 2 * QUIET; setBook(`${state.text}stop,9,m0,*\\n`, 'edit');
+        while (!isAskingMore) await new Promise((done) => setTimeout(done, 2));
+        times.book = 2 * QUIET; setBook(`${state.text}stop,10,m0,7-0\\n`, 'edit')""")
+    page.until("state.done === state.text && !under && !isAskingMore")
+    book = page.run("return state.text").encode()
+    head, *rows = records(ran(program, ["check", "--slots", 4096], book)[1].decode())
+    if page.run("return state.remarks") != [dict(zip(head, it)) for it in rows]:
+        wrong.append("the remarks are another book's")
     drawn = page.run("showPane('book'); return document.querySelectorAll('#b-grid td').length")
     wrong += [] if drawn < 800 else [f"{drawn} cells of a table of 4,032 orders are drawn"]
     return wrong, f"a run was cancelled and done again; of 4,032 orders {drawn // 14} rows are drawn"
@@ -610,20 +618,26 @@ def measure(kind, program):
                 answers.append(page.run("return times.text"))
         keys = page.run("return keys")
         print(f"a key in 1,395 characters: the page's thread {middle(keys)}, answer {middle(answers)}")
-        book, runs = big_book(), []
+        book, runs, remarks = big_book(), [], []
         page.run("showPane('air')")
         for _ in range(5):
-            page.run(f"state.text = ''; state.slots = 4096; setBook({json.dumps(book)}, 'load')")
-            time.sleep(0.4)
-            page.until("!under && state.done === state.text")
-            runs.append(page.run("return times.book"))
+            page.run(f"state.text = ''; state.done = ''; state.slots = 4096; setBook({json.dumps(book)}, 'load')")
+            run, more = page.run("""const until = async (isSo) => {
+                    while (!isSo()) await new Promise((done) => setTimeout(done, 1));
+                    return performance.now();
+                };
+                const shown = await until(() => isAskingMore);
+                return [times.book, await until(() => !isAskingMore) - shown]""")
+            runs.append(run)
+            remarks.append(more)
         native = []
         for _ in range(5):
             began = time.monotonic()
             for command in ("report", "chart"):
                 ran(program, [command, "--slots", 4096], book.encode())
             native.append(1000 * (time.monotonic() - began))
-        print(f"4,096 rows: report and chart {middle(runs)}, those of the program {middle(native)}")
+        print(f"4,096 rows: report and chart {middle(runs)}, those of the program {middle(native)}; "
+              f"then remarks and costs {middle(remarks)}")
         opened = page.run("""showPane('book'); const began = performance.now(); showPane('air');
             return [performance.now() - began, document.querySelectorAll('#a-strips li').length]""")
         edits = page.run("""showPane('book'); const taken = [];

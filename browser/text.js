@@ -146,15 +146,14 @@ function markText() {
     fill($("t-back"), nodes, "\n\u200b");
     const mends = found.filter((one) => one.to !== null), all = mends.filter((one) => !DIRECTION.test(one.text));
     const others = found.filter((one) => one.to === null), sum = (list) => list.reduce((of, one) => of + one.count, 0);
-    const kept = [...others.slice(0, MOST_LETTERS).map(glyph), node("span", say("foreign"))], total = sum(found);
+    const kept = node("li.kept", others.slice(0, MOST_LETTERS).map(glyph), node("span", say("foreign")));
     mended = all.length ? withMends(text, all) : text;
     $("t-force").hidden = !found.length;
     $("t-all").hidden = sum(all) < 2;
     $("t-all").textContent = say("replaceAll", sum(all));
     $("t-all").onclick = () => replaceText(withMends($("t-text").value, all));
-    $("t-why").dataset.count = sayCount("forced", total);
-    fill($("t-list"), mends.slice(0, MOST_MENDS).map(mendItem),
-        others.length ? node("li.kept", kept) : null);
+    $("t-why").dataset.count = sayCount("forced", sum(found));
+    fill($("t-list"), mends.slice(0, MOST_MENDS).map(mendItem), others.length ? kept : null);
 }
 function replaceText(to) { // by the browser's own editing, so that its undo knows it
     $("t-text").focus();
@@ -222,8 +221,7 @@ function showPages(result) {
     const isUcs = result.cost.coding === "UCS-2", room = isUcs ? UNITS : SEPTETS, { pages, blocks } = result;
     const usedOf = (page) => [...page].reduce((sum, letter) => sum + (isUcs ? 1 : letters.get(letter)?.cost ?? 1), 0);
     fill($("t-pages"), pages.map((page, k) => node("li.card-phone",
-        node("header", node("span", say("page", k + 1, pages.length)),
-            node("span", say("used", usedOf(page), room))),
+        node("header", node("span", say("page", k + 1, pages.length)), node("span", say("used", usedOf(page), room))),
         node("progress", { max: room, value: usedOf(page), "aria-hidden": "true" }),
         node("p", { dir: "auto" }, page))));
     $("t-pages").setAttribute("aria-label", nameOfId(+(currentOrder() || draft).id));

@@ -89,16 +89,18 @@ function isOf({ id, serial, period, text }, order) {
 // Gives each message the row and the name of its order, and returns of each order in how many cells its message is
 // shown or never is, and which cells refused it, by the cause. A cell's lines stand in the order of the rows: each is
 // of the first order after that of the line before it that names the cell and that it can be of.
-function fatesOf(groups, { orders }) {
-    const fates = orders.map(({ row }) => ({ row, shown: 0, hidden: 0, refused: {} }));
-    const wheres = orders.map(({ where }) => new Set(where));
+function fatesOf(groups, book) {
+    const fates = book.orders.map(({ row }) => ({ row, shown: 0, hidden: 0, refused: {} }));
+    const named = new Map(book.cells.map(({ key }) => [key, []]));
+    book.orders.forEach((order, k) => order.where.forEach((key) => named.get(key)?.push({ order, fate: fates[k] })));
     for (const { cells, messages } of groups) for (const { key } of cells) {
-        let k = 0;
+        const orders = named.get(key);
+        let next = 0;
         for (const message of messages) {
-            while (k < orders.length && !(isOf(message, orders[k]) && wheres[k].has(key))) k++;
-            if (k === orders.length) break;
-            const { row, name } = orders[k], fate = fates[k++];
-            if (key === cells[0].key) Object.assign(message, { row, name });
+            while (next < orders.length && !isOf(message, orders[next].order)) next++;
+            if (next === orders.length) break;
+            const { order, fate } = orders[next++];
+            if (key === cells[0].key) Object.assign(message, { row: order.row, name: order.name });
             if (message.cause) (fate.refused[message.cause] ||= []).push(key);
             else if (message.first < 0) fate.hidden++;
             else fate.shown++;

@@ -12,7 +12,7 @@ const WORDS = {
     cannotRun: ["This browser can't run the program, which needs memory64: Chromium 133 or Firefox 134, or later. {0}",
         "Dieser Browser kann das Programm nicht ausführen. Nötig ist memory64: Chromium ab 133, Firefox ab 134. {0}"],
     working: ["Computing", "Rechnet"], stage1: ["report", "Bericht"], stage2: ["chart", "Bild"],
-    stage3: ["reading both", "beides lesen"],
+    stage3: ["reading both", "beides lesen"], stage4: ["remarks", "Hinweise"],
     cancel: ["Cancel", "Abbrechen"], again: ["Compute now", "Jetzt rechnen"],
     cancelled: ["Cancelled. The last result is shown.", "Abgebrochen. Gezeigt wird das letzte Ergebnis."],
     good: ["{0} rows, {1} cells: no fault", "{0} Zeilen, {1} Zellen: kein Fehler"],
