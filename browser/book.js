@@ -123,14 +123,20 @@ function saidByRow() {
     };
 }
 
-// Returns what is noted of an order: in how many cells it is done, and what is remarked of it; of a refusal also where.
+// Returns in how many of its cells an order wasn't done, by a remark of it.
 const PAST_THE_END = "cell broadcast not operational";
-function notesOf({ verb, where }, { shown, refused }, remarks) {
-    const said = remarks.map((it) => it.says), isStop = verb === "stop";
-    const omitted = /leaves out (.+)/.exec(said.join("\n"))?.[1].split(" ") || [];
-    const stopped = said.includes("orders nothing") ? 0
-        : where.length - omitted.length - Object.values(refused).flat().length;
-    const done = isStop ? stopped : shown, rank = (says) => SAYS.findIndex(([form]) => form.test(says));
+function missedBy(says, { where }, { refused }) {
+    const words = says.split(" ");
+    if (says === "orders nothing") return where.length;
+    if (says === "past the end") return refused[PAST_THE_END]?.length ?? 0;
+    if (words[0] === "refused") return +words[2];
+    return words[0] === "leaves" ? words.length - 2 : 0;
+}
+// Returns what is noted of an order: in how many cells it is done, and what is remarked of it; of a refusal also where.
+function notesOf(order, fate, remarks) {
+    const said = remarks.map((it) => it.says), isStop = order.verb === "stop", { shown, refused } = fate;
+    const done = isStop ? said.reduce((count, says) => count - missedBy(says, order, fate), order.where.length) : shown;
+    const rank = (says) => SAYS.findIndex(([form]) => form.test(says));
     const notes = said.sort((one, other) => rank(one) - rank(other)).map((says) => {
         const cells = refused[says === "past the end" ? PAST_THE_END : says.split(": ")[1]];
         const text = saying(says) + (cells ? ` (${cells.join(" ")})` : "");

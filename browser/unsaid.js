@@ -29,7 +29,8 @@ function channelOf(tapes, slots, cell) {
 }
 
 const REFERENCES = { amp: "&", lt: "<", gt: ">", quot: '"' };
-const plain = (markup) => markup.replace(/&(#?\w+);/g, (_, name) => REFERENCES[name] ?? "'");
+const plain = (markup) => (
+    markup.includes("&") ? markup.replace(/&(#?\w+);/g, (_, name) => REFERENCES[name] ?? "'") : markup);
 function between(text, front, end) {
     const at = text.indexOf(front);
     return at < 0 ? "" : text.slice(at + front.length, text.indexOf(end, at + front.length));
