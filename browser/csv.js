@@ -15,16 +15,23 @@ const isNumber = (text, name) => /^\d{1,5}$/.test(text) && +text >= RANGES[name]
 // Returns the rows of a CSV: their fields, their place in the text (from, to), and whether a quote is open at their
 // end. Empty lines are no rows.
 function parseCsv(text, comma = ",") {
-    const field = new RegExp(`(?:"([^"]*(?:""[^"]*)*)("|$))?([^${comma}\\r\\n]*)`, "y"), rows = [];
+    const plain = new RegExp(`[^${comma}\\r\\n]*`, "y"), inQuotes = /"([^"]*(?:""[^"]*)*)("|$)/y, rows = [];
     for (let at = text.charCodeAt(0) === 0xfeff ? 1 : 0; at < text.length; at++) {
         if (text[at] === "\n" || text[at] === "\r") continue;
         const row = { fields: [], from: at, to: at, isOpen: false };
         do {
-            field.lastIndex = at;
-            const [, inQuotes = "", close, rest] = field.exec(text);
-            row.fields.push(inQuotes.replaceAll('""', '"') + rest);
-            row.isOpen = close === "";
-            at = field.lastIndex + 1;
+            let value = "";
+            inQuotes.lastIndex = at;
+            const match = text[at] === '"' ? inQuotes.exec(text) : null;
+            if (match) {
+                value = match[1].replaceAll('""', '"');
+                at = inQuotes.lastIndex;
+            }
+            plain.lastIndex = at;
+            plain.test(text);
+            row.fields.push(value + text.slice(at, plain.lastIndex));
+            row.isOpen = match?.[2] === "";
+            at = plain.lastIndex + 1;
         } while (text[at - 1] === comma);
         row.to = --at;
         rows.push(row);
@@ -45,9 +52,10 @@ function tableOf(text) {
 function readBook(text) {
     const rows = parseCsv(text), cells = [], orders = [], names = new Map();
     let latest = 0;
-    rows.forEach(({ fields: [verb, ...fields] }, k) => {
-        const order = { row: k + 1, verb, cells: "", text: COLUMNS[verb] ? undefined : [verb, ...fields].join(", ") };
-        (COLUMNS[verb] || []).forEach((name, column) => { order[name] = fields[column] ?? ""; });
+    rows.forEach(({ fields }, k) => {
+        const [verb] = fields, order = { row: k + 1, verb, cells: "" };
+        if (!COLUMNS[verb]) order.text = fields.join(", ");
+        else COLUMNS[verb].forEach((name, column) => { order[name] = fields[column + 1] ?? ""; });
         if (verb === "cell") {
             cells.push({ row: k + 1, key: `${+order.lac}-${+order.ci}` });
             return;
