@@ -1,5 +1,4 @@
 // In a worker: runs the program as on a command line, with words and octets in, and a status and octets out.
-const WASM_PAGE = 65536;
 let program = null;
 const encode = (text) => new TextEncoder().encode(text);
 const decode = (octets) => new TextDecoder("utf-8", { ignoreBOM: true }).decode(octets);
@@ -40,24 +39,28 @@ function pageOf(memory, words, input, written) {
     };
 }
 
-// Runs the program once, in memory of its own, and returns its status, its output and its line of standard error. It
-// begins with as much memory as the last run took, since some browsers copy all of it each time that it grows.
-let most = 0;
+// Pages of memory with which a run begins, since Firefox copies all of it each time that it grows: as many as the last
+// run had, or as a chart of such an input takes, but 128 MiB at most.
+const OCTETS_OF_AN_OCTET = 90, WASM_PAGE = 65536, MOST_AT_FIRST = 2048;
+let had = 0;
+const pagesFor = ({ length }) => Math.min(MOST_AT_FIRST, Math.max(had, (length * OCTETS_OF_AN_OCTET) / WASM_PAGE));
+
+// Runs the program once, in memory of its own, and returns its status, its output and its line of standard error.
 function run(words, input = "") {
     const written = { 1: [], 2: [] }, all = ["warnc", ...words.map(String)].map(encode);
     const given = typeof input === "string" ? encode(input) : input;
     let made = null, status = 0;
     const page = pageOf(() => new Uint8Array(made.memory.buffer), all, given, written);
     made = new WebAssembly.Instance(program, { page }).exports;
-    const sizeOf = () => made.memory.buffer.byteLength / WASM_PAGE;
-    made.memory.grow(BigInt(Math.max(0, most - sizeOf())));
+    const { memory } = made, pages = () => memory.buffer.byteLength / WASM_PAGE;
+    memory.grow(BigInt(Math.max(0, Math.ceil(pagesFor(given) - pages()))));
     try {
         status = made.main(0, 0n);
     } catch (end) {
         if (!(end instanceof Exit)) throw end;
         status = end.status;
     }
-    most = sizeOf();
+    had = pages();
     return { status, out: joined(written[1]), says: decode(joined(written[2])).trim().replace(/^warnc: /, "") };
 }
 
