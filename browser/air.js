@@ -1,6 +1,6 @@
 // The pane "Air". Each x is a share of the slots that are shown, in hundredths, so nothing is drawn anew when a width
 // changes, but for the marks of broadcasts, which stand only where they are 4 px apart.
-const MANY = 12, MOST_LINES = 300, MOST_MARKS = 400, LEAST_GAP = 4, LEAST_WINDOW = 16;
+const MANY = 12, A_STRIP = 510, MOST_LINES = 300, MOST_MARKS = 400, LEAST_GAP = 4, LEAST_WINDOW = 16;
 const shownSlots = () => state.zoom || [0, state.slots];
 function placeOf(slot) {
     const [from, to] = shownSlots();
@@ -42,9 +42,12 @@ function showAir() {
     $("a-all").hidden = !isThere;
     $("a-all").classList.toggle("stale", !!state.fault);
     if (!isThere) return;
-    const group = chosenGroup();
+    // widths are asked for before anything is drawn, so that the browser need not lay out what is half done
+    const group = chosenGroup(), wide = $("a-load").clientWidth;
+    const columns = Math.max(1, Math.floor($("a-strips").clientWidth / A_STRIP));
     if (!hasCell(group)) state.cell = group.cells[0].key;
     $("a-strips").classList.toggle("many", state.groups.length > MANY);
+    $("a-strips").style.setProperty("--rows", Math.ceil(state.groups.length / columns));
     fill($("a-strips"), state.groups.map((one) => node("li", drawStrip(one, one === group))));
     rove($("a-strips"), ".strip");
     // at first the moment when a phone shows something
@@ -53,7 +56,7 @@ function showAir() {
     const cells = state.groups.flatMap((one) => one.cells).sort((one, other) => one.index - other.index);
     fill($("a-cell"), cells.map((cell) => node("option", { value: cell.key }, cell.key)));
     $("a-cell").value = state.cell;
-    drawChart();
+    drawChart(wide);
     showReport();
 }
 function chooseCell(key) {
@@ -98,8 +101,8 @@ function drawAxis(from, to, wide) {
     }
     return ticks;
 }
-function drawChart() {
-    const group = chosenGroup(), [from, to] = shownSlots(), wide = $("a-load").clientWidth || 600;
+function drawChart(wide = $("a-load").clientWidth) {
+    const group = chosenGroup(), [from, to] = shownSlots();
     const messages = group.messages.filter((it) => it.end >= from && it.start <= to);
     const more = messages.length - MOST_LINES;
     $("a-title").textContent = say("chartOf", nameOfGroup(group));
@@ -285,7 +288,7 @@ addEventListener("resize", () => {
     clearTimeout(resized);
     resized = setTimeout(() => {
         sheet.height = 0;
-        if (state.pane === "air" && state.groups.length) drawChart();
+        showAir();
         if (state.pane === "book" && !sheet.isEditing) drawRows(true);
     }, 120);
 });
