@@ -210,8 +210,8 @@ async function work() {
     times.book = performance.now() - began;
     times.firstBook ||= performance.now() - opened;
     if (own !== wanted) work();
-    const { fault = "", faults = [], ...good } = result;
-    Object.assign(state, { fault, faults }, fault ? {} : { ...good, air: null, done: text });
+    const { fault = "", faults = [], told } = result;
+    Object.assign(state, { fault, faults }, fault ? {} : { ...JSON.parse(told), air: null, done: text });
     showState();
     showResults();
     showAir();

@@ -150,8 +150,8 @@ def messages_are_read_right(page, program, count):
         if status:
             continue
         groups, fates = page.run(f"""
-            const {{ groups, fates }} = await bookDesk.ask("book",
-                {{ text: {json.dumps(book.decode())}, slots: {slots} }});
+            const {{ told }} = await bookDesk.ask("book", {{ text: {json.dumps(book.decode())}, slots: {slots} }});
+            const {{ groups, fates }} = JSON.parse(told);
             const seen = ({{ marks, ...message }}) => message;
             return [groups.map(({{ cells, messages }}) => ({{ cells, messages: messages.map(seen) }})), fates];""")
         rows, remarks = records(book.decode()), {}
@@ -472,9 +472,10 @@ def work_is_cancelled(page, program, _):
     page.until("!under")
     again = page.run("return [state.fault, state.groups.length > 0]")
     wrong = [] if said == [0, "Cancelled"] and again == ["", True] else [f"{said} {again}"]
-    page.run("""times.book = 2 * QUIET; setBook(`${state.text}stop,9,m0,*\\n`, 'edit');
+    page.run("""setBook(state.text.replace(',m0,', ',first,'), 'edit');
         while (!isAskingMore) await new Promise((done) => setTimeout(done, 2));
-        times.book = 2 * QUIET; setBook(`${state.text}stop,10,m0,7-0\\n`, 'edit')""")
+        times.book = 2 * QUIET;
+        setBook(state.text.replace(',m1,', ',second,'), 'edit')""")
     page.until("state.done === state.text && !under && !isAskingMore")
     book = page.run("return state.text").encode()
     head, *rows = records(ran(program, ["check", "--slots", 4096], book)[1].decode())
