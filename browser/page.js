@@ -202,7 +202,7 @@ async function work() {
     // nobody waits for what would go unsaid of an older book
     if (under || (isAskingMore && times.book > QUIET)) await stop(false);
     const own = under = wanted, began = since = performance.now(), { text, slots } = state;
-    showBusy(0);
+    showBusy(1);
     const result = await bookDesk.ask("book", { text, slots }, showBusy);
     if (result.isCancelled || own !== under) return;
     showIdle();
@@ -225,9 +225,9 @@ async function askMore(text, slots) { // once it is shown what becomes of a book
         if (own === wanted) answers[job] = await bookDesk.ask(job, { text, slots });
     }
     isAskingMore = false;
-    if (own !== wanted || !Object.values(answers).every(Array.isArray)) return;
+    if (own !== wanted || Object.values(answers).some((it) => it.isCancelled)) return;
     showIdle();
-    Object.assign(state, answers);
+    if (Object.values(answers).every(Array.isArray)) Object.assign(state, answers);
     showState();
     showResults();
 }
@@ -244,14 +244,12 @@ async function stop(isTold = true) {
 // That something is under way, and how far it is, is shown after 0.3 s.
 let busyTimer = 0, tellTimer = 0;
 function showBusy(stage) {
-    clearTimeout(busyTimer);
-    if ($("busy").hidden) busyTimer = setTimeout(() => { $("busy").hidden = false; }, QUIET);
-    if (stage) $("bar").value = stage - 1;
-    else $("bar").removeAttribute("value");
-    if (stage) tell(`${say("working")}: ${say(`stage${stage}`)}`, true);
+    busyTimer ||= setTimeout(() => { $("busy").hidden = false; }, QUIET);
+    $("bar").value = stage - 1;
+    tell(`${say("working")}: ${say(`stage${stage}`)}`, true);
 }
 function showIdle() {
-    clearTimeout(busyTimer);
+    busyTimer = clearTimeout(busyTimer);
     $("busy").hidden = true;
 }
 function tell(text, isLate, button) {

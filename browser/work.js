@@ -35,7 +35,6 @@ const jobs = {
     book({ text, slots }, say) {
         const words = ["--slots", slots, "--workers", 1];
         tapes = null;
-        say(1);
         const report = run(["report", "--full", ...words], text);
         if (report.status) return { fault: report.says, faults: tableBy(["check"], text) };
         say(2);
