@@ -14,6 +14,9 @@ use test_support::{Room, Words};
 use warnc_cli::run::run_with_book;
 use warnc_inspect::page::{PageFault, page_stream};
 
+/// How many octets the stack grows before the first attempt. A run needs some 150,000.
+const STACK: usize = 262_144;
+
 /// How many octets an attempt can write: what it writes takes no memory.
 const OUTPUT: usize = 7000;
 
@@ -267,8 +270,7 @@ fn attempts_at<T: AllocGlobal + Threads + Wait + Sync>(
     End::Refused
 }
 
-/// Has memory end at each step of a plan, one after the other. Before that the run is done with all memory, from where
-/// the attempts are made, so that the stack has grown as far as they need it: without memory it can't.
+/// Has memory end at each step of a plan, one after the other. Before that the run is done with all memory.
 fn attempts_at_each<T: AllocGlobal + Threads + Wait + Sync>(
     rt: &mut Shortage<T>,
     words: &[&str],
@@ -308,6 +310,15 @@ fn told(alloc: Global, bench: &Bench, slate: &Slate, plan: Plan, end: End) -> Re
     Ok(String::from_str(alloc, text)?)
 }
 
+/// Has the stack grow farther than a run needs it: without memory it can't, and a run that is refused may need more.
+/// The octet that is returned is 0 or 1, and depends on what stands there.
+#[inline(never)]
+fn grow_stack(seed: u16) -> u8 {
+    let mut octets = [0; STACK];
+    octets[usize::from(seed)] = 1;
+    octets[usize::from(seed.wrapping_mul(3))]
+}
+
 /// Runs the program again and again, short of memory as a row says.
 pub fn attempts<T: AllocGlobal + Threads + Wait + Sync>(
     rt: &T,
@@ -317,6 +328,9 @@ pub fn attempts<T: AllocGlobal + Threads + Wait + Sync>(
 ) -> Result<String, Fail> {
     let plan = Plan::of(verb, numbers)?;
     let words = bench.words(rt.alloc())?;
+    if grow_stack((words.len() % 256) as u16) > 1 {
+        return Err(Fail::new("the stack has other octets"));
+    }
     let mut short = Shortage::new(rt)?;
     let mut slate = Slate::new();
     let end = attempts_at_each(&mut short, &words, bench, &mut slate, plan);
