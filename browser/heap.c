@@ -12,14 +12,20 @@ static void *given_back[MOST_POWER + 1];
 /* what a refused call points to: Rattle wants a pointer that isn't null */
 static u8 nowhere[16];
 
-/* Returns whether there is memory up to `to`, and has the module's grow for it. */
-static int reaches(u64 to) {
-    if (to <= end) return 1;
-    u64 pages = (to - end + WASM_PAGE - 1) / WASM_PAGE;
-    if (pages < LEAST_GROWTH) pages = LEAST_GROWTH;
+/* Has the module's memory grow, or returns 0. */
+static int grows(u64 pages) {
     if (__builtin_wasm_memory_grow(0, pages) == (unsigned long)-1) return 0;
     end += pages * WASM_PAGE;
     return 1;
+}
+
+/* Returns whether there is memory up to `to`, and has the module's grow for it: by a quarter where that is to be had,
+   since a browser may have to copy all of it to make it larger. */
+static int reaches(u64 to) {
+    if (to <= end) return 1;
+    u64 needed = (to - end + WASM_PAGE - 1) / WASM_PAGE, wanted = end / WASM_PAGE / 4;
+    if (wanted < LEAST_GROWTH) wanted = LEAST_GROWTH;
+    return (wanted > needed && grows(wanted)) || grows(needed);
 }
 
 /* Returns a block for `count` octets, or 0 if there is none. */

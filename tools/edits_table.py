@@ -53,7 +53,7 @@ WRONG = (
     ("notes slots without playing them", "order_desk/notes_without_playing", ""),
     ("plays no slot", "bsc_table/plays_nothing order_desk/play_gives_the_empty_range_at_the_end",
      "plays_and_statuses_are_noted"),
-    ("sends an update to a cell that refused the write", "alert_book/updates_a_refused_cell", ""),
+    ("sends an update to a cell that refused the write", "reply_outcome/updates_a_refused_cell", ""),
     ("leaves out an order of a session, with honest notes", "session_check/leaves_out_an_order", ""),
     ("invents an order of a session, with honest notes", "session_check/leaves_notes_over", ""),
     ("writes some of the tapes alone", "warnc_run/leaves_half_of_the_tapes_out", ""),

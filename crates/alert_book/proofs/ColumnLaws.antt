@@ -1,7 +1,7 @@
 -- The fields of a row, one after the other, and whether they are UTF-8.
-use Rattle.std.proofs.Common.{◌≡◌, ℕ, zero, suc, add-one, ◌+◌, ◌<◌, ◌∙◌, ap, refl, sym, arith, Bool, true, false, cond}
+use Rattle.std.proofs.Common.{◌≡◌, ℕ, zero, suc, add-one, ◌+◌, ◌<◌, ◌∙◌, ap, refl, arith, Bool, true, false, cond}
 use Rattle.std.proofs.Common.{Some, None}
-use Rattle.std.proofs.Common.{Option, List, [], ◌∷◌, drop, length}
+use Rattle.std.proofs.Common.{List, [], ◌∷◌, drop, length}
 use Rattle.std.specs.List.{list_all}
 use Rattle.std.specs.Str.{is_utf8}
 use Rattle.csv.specs.Records.{field_at}

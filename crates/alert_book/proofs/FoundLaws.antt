@@ -1,30 +1,27 @@
 -- A row's fault is that of the first column whose judge refuses it, or one of the whole row.
 use Rattle.std.proofs.Common.{◌≡◌, ℕ, Bool, true, false, cond, Option, Some, None, List, length, Result, Ok, Err, refl}
-use Rattle.std.proofs.Common.{count_by, ap, ◌∙◌, ◌+◌, ◌<◌, arith, inl, inr}
+use Rattle.std.proofs.Common.{count_by, ap, ◌+◌, ◌<◌, arith, inl, inr}
 use Rattle.std.specs.Prelude.{option_map, nat_le, nat_lt, not, ◌==◌, IsErr}
 use Rattle.std.proofs.lemmas.Bool.{cases_Bool, leb-true}
 use Rattle.std.specs.Result.{result_err}
 use Rattle.cbsp_wire.specs.declared.message.Cell.{Cell}
-use Rattle.alert_book.specs.declared.book.order.Alert.{Alert}
 use Rattle.alert_book.specs.declared.book.order.Order.{Order}
-use Rattle.alert_book.specs.declared.book.order.Sending.{Sending}
 use Rattle.alert_book.specs.declared.book.row.Row.{Row}
-use Rattle.alert_book.specs.declared.book.row.Row.TheVariants as rows
 use Rattle.alert_book.specs.declared.book.row.Verb.{Verb}
 use Rattle.alert_book.specs.declared.book.row.Verb.TheVariants as verbs
 use Rattle.alert_book.specs.declared.fault.RowFault.{RowFault}
 use Rattle.alert_book.specs.declared.fault.RowFault.TheVariants as fault
 use Rattle.alert_book.specs.declared.judging.columns.Found.{Found}
-use Rattle.alert_book.specs.Cells.{cell_with, cells_of_field, is_among}
-use Rattle.alert_book.specs.Fields.{alert_at, alert_with, are_texts, column, if_right, known_name, new_name, number}
-use Rattle.alert_book.specs.Fields.{sending_by, sending_with}
-use Rattle.alert_book.specs.Judging.{ci_fault, found_after_verb, found_at, found_in, found_of_verb, found_or, is_full}
+use Rattle.alert_book.specs.Cells.{cell_with, cells_of_field}
+use Rattle.alert_book.specs.Fields.{alert_with, are_texts, column, if_right, known_name, new_name, number}
+use Rattle.alert_book.specs.Fields.{sending_with}
+use Rattle.alert_book.specs.Judging.{ci_fault, found_after_verb, found_at, found_of_verb, found_or}
 use Rattle.alert_book.specs.Judging.{no_text_column, counted_after, counted_with, known_after_row, name_written}
 use Rattle.alert_book.specs.Judging.{next_meant}
 use Rattle.alert_book.specs.Judging.{with_name, Counted, FoundIsFault}
-use Rattle.alert_book.specs.Row.{cell_row, columns_of, is_update_of, is_write, max_cells, max_rows, max_updates}
-use Rattle.alert_book.specs.Row.{new_cell, order_with, row_after_verb, row_of, row_of_verb_by, stop_row, update_row}
-use Rattle.alert_book.specs.Row.{update_with, verb_of, write_row}
+use Rattle.alert_book.specs.Row.{cell_row, columns_of, is_update_of, max_cells, max_rows, max_updates}
+use Rattle.alert_book.specs.Row.{new_cell, row_after_verb, row_of_verb_by}
+use Rattle.alert_book.specs.Row.{verb_of}
 
 -- what was found is the fault of a result
 abbrev pub Tells : {B : Type 0} → Option Found → Result B RowFault → Type 0

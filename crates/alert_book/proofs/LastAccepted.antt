@@ -9,9 +9,10 @@ use Rattle.cbsp_wire.specs.declared.cause.TheConstants.{MESSAGE_REFERENCE_NOT_ID
 use Rattle.cbsp_wire.specs.declared.message.Cell.{Cell}
 use Rattle.cbsp_wire.specs.declared.message.Failure.{Failure}
 use Rattle.cbsp_wire.specs.Range.{is_cell}
-use Rattle.alert_book.specs.declared.session.outcome.Outcome.{Outcome}
+use Rattle.reply_outcome.specs.declared.outcome.Outcome.{Outcome}
 use Rattle.alert_book.specs.LastAccepted.{HasAccepted, HasNone, IsAskedOf}
-use Rattle.alert_book.specs.Session.{outcome_of, refuses, replies_with, version_by, version_in, Replied}
+use Rattle.alert_book.specs.Session.{replies_with, version_in, Replied}
+use Rattle.reply_outcome.specs.Replies.{outcome_of, refuses, version_by}
 use Rattle.alert_book.specs.Turns.{is_asked, Turn}
 
 -- of the turns that asked a cell something of an alert, and whose reply says that it accepted or has no such message,

@@ -1,12 +1,9 @@
 -- The order that a row gives has the number of the row.
-use Rattle.std.proofs.Common.{◌≡◌, ℕ, ◌+◌, ◌<◌, ◌≤◌, Bool, true, false, cond, Option, Some, None, List, length, Result}
+use Rattle.std.proofs.Common.{◌≡◌, ℕ, Bool, true, false, cond, Option, Some, None, List, length, Result}
 use Rattle.std.proofs.Common.{Ok, Err, refl, count_by}
 use Rattle.std.specs.Prelude.{⊤, nat_le, nat_lt, not, ◌==◌}
 use Rattle.cbsp_wire.specs.declared.message.Cell.{Cell}
-use Rattle.alert_book.specs.declared.book.order.Action.TheVariants as action
-use Rattle.alert_book.specs.declared.book.order.Alert.{Alert}
 use Rattle.alert_book.specs.declared.book.order.Order.{Order}
-use Rattle.alert_book.specs.declared.book.order.Sending.{Sending}
 use Rattle.alert_book.specs.declared.book.row.Row.{Row}
 use Rattle.alert_book.specs.declared.book.row.Row.TheVariants as rows
 use Rattle.alert_book.specs.declared.book.row.Verb.{Verb}
@@ -15,8 +12,8 @@ use Rattle.alert_book.specs.declared.fault.RowFault.{RowFault}
 use Rattle.alert_book.specs.declared.fault.RowFault.TheVariants as fault
 use Rattle.alert_book.specs.Cells.{cell_with, cells_of_field, is_among}
 use Rattle.alert_book.specs.Fields.{alert_at, are_texts, column, if_right, known_name, new_name, number, sending_by}
-use Rattle.alert_book.specs.Row.{cell_row, columns_of, is_update_of, is_write, max_cells, max_rows, max_updates}
-use Rattle.alert_book.specs.Row.{new_cell, order_with, row_after_verb, row_of, row_of_verb_by, update_with, verb_of}
+use Rattle.alert_book.specs.Row.{cell_row, columns_of, is_update_of, max_cells, max_rows, max_updates}
+use Rattle.alert_book.specs.Row.{row_after_verb, row_of, row_of_verb_by, verb_of}
 
 -- an order has this number of a row
 abbrev HasRow : ℕ → Result Row RowFault → Type 0

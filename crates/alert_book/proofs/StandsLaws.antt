@@ -7,9 +7,10 @@ use Rattle.cbsp_wire.specs.declared.message.Message.{Message}
 use Rattle.alert_book.specs.declared.session.NextRequests.{NextRequests}
 use Rattle.alert_book.specs.AdvancingSteps.{due_with, first_in, rest_of, row_after, HasAdvanced}
 use Rattle.alert_book.specs.declared.book.order.Order.{Order}
-use Rattle.alert_book.specs.declared.session.outcome.Outcome.{Outcome}
+use Rattle.reply_outcome.specs.declared.outcome.Outcome.{Outcome}
 use Rattle.alert_book.specs.declared.session.request.Request.{Request}
-use Rattle.alert_book.specs.Session.{after_reply, advanced, cells_asked, due_requests, outcome_in, replies_with}
+use Rattle.alert_book.specs.Session.{after_reply, advanced, due_requests, outcome_in, replies_with}
+use Rattle.reply_outcome.specs.Replies.{cells_asked}
 use Rattle.alert_book.specs.Session.{sent_first, version_after, version_in, Replied}
 use Rattle.alert_book.specs.SessionSteps.{live_with}
 use Rattle.alert_book.specs.Stands.{left_in, Advances, AreBelieved, HavePlaces, SessionState, StandsFor}

@@ -13,7 +13,8 @@ use Rattle.alert_book.specs.declared.book.order.Action.TheVariants as action
 use Rattle.alert_book.specs.declared.book.order.Order.{Order}
 use Rattle.alert_book.specs.declared.session.request.Request.{Request}
 use Rattle.alert_book.specs.declared.session.request.Target.{Target}
-use Rattle.alert_book.specs.Session.{advanced, after_reply, cells_asked, cells_with, due_requests, next_requests}
+use Rattle.alert_book.specs.Session.{advanced, after_reply, cells_with, due_requests, next_requests}
+use Rattle.reply_outcome.specs.Replies.{cells_asked}
 use Rattle.alert_book.specs.Session.{found_first, has_cells, is_of_part, is_version, orders_from, orders_with}
 use Rattle.alert_book.specs.Session.{outcome_in, replies_with, requests_by, requests_of, stop_request}
 use Rattle.alert_book.specs.Session.{target_of, targets_of, update_request, version_in, versions, Replied, Standing}

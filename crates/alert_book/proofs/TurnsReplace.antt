@@ -16,14 +16,14 @@ use Rattle.alert_book.specs.declared.book.order.Action.TheVariants as action
 use Rattle.alert_book.specs.declared.book.order.Alert.{Alert}
 use Rattle.alert_book.specs.declared.book.order.Order.{Order}
 use Rattle.alert_book.specs.declared.book.order.Sending.{Sending}
-use Rattle.alert_book.specs.declared.session.outcome.Outcome.{Outcome}
+use Rattle.reply_outcome.specs.declared.outcome.Outcome.{Outcome}
 use Rattle.alert_book.specs.declared.session.request.Request.{Request}
 use Rattle.alert_book.specs.declared.session.request.Target.{Target}
 use Rattle.alert_book.specs.Book.{Contents}
 use Rattle.alert_book.specs.LastAccepted.{HasAcceptedLast, LastAcceptedIsReplaced, Pair, pair_gone, pair_sent}
 use Rattle.alert_book.specs.Session.{advanced, after_reply, due_requests, next_requests, found_first}
 use Rattle.alert_book.specs.Session.{has_cells, is_of_part, is_version, orders_from, orders_with, outcome_in}
-use Rattle.alert_book.specs.Session.{outcome_of}
+use Rattle.reply_outcome.specs.Replies.{outcome_of}
 use Rattle.alert_book.specs.Session.{replies_with, requests_by, requests_of, serial_of, session_of, stop_request}
 use Rattle.alert_book.specs.Session.{target_of, targets_of, update_request, version_in, version_after_reply, versions}
 use Rattle.alert_book.specs.Session.{Replied, Standing}

@@ -2,7 +2,7 @@
 use Rattle.std.specs.Prelude.{◌≡◌, ℕ, Option, Some, None, List, [], ◌∷◌}
 use Rattle.cbs_page.specs.declared.paging.Paged.{Paged}
 use Rattle.alert_book.specs.declared.book.order.Order.{Order}
-use Rattle.alert_book.specs.declared.session.outcome.Outcome.{Outcome}
+use Rattle.reply_outcome.specs.declared.outcome.Outcome.{Outcome}
 use Rattle.alert_book.specs.declared.session.request.Request.{Request}
 use Rattle.alert_book.specs.declared.session.NextRequests.{NextRequests}
 use Rattle.alert_book.specs.Session.{orders_from}

@@ -7,11 +7,12 @@ use Rattle.cbsp_wire.specs.declared.message.Failure.{Failure}
 use Rattle.cbsp_wire.specs.declared.message.Message.{Message}
 use Rattle.cbsp_wire.specs.declared.message.Message.TheVariants as messages
 use Rattle.cbsp_wire.specs.CellLists.{contains}
-use Rattle.alert_book.specs.declared.session.outcome.Outcome.{Outcome}
+use Rattle.reply_outcome.specs.declared.outcome.Outcome.{Outcome}
 use Rattle.alert_book.specs.declared.network.Origin.{Origin}
 use Rattle.alert_book.specs.Book.{Contents}
 use Rattle.alert_book.specs.Origin.{IsBookFrom}
-use Rattle.alert_book.specs.Session.{outcome_of, refuses, Standing}
+use Rattle.alert_book.specs.Session.{Standing}
+use Rattle.reply_outcome.specs.Replies.{outcome_of, refuses}
 use Rattle.alert_book.specs.Turns.{begun, is_asked, GoesTo, Turn}
 
 -- a version of an alert is known by the identifier and the serial number of its messages

@@ -5,10 +5,11 @@ use Rattle.cbs_page.specs.declared.paging.Paged.{Paged}
 use Rattle.cbsp_wire.specs.declared.message.Cell.{Cell}
 use Rattle.alert_book.specs.declared.session.live_versions.LiveVersions.{LiveVersions}
 use Rattle.alert_book.specs.declared.book.order.Order.{Order}
-use Rattle.alert_book.specs.declared.session.outcome.Outcome.{Outcome}
+use Rattle.reply_outcome.specs.declared.outcome.Outcome.{Outcome}
 use Rattle.alert_book.specs.declared.session.request.CellVersion.{CellVersion}
 use Rattle.alert_book.specs.declared.session.request.Request.{Request}
-use Rattle.alert_book.specs.Session.{cells_asked, is_of_part, is_version, requests_of, version_after}
+use Rattle.alert_book.specs.Session.{is_of_part, is_version, requests_of, version_after}
+use Rattle.reply_outcome.specs.Replies.{cells_asked}
 use Rattle.alert_book.specs.VersionSteps.{kept_version}
 
 -- the versions that are believed live, with what the last reply says

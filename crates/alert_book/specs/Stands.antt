@@ -5,7 +5,8 @@ use Rattle.cbsp_wire.specs.declared.message.Cell.{Cell}
 use Rattle.cbsp_wire.specs.declared.message.Message.{Message}
 use Rattle.alert_book.specs.declared.book.order.Order.{Order}
 use Rattle.alert_book.specs.declared.session.request.Request.{Request}
-use Rattle.alert_book.specs.Session.{after_reply, cells_asked, orders_from, version_in, Replied, Standing}
+use Rattle.alert_book.specs.Session.{after_reply, orders_from, version_in, Replied, Standing}
+use Rattle.reply_outcome.specs.Replies.{cells_asked}
 use Rattle.alert_book.specs.Book.{Contents}
 use Rattle.alert_book.specs.declared.session.request.CellVersion.{CellVersion}
 use Rattle.alert_book.specs.VersionSteps.{has_place, kept_version}

@@ -5,7 +5,8 @@ use Rattle.cbsp_wire.specs.declared.message.Message.{Message}
 use Rattle.cbsp_wire.specs.CellLists.{contains}
 use Rattle.alert_book.specs.declared.session.request.Request.{Request}
 use Rattle.alert_book.specs.Book.{Contents}
-use Rattle.alert_book.specs.Session.{after_reply, cells_asked, session_of, Standing}
+use Rattle.alert_book.specs.Session.{after_reply, session_of, Standing}
+use Rattle.reply_outcome.specs.Replies.{cells_asked}
 
 -- a request, and what the reply to it means
 pub record Turn : Type 0 where

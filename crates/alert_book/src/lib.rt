@@ -25,5 +25,4 @@ pub use network::{
     GroupFault, MAX_NETWORK, Origin, count_groups, group_in, groups_in, read_book_from, read_group,
 };
 pub use session::Session;
-pub use session::outcome::Outcome;
 pub use session::request::{Refused, Request};

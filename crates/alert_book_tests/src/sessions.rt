@@ -7,8 +7,9 @@
 
 use crate::books_table::expect_rows;
 use crate::octets::{name_in, octets_in};
-use alert_book::{Book, Outcome, Session};
+use alert_book::{Book, Session};
 use cbsp_wire::{Cell, Cells, Failure, Failures, write};
+use reply_outcome::Outcome;
 use std::alloc::{AllocError, Global};
 use std::test::Fail;
 use test_support::Words;

@@ -19,7 +19,7 @@ use Rattle.cbsp_wire.specs.Range.{numbers_are_valid, values_are_valid}
 use Rattle.cbsp_wire.specs.Table.{presence_of}
 use Rattle.cbsp_wire.specs.Value.{Fields, fields_of}
 use Rattle.alert_book.specs.Book.{Contents}
-use Rattle.alert_book.specs.Session.{cells_asked}
+use Rattle.reply_outcome.specs.Replies.{cells_asked}
 use Rattle.alert_book.specs.TurnLaws.{AsksOncePerOrder, orders_in}
 use Rattle.alert_book.specs.Turns.{AreTurnsOf, Turn, is_asked}
 use Rattle.bsc_table.specs.declared.command.Category.{Category}

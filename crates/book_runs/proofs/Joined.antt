@@ -10,7 +10,8 @@ use Rattle.cbsp_wire.specs.declared.message.Message.{Message}
 use Rattle.cbsp_wire.specs.declared.message.Message.TheVariants as messages
 use Rattle.cbsp_wire.specs.Range.{is_cell, is_nothing}
 use Rattle.alert_book.specs.declared.session.request.Request.{Request}
-use Rattle.alert_book.specs.Session.{Standing, after_reply, cells_asked}
+use Rattle.alert_book.specs.Session.{Standing, after_reply}
+use Rattle.reply_outcome.specs.Replies.{cells_asked}
 use Rattle.bsc_table.specs.declared.command.Category.{Category}
 use Rattle.bsc_table.specs.declared.command.Command.{Command}
 use Rattle.bsc_table.specs.declared.command.Command.TheVariants as commands

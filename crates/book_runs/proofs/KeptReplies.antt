@@ -11,11 +11,11 @@ use Rattle.cbsp_wire.specs.declared.message.Message.TheVariants as messages
 use Rattle.cbsp_wire.specs.CellLists.{contains}
 use Rattle.cbsp_wire.specs.Range.{is_cell}
 use Rattle.cbsp_wire.proofs.CellLists.{same_cell}
-use Rattle.alert_book.specs.declared.session.outcome.Outcome.{Outcome}
+use Rattle.reply_outcome.specs.declared.outcome.Outcome.{Outcome}
 use Rattle.alert_book.specs.declared.session.request.Request.{Request}
-use Rattle.alert_book.specs.Session.{accepting, cells_asked, cells_counted, is_kill_of, is_write_of}
-use Rattle.alert_book.specs.Session.{outcome_of, outcome_with, refuses, same_serial, version_after}
-use Rattle.alert_book.specs.Session.{version_by}
+use Rattle.alert_book.specs.Session.{version_after}
+use Rattle.reply_outcome.specs.Replies.{accepting, cells_asked, cells_counted, is_kill_of, is_write_of, outcome_of}
+use Rattle.reply_outcome.specs.Replies.{outcome_with, refuses, same_serial, version_by}
 use Rattle.bsc_table.specs.declared.command.Category.{Category}
 use Rattle.bsc_table.specs.declared.command.Command.{Command}
 use Rattle.bsc_table.specs.declared.command.Command.TheVariants as commands

@@ -14,7 +14,8 @@ use Rattle.alert_book.specs.declared.book.order.Sending.{Sending}
 use Rattle.alert_book.specs.declared.session.request.Request.{Request}
 use Rattle.alert_book.specs.declared.session.request.Target.{Target}
 use Rattle.alert_book.specs.Network as network
-use Rattle.alert_book.specs.Session.{cells_asked, cells_with, due_requests, found_first, has_cells, is_version}
+use Rattle.alert_book.specs.Session.{cells_with, due_requests, found_first, has_cells, is_version}
+use Rattle.reply_outcome.specs.Replies.{cells_asked}
 use Rattle.alert_book.specs.Session.{next_requests, requests_by, requests_of, stop_request, target_of}
 use Rattle.alert_book.specs.Session.{update_request, versions}
 use Rattle.book_runs.specs.CellParts.{Keep, PagedOrder, asks_some, is_for_some, kept_action, kept_order, kept_orders}

@@ -6,11 +6,12 @@ use Rattle.std.proofs.lemmas.Bool.{cases_Bool}
 use Rattle.std.proofs.lemmas.List.Elements.{All-filter, All-head, All-tail, filter_passes}
 use Rattle.cbsp_wire.specs.declared.message.Cell.{Cell}
 use Rattle.cbsp_wire.specs.declared.message.Message.{Message}
-use Rattle.alert_book.specs.declared.session.outcome.Outcome.{Outcome}
+use Rattle.reply_outcome.specs.declared.outcome.Outcome.{Outcome}
 use Rattle.alert_book.specs.declared.session.request.Request.{Request}
 use Rattle.alert_book.specs.Book.{Contents}
-use Rattle.alert_book.specs.Session.{Replied, Standing, advanced, after_reply, cells_asked, due_requests, is_of_part}
-use Rattle.alert_book.specs.Session.{orders_from, orders_with, outcome_in, outcome_of, replies_with}
+use Rattle.alert_book.specs.Session.{Replied, Standing, advanced, after_reply, due_requests, is_of_part}
+use Rattle.alert_book.specs.Session.{orders_from, orders_with, outcome_in, replies_with}
+use Rattle.reply_outcome.specs.Replies.{cells_asked, outcome_of}
 use Rattle.alert_book.specs.Session.{standing_with, version_after, version_in}
 use Rattle.alert_book.specs.Turns.{AreTurnsOf, GoesTo, Turn, begun}
 use Rattle.bsc_table.specs.declared.command.Command.{Command}

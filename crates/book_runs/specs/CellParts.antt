@@ -17,7 +17,8 @@ use Rattle.alert_book.specs.declared.network.Origin.{Origin}
 use Rattle.alert_book.specs.Book.{Contents}
 use Rattle.alert_book.specs.Network.{action_to, cells_of_action, has_cells, order_to, sending_to}
 use Rattle.alert_book.specs.Origin.{IsBookFrom}
-use Rattle.alert_book.specs.Session.{cells_asked, orders_with}
+use Rattle.alert_book.specs.Session.{orders_with}
+use Rattle.reply_outcome.specs.Replies.{cells_asked}
 use Rattle.bsc_table.specs.declared.entry.Answer.{Answer}
 use Rattle.bsc_table.specs.Record.{Record}
 use Rattle.order_desk.specs.Reply.{reply_message}

@@ -10,8 +10,8 @@ use Rattle.cbsp_wire.specs.declared.message.Count.{Count}
 use Rattle.cbsp_wire.specs.declared.message.Failure.{Failure}
 use Rattle.cbsp_wire.specs.declared.message.Message.{Message}
 use Rattle.cbsp_wire.specs.declared.message.Message.TheVariants as messages
-use Rattle.alert_book.specs.Session.{accepting, cells_counted, is_kill_of, is_write_of, outcome_of, outcome_with}
-use Rattle.alert_book.specs.Session.{same_serial}
+use Rattle.reply_outcome.specs.Replies.{accepting, cells_counted, is_kill_of, is_write_of, outcome_of, outcome_with}
+use Rattle.reply_outcome.specs.Replies.{same_serial}
 use Rattle.bsc_table.specs.declared.command.Category.{Category}
 use Rattle.bsc_table.specs.declared.command.Command.{Command}
 use Rattle.bsc_table.specs.declared.command.Command.TheVariants as commands

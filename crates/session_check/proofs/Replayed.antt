@@ -3,7 +3,7 @@ use Rattle.std.proofs.Common.{◌≡◌, ◌≢◌, ℕ, ◌+◌, ◌*◌, ◌<�
 use Rattle.std.proofs.Common.{Option, Some, None, refl, sym, subst, ap, ◌∙◌, suc}
 use native.Mathlib.Omega.{arith}
 use Rattle.cbsp_wire.specs.declared.message.Message.{Message}
-use Rattle.alert_book.specs.declared.session.outcome.Outcome.{Outcome}
+use Rattle.reply_outcome.specs.declared.outcome.Outcome.{Outcome}
 use Rattle.alert_book.specs.declared.session.request.Request.{Request}
 use Rattle.alert_book.specs.Book.{Contents}
 use Rattle.alert_book.specs.Session.{after_reply, outcome_in, session_of, Standing}

@@ -3,9 +3,10 @@
 use Rattle.std.specs.Prelude.{◌≡◌, None, Some, Ok, List, map, All}
 use Rattle.std.specs.List.{AllZip}
 use Rattle.cbsp_wire.specs.declared.message.Cell.{Cell}
-use Rattle.alert_book.specs.declared.session.outcome.Outcome.{Outcome}
+use Rattle.reply_outcome.specs.declared.outcome.Outcome.{Outcome}
 use Rattle.alert_book.specs.declared.session.request.Request.{Request}
-use Rattle.alert_book.specs.Session.{outcome_of, Standing}
+use Rattle.alert_book.specs.Session.{Standing}
+use Rattle.reply_outcome.specs.Replies.{outcome_of}
 use Rattle.alert_book.specs.Turns.{GoesTo}
 use Rattle.bsc_table.specs.declared.command.Command.{Command}
 use Rattle.bsc_table.specs.declared.entry.Answer.{Answer}

@@ -3,9 +3,9 @@
 ghost use Rattle.std.specs.Prelude.{◌≡◌, IfOk};
 ghost use Rattle.order_desk.specs.Reply.{accepting_cells, cell_by, failure_by, refused_in};
 
-use alert_book::Outcome;
 use bsc_table::Answer;
 use cbsp_wire::{Cell, Cells, Failure, Failures};
+use reply_outcome::Outcome;
 use std::alloc::{AllocError as Refused, Global};
 
 /// What a reply says of a cell that refused.

@@ -14,10 +14,11 @@ ghost use Rattle.session_check.specs.ReplaySteps.{IsNoTurn, IsTurnNoted};
 use crate::answers::answers_in;
 use crate::notes::has_no_commands;
 use crate::said::said_by;
-use alert_book::{Book, Outcome, Request, Session};
+use alert_book::{Book, Request, Session};
 use bsc_table::{CellRecord, Command, orders_of};
 use cbsp_wire::{Cell, Cells, Message};
 use order_desk::Note;
+use reply_outcome::Outcome;
 use std::alloc::{AllocError as Refused, Global};
 
 /// A copy of a list of cells.

@@ -7,9 +7,9 @@ ghost use Rattle.alert_book.specs.Session.{version_after_reply};
 ghost use Rattle.std.specs.List.{position};
 ghost use Rattle.alert_book.specs.VersionSteps.{AreApart, IsPlaceOf, has_cell, is_of_cell, version_in_list};
 
-use crate::session::outcome::{Outcome, version_after_reply};
 use crate::session::request::{CellVersion, Refused, Request};
 use cbsp_wire::Cell;
+use reply_outcome::{Outcome, version_by_reply};
 use std::alloc::Global;
 use std::marker::Model;
 
@@ -84,7 +84,7 @@ impl AlertVersions {
     {
         if let Some(found) = place_of(&self.list, cell, place) {
             let before = self.list[found].version;
-            let version = version_after_reply(request, outcome, cell, place, before);
+            let version = version_by_reply(request.version, outcome, cell, place, before);
             self.list[found] = CellVersion { cell, version };
         }
     }

@@ -4,10 +4,11 @@
 ghost use Rattle.std.specs.Prelude.{◌≡◌};
 ghost use Rattle.alert_book.specs.SessionSteps.{live_by};
 
-use crate::session::outcome::{Outcome, version_after};
+use crate::session::outcome::version_after;
 use crate::session::request::Request;
 use crate::session::versions::Versions;
 use cbsp_wire::Cell;
+use reply_outcome::Outcome;
 
 /// The versions that are believed live: those kept, and what the last reply says.
 #[derive(Clone, Copy)]

@@ -6,9 +6,9 @@ ghost use Rattle.alert_book.specs.Session.{version_after_reply};
 ghost use Rattle.alert_book.specs.VersionSteps.{has_place, kept_version, HasSameLists, KeepsVersions, SetsVersion};
 
 use crate::session::alert_versions::AlertVersions;
-use crate::session::outcome::Outcome;
 use crate::session::request::{Refused, Request};
 use cbsp_wire::Cell;
+use reply_outcome::Outcome;
 use std::alloc::Global;
 use std::marker::Model;
 

@@ -10,9 +10,10 @@ use Rattle.cbsp_wire.specs.CellLists.{contains}
 use Rattle.cbsp_wire.specs.Range.{is_cell}
 use Rattle.cbsp_wire.specs.declared.cause.TheConstants.{MESSAGE_REFERENCE_NOT_IDENTIFIED}
 use Rattle.cbsp_wire.proofs.CellLists.{is_itself, same_cell}
-use Rattle.alert_book.specs.declared.session.outcome.Outcome.{Outcome}
+use Rattle.reply_outcome.specs.declared.outcome.Outcome.{Outcome}
 use Rattle.alert_book.specs.declared.session.request.Request.{Request}
-use Rattle.alert_book.specs.Session.{refuses, version_after, version_after_reply, version_by}
+use Rattle.alert_book.specs.Session.{version_after, version_after_reply}
+use Rattle.reply_outcome.specs.Replies.{refuses, version_by}
 use Rattle.alert_book.specs.VersionSteps.{is_version_of, kept_version}
 use Rattle.alert_book.proofs.VersionLaws.{turned}
 use Rattle.alert_book.proofs.session.keep.Goals as goal

@@ -1,7 +1,7 @@
 use Rattle.std.proofs.Common.{◌≡◌, ◌∙◌, All, List, Ok, Some, sym, subst, ap}
 use Rattle.cbsp_wire.specs.declared.message.Cell.{Cell}
 use Rattle.cbsp_wire.specs.declared.message.Failure.{Failure}
-use Rattle.alert_book.specs.Session.{outcome_with}
+use Rattle.reply_outcome.specs.Replies.{outcome_with}
 use Rattle.bsc_table.specs.declared.command.Command.{Command}
 use Rattle.bsc_table.specs.Orders.{order_of}
 use Rattle.order_desk.specs.Reply.{IsAnswerTo, accepting_cells, cells_answered, refused_in}

@@ -1,4 +1,4 @@
-use Rattle.std.proofs.Common.{◌≡◌, ◌∙◌, ◌+◌, Err, None, Some, sym}
+use Rattle.std.proofs.Common.{◌∙◌, ◌+◌, sym}
 use Rattle.csv.specs.Records.{fields_of}
 use Rattle.alert_book.specs.Judging.{next_found, next_meant}
 use Rattle.alert_book.proofs.FoundLaws.{found_is_fault, none_found, some_found, wrong_counts}

@@ -1,6 +1,6 @@
 use Rattle.std.proofs.Common.{◌≡◌, Option, refl, sym, subst}
 use Rattle.alert_book.specs.AdvancingSteps.{due_with, HasAdvanced}
-use Rattle.alert_book.specs.declared.session.outcome.Outcome.{Outcome}
+use Rattle.reply_outcome.specs.declared.outcome.Outcome.{Outcome}
 use Rattle.alert_book.specs.Session.{due_requests, outcome_in}
 use Rattle.alert_book.specs.SessionSteps.{live_with}
 use Rattle.alert_book.specs.Stands.{left_in, Advances, SessionState}

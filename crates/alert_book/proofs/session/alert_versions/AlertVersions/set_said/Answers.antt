@@ -11,7 +11,7 @@ pub invariant_of-self : goal.invariant_of-self
 invariant_of-self c =
     let at = subst (λ (list : List CellVersion). IsPlaceOf list c.args.cell c.in-Some.found) c.deref.ensures.value
     c.in-Some.ensures.found in
-    apart_set c.self.inside.list.items c.args.cell c.in-Some.found c.version_after_reply-version.result
+    apart_set c.self.inside.list.items c.args.cell c.in-Some.found c.version_by_reply-version.result
     c.self.invariant at
 
 pub returns-in-Some-clause-kept : goal.returns-in-Some-clause-kept
@@ -19,10 +19,10 @@ returns-in-Some-clause-kept c = λ cell.
     let at = subst (λ (list : List CellVersion). IsPlaceOf list c.args.cell c.in-Some.found) c.deref.ensures.value
     c.in-Some.ensures.found in
     let list = c.self.inside.list.items in
-    let version = c.version_after_reply-version.result in
+    let version = c.version_by_reply-version.result in
     let said : Option ℕ → Option ℕ = version_after_reply c.args.request.now c.args.outcome.now c.args.cell in
     let is : version ≡ said (version_in_list list c.args.cell) =
-    c.version_after_reply-version.ensures
+    c.version_by_reply-version.ensures
     ∙ ap said (ap (λ (one : CellVersion). one.version) c.index.ensures
     ∙ version_at list c.args.cell c.in-Some.found c.index.result.now at) in
     subst (λ (old : List CellVersion).
@@ -38,6 +38,6 @@ returns-in-Some-clause-places c = λ cell.
     c.in-Some.ensures.found in
     let placed : has_cell c.self.inside.list.items c.args.cell ≡ true =
     ap (λ (list : List CellVersion). has_cell list c.args.cell) c.self.view_is ∙ c.requires in
-    places_set c.self.inside.list.items c.args.cell cell c.in-Some.found c.version_after_reply-version.result placed
+    places_set c.self.inside.list.items c.args.cell cell c.in-Some.found c.version_by_reply-version.result placed
     at
     ∙ ap (λ (list : List CellVersion). has_cell list cell) c.self.view_is
