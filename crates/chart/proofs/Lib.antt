@@ -5,3 +5,4 @@ mod MarkLaws
 mod RangeLaws
 mod SectionLaws
 pub mod SomeChart
+mod Worked
