@@ -6,13 +6,15 @@ Usage: chart_check.py PROGRAM [BOOKS]            makes so many random books (20 
        chart_check.py PROGRAM --picture FILE     writes a picture of the chart of the book by hand (PNG)
 
 Of each chart the bars, marks, refusals, titles, texts and loads are counted and compared with the rows of `report
---full`, with what `read` shows of the tapes of `compile`; the lines of the loads have to stay within the cell's room.
+--full`, with what `read` shows of the tapes of `compile`; the lines of the loads have to stay within the cell's room,
+and the ticks of the axes have to be at round times.
 No two sections may have the same contents, and the overview has to have a strip for each, with the numbers that its
 heading has. In the chart of a network each group has to hold its own cells. Chromium, where it is installed, opens each
 page: it has to find the same bars, and no element that the program didn't write, whatever the texts say; and at three
 widths nothing may be wider than the window.
 """
 import csv
+import fractions
 import html.parser
 import io
 import itertools
@@ -26,6 +28,10 @@ import tempfile
 
 from books import GROUP, Alert, Sending, cell_line, random_orders
 
+# how long a slot lasts in seconds: 8 multiframes of 51 frames of 120/26 ms
+SLOT = fractions.Fraction(8 * 51 * 120, 26 * 1000)
+# the round times in seconds at whose multiples an axis may have ticks
+STEPS = (10, 30, 60, 120, 300, 600, 1800, 3600, 7200, 14400, 21600)
 # the height of a full cell in the picture of the loads
 FULL = 1008
 ELEMENTS = set("html head meta title style body h1 h2 p nav a details summary div b i small bdi svg rect path"
@@ -83,6 +89,8 @@ class Page(html.parser.HTMLParser):
             self.cells.append({"id": values.get("id"), "name": "", "facts": "", "lines": []})
         if tag == "div" and kind == "line":
             self.cells[-1]["lines"].append({"text": "", "cause": "", "title": "", "number": ""})
+        if tag == "span" and "style" in values:
+            self.cells[-1]["lines"][-1].setdefault("ticks", []).append([values["style"], ""])
         if tag == "rect":
             self.cells[-1]["lines"][-1]["bar"] = (int(values["x"]), int(values["width"]))
             self.cells[-1]["lines"][-1]["kind"] = kind
@@ -104,6 +112,8 @@ class Page(html.parser.HTMLParser):
             self.cells[-1]["name" if inside == "h2" else "facts"] += text.rstrip("\n")
         elif inside == "title" and "svg" not in self.inside:
             self.title += text
+        elif inside == "span" and "ticks" in self.cells[-1]["lines"][-1]:
+            self.cells[-1]["lines"][-1]["ticks"][-1][1] += text
         elif inside in ("bdi", "span", "title", "small"):
             name = {"bdi": "text", "span": "cause", "title": "title", "small": "number"}[inside]
             self.cells[-1]["lines"][-1][name] += text
@@ -155,10 +165,28 @@ def pace_of(row):
     return "f1"
 
 
-def time_of(slot):
-    """Returns when a slot begins, in whole seconds: it lasts 8 multiframes of 51 frames of 120/26 ms."""
-    seconds = slot * 8 * 51 * 120 // 26 // 1000
+def clock_of(seconds):
     return f"{seconds // 3600}:{seconds // 60 % 60:02}:{seconds % 60:02}"
+
+
+def seconds_at(slot):
+    """Returns when a slot begins, in whole seconds."""
+    return int(slot * SLOT)
+
+
+def time_of(slot):
+    return clock_of(seconds_at(slot))
+
+
+def ticks_of(slots):
+    """Returns the ticks of the axis of a run: where each stands, and the slot that is sent there, and the time."""
+    step = next(it for it in STEPS if seconds_at(slots) < 6 * it)
+    ticks = []
+    for seconds in range(0, seconds_at(slots) + 1, step):
+        place = int(100 * seconds / SLOT)
+        where = f"--at:calc(100%*{place // 100}.{place % 100:02}/{slots})"
+        ticks.append([where, f"{place // 100}{clock_of(seconds)}"])
+    return ticks
 
 
 def title_of(row, text):
@@ -283,6 +311,14 @@ def wrong_loads(page, slots):
             yield f"{cell['name']}: {line} leaves the picture"
 
 
+def wrong_axes(page, slots):
+    """Yields where the axis of a section isn't that of a run of so many slots."""
+    for cell in page.cells:
+        ticks = cell["lines"][-1].get("ticks")
+        if ticks != ticks_of(slots):
+            yield f"{cell['name']} has the ticks {ticks}, a run of {slots} slots {ticks_of(slots)}"
+
+
 def dom_of(browser, path, *more):
     """Returns the page as a browser has it once it is loaded."""
     with tempfile.TemporaryDirectory() as profile:
@@ -332,6 +368,7 @@ def differences(program, browser, book, options, slots=SLOTS_BY_HAND):
         if page.title != "Warnings by cell":
             yield f"{name} has the title {page.title}"
         yield from wrong_loads(page, slots)
+        yield from wrong_axes(page, slots)
         yield from wrong_facts(page)
 
 

@@ -1,3 +1,4 @@
+mod AxisLaws
 mod EscapeLaws
 mod KeptLaws
 mod LoadLaws

@@ -68,16 +68,16 @@ nav .loads{border-top-width:1px;height:1.4em}
 .shown{stroke:var(--first);stroke-width:4px}
 .pace b{display:inline-block;height:.8em;margin:0 .3em 0 .6em;width:1.6em}
 .refusal{stroke:var(--refusal);stroke-width:4px}
-.line .axis{color:var(--faint);font-size:.85em;justify-content:space-between;overflow:visible}
-.axis span{width:0}
-.axis span:last-child{margin-left:-5em;text-align:right;width:5em}
+.line .axis{color:var(--faint);display:block;font-size:.85em;height:3.2em;overflow:visible;position:relative}
+.axis span{left:var(--at);padding-top:.3em;position:absolute;text-align:center;transform:translateX(calc(-1*var(--at)))}
+.axis span::before{border-left:1px solid;content:"";height:.4em;left:var(--at);position:absolute;top:0}
 @media(max-width:46em){
 body{margin:1em}
 nav a{gap:.1em .5em;grid-template-columns:1fr auto;margin:.2em 0}
 nav .loads{grid-column:1/3;grid-row:2}
 .line{gap:.1em;grid-template-columns:minmax(0,1fr);margin:.5em 0}
 .line p{flex-wrap:wrap;gap:0 .3em}
-.line p.axis{flex-wrap:nowrap;font-size:.75em}
+.line p.axis{font-size:.75em}
 .line bdi,.cause{flex-basis:100%}
 .cause{white-space:normal}
 }

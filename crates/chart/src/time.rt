@@ -1,7 +1,9 @@
 //! The times of slots, and the axis under a cell's lines.
 
 ghost use Rattle.std.specs.Prelude.{◌≡◌, ◌++◌, OnOk};
-ghost use Rattle.chart.specs.Time.{axis, clock_text, slot_text, tick, ticks, time_in_brackets, time_text, two_digits};
+ghost use Rattle.std.specs.List.{flat_map, range_with_len};
+ghost use Rattle.chart.specs.Time.{axis, clock_text, has_few, place_text, seconds_at, slot_text, step_of, tick};
+ghost use Rattle.chart.specs.Time.{tick_front, tick_within, ticks, time_in_brackets, time_text, two_digits};
 
 use crate::page::Page;
 use std::alloc::AllocError;
@@ -15,8 +17,20 @@ pub const BRACKET: &str = " (";
 /// What comes after it.
 pub const BRACKET_END: &str = ")";
 
-/// What comes before the slot of a tick.
-pub const TICK: &str = "<span>";
+/// The most ticks of an axis.
+pub const MOST_TICKS: u16 = 6;
+
+/// The front of a tick, up to where it stands.
+pub const TICK: &str = "<span style=\"--at:calc(100%*";
+
+/// Between slots and their hundredths.
+pub const POINT: &str = ".";
+
+/// Between where a tick stands and the slots of the run.
+pub const OF: &str = "/";
+
+/// What comes after where it stands.
+pub const TICK_PLACED: &str = ")\">";
 
 /// Between a tick's slot and its time.
 pub const AT: &str = "<br>";
@@ -51,13 +65,20 @@ fn push_clock(page: &mut Page, seconds: u64) -> Result<(), AllocError>
     push_two_digits(page, seconds % 60)
 }
 
-/// Appends when a slot begins, cut down to whole seconds. A slot lasts 8 * 51 frames of 120/26 ms (3GPP TS 45.002),
-/// which are 24480/13 ms.
+/// When a slot begins, cut down to whole seconds. A slot lasts 8 * 51 frames of 120/26 ms (3GPP TS 45.002), which are
+/// 24480/13 ms.
+fn seconds_at(slot: u32) -> u64
+    ensures { result ≡ seconds_at slot }
+{
+    u64::from(slot) * 24480 / 13000
+}
+
+/// Appends when a slot begins.
 #[tactic(auto, unfolding(crate::specs::Time::time_text))]
 pub(crate) fn push_time(page: &mut Page, slot: u32) -> Result<(), AllocError>
     ensures { OnOk result (page.new ≡ page.old ++ time_text slot) }
 {
-    push_clock(page, u64::from(slot) * 24480 / 13000)
+    push_clock(page, seconds_at(slot))
 }
 
 /// Appends that time in brackets.
@@ -79,28 +100,107 @@ pub(crate) fn push_slot(page: &mut Page, slot: u32) -> Result<(), AllocError>
     push_time_in_brackets(page, slot)
 }
 
-/// Appends the tick of a slot.
-#[tactic(auto, unfolding(crate::specs::Time::tick))]
-fn push_tick(page: &mut Page, slot: u32) -> Result<(), AllocError>
-    ensures { OnOk result (page.new ≡ page.old ++ tick slot) }
+/// Whether a run of so many seconds lasts less than six such steps.
+fn has_few(step: u16, seconds: u64) -> bool
+    ensures { result ≡ has_few step seconds }
+{
+    seconds < u64::from(step) * 6
+}
+
+/// The seconds from one tick to the next: the first of these round times of which the run lasts less than six.
+fn step_of(seconds: u64) -> u16
+    ensures { result ≡ step_of seconds }
+{
+    if has_few(10, seconds) {
+        10
+    } else if has_few(30, seconds) {
+        30
+    } else if has_few(60, seconds) {
+        60
+    } else if has_few(120, seconds) {
+        120
+    } else if has_few(300, seconds) {
+        300
+    } else if has_few(600, seconds) {
+        600
+    } else if has_few(1800, seconds) {
+        1800
+    } else if has_few(3600, seconds) {
+        3600
+    } else if has_few(7200, seconds) {
+        7200
+    } else if has_few(14400, seconds) {
+        14400
+    } else {
+        21600
+    }
+}
+
+/// Appends where a tick stands, in slots.
+#[tactic(auto, unfolding(crate::specs::Time::place_text))]
+fn push_place(page: &mut Page, place: u64) -> Result<(), AllocError>
+    ensures { OnOk result (page.new ≡ page.old ++ place_text place) }
+{
+    page.number(place / 100)?;
+    page.markup(POINT)?;
+    push_two_digits(page, place % 100)
+}
+
+/// Appends the front of a tick: where it stands of the slots of the run.
+#[tactic(auto, unfolding(crate::specs::Time::tick_front))]
+fn push_tick_front(page: &mut Page, slots: u16, place: u64) -> Result<(), AllocError>
+    ensures { OnOk result (page.new ≡ page.old ++ tick_front slots place) }
 {
     page.markup(TICK)?;
-    page.number(u64::from(slot))?;
+    push_place(page, place)?;
+    page.markup(OF)?;
+    page.number(u64::from(slots))?;
+    page.markup(TICK_PLACED)
+}
+
+/// Appends the tick of a time.
+#[tactic(auto, unfolding(crate::specs::Time::tick))]
+fn push_tick(page: &mut Page, slots: u16, seconds: u32) -> Result<(), AllocError>
+    ensures { OnOk result (page.new ≡ page.old ++ tick slots seconds) }
+{
+    // In hundredths of a slot.
+    let place = u64::from(seconds) * 1_300_000 / 24480;
+    push_tick_front(page, slots, place)?;
+    page.number(place / 100)?;
     page.markup(AT)?;
-    push_time(page, slot)?;
+    push_clock(page, u64::from(seconds))?;
     page.markup(TICK_END)
 }
 
-/// Appends the ticks of an axis, at each quarter of the run.
+/// Appends the tick of this number, if it is within the run.
+fn push_tick_within(page: &mut Page, slots: u16, step: u16, number: u16) -> Result<(), AllocError>
+    ensures { OnOk result (page.new ≡ page.old ++ tick_within slots step number) }
+{
+    let seconds = u32::from(number) * u32::from(step);
+    if u64::from(seconds) > seconds_at(u32::from(slots)) {
+        return Ok(());
+    }
+    push_tick(page, slots, seconds)
+}
+
+/// Appends so many ticks at most, from the begin of the run on.
+fn push_ticks_by(page: &mut Page, slots: u16, step: u16, most: u16) -> Result<(), AllocError>
+    ensures { OnOk result (page.new ≡ page.old
+        ++ flat_map (tick_within slots step) (range_with_len 0 most)) }
+{
+    for number in 0..most {
+        push_tick_within(page, slots, step, number)?;
+    }
+    Ok(())
+}
+
+/// Appends the ticks of an axis.
 #[tactic(auto, unfolding(crate::specs::Time::ticks))]
 fn push_ticks(page: &mut Page, slots: u16) -> Result<(), AllocError>
     ensures { OnOk result (page.new ≡ page.old ++ ticks slots) }
 {
-    push_tick(page, 0)?;
-    push_tick(page, u32::from(slots / 4))?;
-    push_tick(page, u32::from(slots / 2))?;
-    push_tick(page, u32::from(slots) * 3 / 4)?;
-    push_tick(page, u32::from(slots))
+    let step = step_of(seconds_at(u32::from(slots)));
+    push_ticks_by(page, slots, step, MOST_TICKS)
 }
 
 /// Appends the axis.

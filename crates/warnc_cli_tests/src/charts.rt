@@ -34,11 +34,7 @@ out -> <div class=\"line\"><p>Reserved load</p>
 out -> <svg class=\"loads\" viewBox=\"0 0 4 1008\" preserveAspectRatio=\"none\" role=\"img\"><title>Reserved load</title>
 out -> <path class=\"load\" d=\"M0 1008H0V0H3V1008H4V1008z\"/></svg></div>
 out -> <div class=\"line\"><p>Slot, time</p><p class=\"axis\">
-out -> <span>0<br>0:00:00</span>
-out -> <span>1<br>0:00:01</span>
-out -> <span>2<br>0:00:03</span>
-out -> <span>3<br>0:00:05</span>
-out -> <span>4<br>0:00:07</span>
+out -> <span style=\"--at:calc(100%*0.00/4)\">0<br>0:00:00</span>
 out -> </p></div>
 out -> </details>
 out -> </body>
@@ -108,7 +104,14 @@ out -> <summary><h2>Cells 1-1 to 1-2, 2 cells</h2> messages: 2, refused: 1, full
 past <bdi>One</bdi> -> yes
 past <bdi>Two</bdi> -> yes
 past refused: BSC capacity exceeded (06) -> yes
-past </details> -> yes
+past <p class=\"axis\"> -> yes
+out -> <span style=\"--at:calc(100%*0.00/64)\">0<br>0:00:00</span>
+out -> <span style=\"--at:calc(100%*15.93/64)\">15<br>0:00:30</span>
+out -> <span style=\"--at:calc(100%*31.86/64)\">31<br>0:01:00</span>
+out -> <span style=\"--at:calc(100%*47.79/64)\">47<br>0:01:30</span>
+out -> <span style=\"--at:calc(100%*63.72/64)\">63<br>0:02:00</span>
+out -> </p></div>
+out -> </details>
 out -> <details open id=\"c1-4\">
 out -> <summary><h2>Cells 1-4, 1-3, 2-5, 3 cells</h2> messages: 0, refused: 0, fullest: 0 % at 0:00:00</summary>
 out -> <div class=\"line\"><p>Reserved load</p>
@@ -184,6 +187,25 @@ past <title>2 0020: from slot 1911 (0:59:58) to slot 1911 (0:59:58), every 2 slo
 -> yes
 out -> </title>
 past <path class=\"shown\" d=\"\"/></svg></div> -> yes
+past <p class=\"axis\"> -> yes
+out -> <span style=\"--at:calc(100%*0.00/1912)\">0<br>0:00:00</span>
+out -> <span style=\"--at:calc(100%*955.88/1912)\">955<br>0:30:00</span>
+out -> <span style=\"--at:calc(100%*1911.76/1912)\">1911<br>1:00:00</span>
+out -> </p></div>
+past </html> -> yes
+
+# a run that is a second shorter has a tick every ten minutes
+in cell,1,1
+args chart --slots 1911
+run -> 0
+past <p class=\"axis\"> -> yes
+out -> <span style=\"--at:calc(100%*0.00/1911)\">0<br>0:00:00</span>
+out -> <span style=\"--at:calc(100%*318.62/1911)\">318<br>0:10:00</span>
+out -> <span style=\"--at:calc(100%*637.25/1911)\">637<br>0:20:00</span>
+out -> <span style=\"--at:calc(100%*955.88/1911)\">955<br>0:30:00</span>
+out -> <span style=\"--at:calc(100%*1274.50/1911)\">1274<br>0:40:00</span>
+out -> <span style=\"--at:calc(100%*1593.13/1911)\">1593<br>0:50:00</span>
+out -> </p></div>
 past </html> -> yes
 
 # a cell that the book doesn't have, and a book without cells
@@ -227,5 +249,5 @@ usage -> 2 error:
 
 #[test]
 fn books_give_charts(rt: HostRuntime) -> Result<(), Fail> {
-    expect_rows(&rt, CHART, 192)
+    expect_rows(&rt, CHART, 212)
 }
