@@ -5,14 +5,16 @@ Usage: chart_check.py PROGRAM [BOOKS]            makes so many random books (20 
                                                  them a network book of up to four groups, and one by hand
        chart_check.py PROGRAM --picture FILE     writes a picture of the chart of the book by hand (PNG)
 
-Of each chart the bars, marks, refusals, texts and loads are counted and compared with the rows of `report`, with what
-`read` shows of the tapes of `compile`; the lines of the loads have to stay within the cell's room. No two sections may
-have the same contents, and the overview has to have a strip for each, with the numbers that its heading has. In the
-chart of a network each group has to hold its own cells. Chromium, where it is installed, opens each page: it has to
-find the same bars, and no element that the program didn't write, whatever the texts say; and at three widths nothing
-may be wider than the window.
+Of each chart the bars, marks, refusals, titles, texts and loads are counted and compared with the rows of `report
+--full`, with what `read` shows of the tapes of `compile`; the lines of the loads have to stay within the cell's room,
+and the ticks of the axes have to be at round times.
+No two sections may have the same contents, and the overview has to have a strip for each, with the numbers that its
+heading has. In the chart of a network each group has to hold its own cells. Chromium, where it is installed, opens each
+page: it has to find the same bars, and no element that the program didn't write, whatever the texts say; and at three
+widths nothing may be wider than the window.
 """
 import csv
+import fractions
 import html.parser
 import io
 import itertools
@@ -26,10 +28,14 @@ import tempfile
 
 from books import GROUP, Alert, Sending, cell_line, random_orders
 
+# how long a slot lasts in seconds: 8 multiframes of 51 frames of 120/26 ms
+SLOT = fractions.Fraction(8 * 51 * 120, 26 * 1000)
+# the round times in seconds at whose multiples an axis may have ticks
+STEPS = (10, 30, 60, 120, 300, 600, 1800, 3600, 7200, 14400, 21600)
 # the height of a full cell in the picture of the loads
 FULL = 1008
-ELEMENTS = set("html head meta title style body h1 h2 p nav a details summary div b i small bdi svg desc rect path span"
-               " br".split())
+ELEMENTS = set("html head meta title style body h1 h2 p nav a details summary div b i small bdi svg rect path"
+               " span br".split())
 # the most marks of a message
 MOST_MARKS = 400
 TEXTS = [
@@ -82,7 +88,9 @@ class Page(html.parser.HTMLParser):
         if tag == "details":
             self.cells.append({"id": values.get("id"), "name": "", "facts": "", "lines": []})
         if tag == "div" and kind == "line":
-            self.cells[-1]["lines"].append({"text": "", "said": "", "title": "", "number": ""})
+            self.cells[-1]["lines"].append({"text": "", "cause": "", "title": "", "number": ""})
+        if tag == "span" and "style" in values:
+            self.cells[-1]["lines"][-1].setdefault("ticks", []).append([values["style"], ""])
         if tag == "rect":
             self.cells[-1]["lines"][-1]["bar"] = (int(values["x"]), int(values["width"]))
             self.cells[-1]["lines"][-1]["kind"] = kind
@@ -104,8 +112,10 @@ class Page(html.parser.HTMLParser):
             self.cells[-1]["name" if inside == "h2" else "facts"] += text.rstrip("\n")
         elif inside == "title" and "svg" not in self.inside:
             self.title += text
-        elif inside in ("bdi", "desc", "title", "small"):
-            name = {"bdi": "text", "desc": "said", "title": "title", "small": "number"}[inside]
+        elif inside == "span" and "ticks" in self.cells[-1]["lines"][-1]:
+            self.cells[-1]["lines"][-1]["ticks"][-1][1] += text
+        elif inside in ("bdi", "span", "title", "small"):
+            name = {"bdi": "text", "span": "cause", "title": "title", "small": "number"}[inside]
             self.cells[-1]["lines"][-1][name] += text
 
 
@@ -155,19 +165,55 @@ def pace_of(row):
     return "f1"
 
 
+def clock_of(seconds):
+    return f"{seconds // 3600}:{seconds // 60 % 60:02}:{seconds % 60:02}"
+
+
+def seconds_at(slot):
+    """Returns when a slot begins, in whole seconds."""
+    return int(slot * SLOT)
+
+
+def time_of(slot):
+    return clock_of(seconds_at(slot))
+
+
+def ticks_of(slots):
+    """Returns the ticks of the axis of a run: where each stands, and the slot that is sent there, and the time."""
+    step = next(it for it in STEPS if seconds_at(slots) < 6 * it)
+    ticks = []
+    for seconds in range(0, seconds_at(slots) + 1, step):
+        place = int(100 * seconds / SLOT)
+        where = f"--at:calc(100%*{place // 100}.{place % 100:02}/{slots})"
+        ticks.append([where, f"{place // 100}{clock_of(seconds)}"])
+    return ticks
+
+
+def title_of(row, text):
+    """Returns the title of a row's picture."""
+    name, start, end = f"{row['id']} {row['serial']}", int(row["start"]), int(row["end"])
+    if row["shown"].startswith("refused"):
+        return f"{name}: refused at slot {start} ({time_of(start)}): {row['cause']} ({row['shown'][-2:]})"
+    first = row["first_shown"]
+    outcome = f"first shown after slot {first} ({time_of(int(first) + 1)})" if first else "not shown"
+    return (f"{name}: from slot {start} ({time_of(start)}) to slot {end} ({time_of(end)}), every {row['period']} "
+            f"slots, whole broadcasts: {row['completed']}, {outcome}\n{text}")
+
+
 def expected(rows, shown):
-    """Returns by cell what the lines of its rows have to be: a bar, its marks and its text, or a refusal."""
+    """Returns by cell what the lines of its rows have to be: a title, and a bar, its marks and its text, or a
+    refusal."""
     cells = {}
     for row in rows:
         cell = f"Cell {row['lac']}-{row['ci']}"
         start, end = int(row["start"]), int(row["end"])
-        pace = pace_of(row)
-        title = f"{row['id']} {row['serial']}"
+        text = shown.get((row["lac"], row["ci"], row["id"], row["serial"]), "")
+        title = title_of(row, text)
         if row["shown"].startswith("refused"):
-            line = (title, "refusal", start, row["shown"][-2:])
+            line = (title, "refusal", start, f"refused: {row['cause']} ({row['shown'][-2:]})")
         else:
-            text = shown.get((row["lac"], row["ci"], row["id"], row["serial"]), "")
-            line = (title, (start, max(0, end - start)), pace, int(row["completed"]), text)
+            first = int(row["first_shown"]) + 1 if row["first_shown"] else None
+            line = (title, (start, max(0, end - start)), pace_of(row), int(row["completed"]), first, text)
         cells.setdefault(cell, []).append(line)
     return cells
 
@@ -182,6 +228,12 @@ def broadcasts_of(line):
     return int(said[1]) if is_many else None
 
 
+def first_mark_of(line):
+    """Returns the slot of the mark where a phone shows a message first, or None if there is none."""
+    mark = re.fullmatch(r"M(\d+) 0v6|", line["shown"])
+    return int(mark[1]) if mark[1] else None
+
+
 def found(page):
     """Returns the same of a page."""
     cells = {}
@@ -190,11 +242,10 @@ def found(page):
         for line in cell["lines"]:
             if "bar" in line:
                 pace = line["kind"].removeprefix("bar ").removesuffix(" many")
-                lines.append((line["title"], line["bar"], pace, broadcasts_of(line), line["text"]))
+                lines.append((line["title"], line["bar"], pace, broadcasts_of(line), first_mark_of(line), line["text"]))
             elif "refusal" in line:
                 slot = re.fullmatch(r"M(\d+) 0v10", line["refusal"])[1]
-                cause = re.search(r"\((..)\)$", line["said"])[1]
-                lines.append((line["title"], "refusal", int(slot), cause))
+                lines.append((line["title"], "refusal", int(slot), line["cause"]))
         if lines:
             cells.update((name, lines) for name in names_of(cell["name"]))
     return cells
@@ -212,18 +263,17 @@ def wrong_facts(page):
     """Yields what is wrong with the headings and the overview."""
     if len(page.cells) != len({(it["group"], it["contents"]) for it in page.cells}):
         yield "two sections have the same contents"
-    pattern = r" messages: (\d+), refused: (\d+), fullest: ((\d+) % at (\d+)\.(\d) min)"
+    pattern = r" messages: (\d+), refused: (\d+), fullest: ((\d+) % at (\d+:\d\d:\d\d))"
     of_group = [cells for _, cells in page.groups] or [[it for each in page.cells for it in names_of(each["name"])]]
     for section in page.cells:
         facts = re.fullmatch(pattern, section["facts"])
         lines = section["lines"]
         share, slot = fullest_of(next(it["load"] for it in lines if "load" in it))
-        tenths = slot * 102 // 325
         counts = [sum(kind in it for it in lines) for kind in ("bar", "refusal")]
         if not facts or [int(facts[1]), int(facts[2])] != counts:
             yield f"{section['name']}: {section['facts']} isn't of {counts} messages and refusals"
-        elif int(facts[4]) not in (share, share + 1) or int(facts[5]) * 10 + int(facts[6]) != tenths:
-            yield f"{section['name']}: {facts[3]} isn't {share} % at slot {slot}"
+        elif int(facts[4]) not in (share, share + 1) or facts[5] != time_of(slot):
+            yield f"{section['name']}: {facts[3]} isn't {share} % at slot {slot}, {time_of(slot)}"
         strips = [it for it in page.strips if it["to"] == f"#{section['id']}"]
         first, *more = names_of(section["name"])
         name = first.removeprefix("Cell ") + (f" and {len(more)} more" if more else "")
@@ -259,6 +309,14 @@ def wrong_loads(page, slots):
             yield f"{cell['name']}: {line} isn't a line over {slots} slots"
         if any(height > FULL for _, height in steps) or steps != sorted(set(steps)):
             yield f"{cell['name']}: {line} leaves the picture"
+
+
+def wrong_axes(page, slots):
+    """Yields where the axis of a section isn't that of a run of so many slots."""
+    for cell in page.cells:
+        ticks = cell["lines"][-1].get("ticks")
+        if ticks != ticks_of(slots):
+            yield f"{cell['name']} has the ticks {ticks}, a run of {slots} slots {ticks_of(slots)}"
 
 
 def dom_of(browser, path, *more):
@@ -298,6 +356,8 @@ def differences(program, browser, book, options, slots=SLOTS_BY_HAND):
                 file.write(chart)
             pages.append(("the browser", Page(dom_of(browser, path))))
             yield from too_wide(browser, path)
+    if f"<p>A run of {slots} slots of 1.883 s, {time_of(slots)} (h:mm:ss).</p>" not in chart.decode():
+        yield f"the chart doesn't say that {slots} slots are {time_of(slots)}"
     for name, page in pages:
         if found(page) != wanted:
             yield f"{name} has {found(page)}, the report {wanted}"
@@ -308,6 +368,7 @@ def differences(program, browser, book, options, slots=SLOTS_BY_HAND):
         if page.title != "Warnings by cell":
             yield f"{name} has the title {page.title}"
         yield from wrong_loads(page, slots)
+        yield from wrong_axes(page, slots)
         yield from wrong_facts(page)
 
 

@@ -1,3 +1,4 @@
+mod AxisLaws
 mod EscapeLaws
 mod KeptLaws
 mod LoadLaws
@@ -5,3 +6,4 @@ mod MarkLaws
 mod RangeLaws
 mod SectionLaws
 pub mod SomeChart
+mod Worked

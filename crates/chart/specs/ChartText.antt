@@ -1,6 +1,6 @@
 -- The chart of a run: one page in HTML that stands alone (own). What is fixed in it are constants of the code; what is
 -- said here is what stands between them, and in which order.
-use Rattle.std.specs.Prelude.{ℕ, ◌-◌, ◌==◌, ◌&&◌, Bool, true, if◌then◌else◌, Option, Some, None, List}
+use Rattle.std.specs.Prelude.{ℕ, ◌+◌, ◌-◌, ◌==◌, ◌&&◌, Bool, true, if◌then◌else◌, Option, Some, None, List}
 use Rattle.std.specs.Prelude.{[], ◌∷◌, ◌++◌}
 use Rattle.std.specs.Fmt.{decimal}
 use Rattle.std.specs.List.{flat_map}
@@ -32,8 +32,8 @@ use Rattle.chart.specs.Escape.{escaped}
 use Rattle.chart.specs.Facts.{facts_of, facts_text, fullest_text}
 use Rattle.chart.specs.Load.{load_line, loads_in}
 use Rattle.chart.specs.Panels.{sections_text}
-use Rattle.chart.specs.Time.{axis, minutes_text}
-use Rattle.chart.specs.Message.{are_many, category_words, drawn_marks, pace_text, text_shown}
+use Rattle.chart.specs.Time.{axis, slot_text, time_in_brackets, time_text}
+use Rattle.chart.specs.Message.{are_many, category_words, drawn_marks, first_mark, pace_text, period_of, text_shown}
 
 -- the name of what a row is of: its identifier, and its serial number in hexadecimal
 unfoldable pub name_text : Row → List ℕ
@@ -43,16 +43,29 @@ name_text row = decimal row.id ++ lines.SPACE.now ++ serial_text row.serial
 unfoldable pub cause_text : ℕ → List ℕ
 cause_text number = cause_words number ++ causes.NUMBER.now ++ encode_lower (number ∷ []) ++ causes.NUMBER_END.now
 
--- the front of a row's picture, as wide as the run has slots: the name is its title
+-- the front of a row's picture, as wide as the run has slots, up to the name in its title
 unfoldable pub picture_front : (slots : ℕ) → Row → List ℕ
-picture_front slots row = lines.PICTURE.now ++ decimal slots ++ lines.TITLE.now ++ name_text row ++ lines.TITLE_END.now
+picture_front slots row = lines.PICTURE.now ++ decimal slots ++ lines.TITLE.now ++ name_text row
 
--- what a screen reader says of an accepted message: from when to when it stood, how many broadcasts were whole, and
--- whether a phone shows it
-unfoldable pub description : Row → (outcome : List ℕ) → List ℕ
-description row outcome =
-    lines.FROM.now ++ decimal row.start ++ lines.TO.now ++ decimal row.end ++ lines.WHOLE.now ++ decimal row.completed
-    ++ outcome
+-- from when to when an accepted message stood, and how often it was to be sent
+unfoldable pub standing_text : Row → List ℕ
+standing_text row =
+    lines.FROM.now ++ slot_text row.start ++ lines.TO.now ++ slot_text row.end ++ lines.EVERY.now
+    ++ decimal (period_of row.demand)
+
+-- after which slot a phone shows it first, with the time at which that slot is over, or that none does
+unfoldable pub shown_after : (slot : ℕ) → List ℕ
+shown_after slot = lines.SHOWN.now ++ decimal slot ++ time_in_brackets (slot + 1)
+
+abbrev pub first_text : (first : Option ℕ) → List ℕ
+first_text None = lines.NOT_SHOWN.now
+first_text (Some slot) = shown_after slot
+
+-- what its title says: these, with the number of its whole broadcasts between them, and all of its text
+unfoldable pub message_title : Row → (text : List ℕ) → List ℕ
+message_title row text =
+    standing_text row ++ lines.WHOLE.now ++ decimal row.completed ++ first_text row.first_shown ++ lines.ALL_TEXT.now
+    ++ escaped text
 
 -- its bar, from its start to its end, in slots; none where it never started. Its class says how often it is broadcast,
 -- and whether its broadcasts are too many for marks
@@ -82,21 +95,25 @@ unfoldable pub message_front : Row → Option Accepted → (text : List ℕ) →
 message_front row found text =
     message_name row found ++ many_text row.completed ++ lines.TEXT.now ++ escaped text ++ lines.TEXT_END.now
 
+-- the end of its line, with the mark where a phone shows it first
+unfoldable pub message_end : (first : Option ℕ) → List ℕ
+message_end first = lines.MARKS_END.now ++ first_mark first ++ lines.LINE_END.now
+
 -- the line of an accepted message: what is said of it, and its picture, a bar with a mark for each whole broadcast, or
 -- without marks where those are too many
-abbrev pub message_line : Record → Row → Option Accepted → (text outcome : List ℕ) → List ℕ
-message_line r row found text outcome =
-    message_front row found text ++ picture_front r.slots row ++ description row outcome ++ bar row
-    ++ drawn_marks row.completed r.slots r.air found ++ lines.LINE_END.now
+abbrev pub message_line : Record → Row → Option Accepted → (text : List ℕ) → List ℕ
+message_line r row found text =
+    message_front row found text ++ picture_front r.slots row ++ message_title row text ++ bar row
+    ++ drawn_marks row.completed r.slots r.air found ++ message_end row.first_shown
 
--- what a screen reader says of a refused order
-unfoldable pub refusal_description : Row → (number : ℕ) → List ℕ
-refusal_description row number = lines.REFUSED_AT.now ++ decimal row.start ++ lines.COLON.now ++ cause_text number
+-- what the title says of a refused order: when, and why
+unfoldable pub refusal_title : Row → (number : ℕ) → List ℕ
+refusal_title row number = lines.REFUSED_AT.now ++ slot_text row.start ++ lines.COLON.now ++ cause_text number
 
 -- its picture: a mark at the slot of the answer
 unfoldable pub refusal_picture : (slots : ℕ) → Row → (number : ℕ) → List ℕ
 refusal_picture slots row number =
-    picture_front slots row ++ refusal_description row number ++ lines.REFUSAL.now ++ decimal row.start
+    picture_front slots row ++ refusal_title row number ++ lines.REFUSAL.now ++ decimal row.start
     ++ lines.REFUSAL_END.now
 
 -- what is said of a refused order: its name, and the cause
@@ -111,9 +128,9 @@ refusal_line slots row number = refusal_front row number ++ refusal_picture slot
 -- the line of a row
 abbrev pub line_by : Record → List ShownMessage → Row → Showing → List ℕ
 line_by r shown row shown_status.Yes =
-    message_line r row (accepted_named row.id row.serial r.log) (text_shown shown row.id row.serial) lines.SHOWN.now
+    message_line r row (accepted_named row.id row.serial r.log) (text_shown shown row.id row.serial)
 line_by r shown row shown_status.No =
-    message_line r row (accepted_named row.id row.serial r.log) (text_shown shown row.id row.serial) lines.NOT_SHOWN.now
+    message_line r row (accepted_named row.id row.serial r.log) (text_shown shown row.id row.serial)
 line_by r shown row (shown_status.Refused number) = refusal_line r.slots row number
 
 abbrev pub line_of : Record → List ShownMessage → Row → List ℕ
@@ -194,7 +211,7 @@ introduction = charts.INTRODUCTION.now
 -- the front of the page, which says how long the runs are
 unfoldable pub chart_front : (slots : ℕ) → List ℕ
 chart_front slots =
-    head ++ decimal slots ++ charts.SLOTS.now ++ minutes_text slots ++ introduction
+    head ++ decimal slots ++ charts.SLOTS.now ++ time_text slots ++ introduction
 
 -- the chart of records, and of what handsets read of their blocks
 abbrev pub chart_text : (slots : ℕ) → Option Cell → List Record → List TapeReading → List ℕ

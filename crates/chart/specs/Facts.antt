@@ -10,7 +10,7 @@ use Rattle.report.specs.declared.row.Showing.{Showing}
 use Rattle.report.specs.declared.row.Showing.TheVariants as shown_status
 use Rattle.chart.specs.declared.facts.Facts.{Facts}
 use Rattle.chart.specs.declared.facts.TheConstants as texts
-use Rattle.chart.specs.Time.{minutes_text}
+use Rattle.chart.specs.Time.{time_text}
 
 -- whether a row is of a refused order
 abbrev pub is_refusal_by : Showing → Bool
@@ -45,7 +45,7 @@ hundredths load = div_ceil (load * 100) SCALE
 -- how full a cell gets, and when
 unfoldable pub fullest_text : Facts → List ℕ
 fullest_text facts =
-    decimal (hundredths facts.most) ++ texts.SHARE_END.now ++ minutes_text facts.slot ++ texts.TIME_END.now
+    decimal (hundredths facts.most) ++ texts.SHARE_END.now ++ time_text facts.slot
 
 -- what counts of it in words
 unfoldable pub facts_text : Facts → List ℕ

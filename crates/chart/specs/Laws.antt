@@ -1,5 +1,5 @@
--- What the marks, the loads and the sections of a chart promise (own).
-use Rattle.std.specs.Prelude.{◌≡◌, ◌↔◌, ℕ, ◌-◌, ◌*◌, ◌≤◌, true, All, List, count_by, if◌then◌else◌, nat_le}
+-- What the marks, the loads, the sections and the axis of a chart promise (own).
+use Rattle.std.specs.Prelude.{◌≡◌, ◌↔◌, ℕ, ◌-◌, ◌*◌, ◌<◌, ◌≤◌, true, All, List, count_by, if◌then◌else◌, nat_le}
 use Rattle.std.specs.List.{range_with_len}
 use Rattle.admission.specs.declared.measure.TheConstants.{SCALE}
 use Rattle.scheduler.specs.Air.{Air}
@@ -14,6 +14,8 @@ use Rattle.chart.specs.Message.{are_many, end_within, is_marked}
 use Rattle.chart.specs.Panels.{is_like}
 use Rattle.chart.specs.declared.panel.Panel.{Panel}
 use Rattle.chart.specs.declared.load.TheConstants.{LOAD_HEIGHT, LOAD_STEP}
+use Rattle.chart.specs.declared.time.TheConstants.{MOST_TICKS}
+use Rattle.chart.specs.Time.{seconds_at, step_of}
 
 -- how many marks a message has
 abbrev pub number_of_marks : (slots : ℕ) → Air → ScheduledMessage → ℕ
@@ -41,3 +43,7 @@ HeightsAreOfLoads = (LOAD_HEIGHT * LOAD_STEP ≡ SCALE) × (height_of SCALE ≡ 
 -- cells have one section exactly if what stands in theirs is the same, octet by octet
 abbrev pub LikeAreTheSame : Type 0
 LikeAreTheSame = (p other : Panel) → (is_like p other ≡ true) ↔ (other.contents ≡ p.contents)
+
+-- an axis has a tick at each multiple of its step that the run lasts: one more than it may have would come later
+abbrev pub TicksReachTheEnd : Type 0
+TicksReachTheEnd = (slots : ℕ) → slots < 65536 → seconds_at slots < MOST_TICKS * step_of (seconds_at slots)

@@ -12,8 +12,10 @@ use Rattle.scheduler.specs.declared.plan.Rank.TheVariants as ranks
 use Rattle.bsc_table.specs.Claim.{end_of}
 use Rattle.bsc_table.specs.Record.{Accepted}
 use Rattle.handset.specs.Reception.{ShownMessage}
+use Rattle.report.specs.declared.row.Demand.{Demand}
 use Rattle.report.specs.declared.row.Row.{Row}
 use Rattle.chart.specs.declared.message.TheConstants.{HIGH, NORMAL, BACKGROUND, MARK, MARK_END, MOST_MARKS}
+use Rattle.chart.specs.declared.message.TheConstants.{FIRST_END}
 use Rattle.chart.specs.declared.message.TheConstants.{EVERY_15_S, EVERY_30_S, EVERY_MINUTE, EVERY_2_MINUTES, RARER}
 
 -- the text that a handset shows of a message of this identifier and serial number, if it shows one
@@ -55,11 +57,23 @@ are_many whole = nat_lt MOST_MARKS whole
 abbrev pub drawn_marks : (whole slots : ℕ) → Air → Option Accepted → List ℕ
 drawn_marks whole slots air found = if are_many whole then [] else marks_of slots air found
 
+-- the mark where a phone shows a message first: at the end of the slot after whose blocks it does
+unfoldable pub first_mark_after : (slot : ℕ) → List ℕ
+first_mark_after slot = MARK.now ++ decimal (slot + 1) ++ FIRST_END.now
+
+abbrev pub first_mark : (first : Option ℕ) → List ℕ
+first_mark None = []
+first_mark (Some slot) = first_mark_after slot
+
+-- its period in slots; 0 of what has none
+abbrev pub period_of : Option Demand → ℕ
+period_of demand = option_map_or (λ demand. demand.period) demand 0
+
 -- whether a message is broadcast every so many slots, or more often: its period is no longer, and its whole broadcasts
 -- are no fewer from its start to its end, but for a last one
 abbrev pub is_every : (slots : ℕ) → Row → Bool
 is_every slots row =
-    nat_lt 0 row.completed && nat_le (option_map_or (λ demand. demand.period) row.demand 0) slots
+    nat_lt 0 row.completed && nat_le (period_of row.demand) slots
     && nat_le (row.end - row.start) (slots * (row.completed + 1))
 
 -- how often it is, in steps of about 15 s, 30 s, a minute and two minutes; a slot lasts 1.883 s

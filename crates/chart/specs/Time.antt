@@ -1,19 +1,67 @@
--- Slots in minutes, and the axis under a cell's lines (own).
-use Rattle.std.specs.Prelude.{ℕ, ◌*◌, ◌/◌, ◌%◌, List, ◌++◌}
+-- The times of slots, and the axis under a cell's lines (own).
+use Rattle.std.specs.Prelude.{ℕ, ◌*◌, ◌/◌, ◌%◌, Bool, nat_le, nat_lt, if◌then◌else◌, List, [], ◌++◌}
 use Rattle.std.specs.Fmt.{decimal}
+use Rattle.std.specs.List.{flat_map, range_with_len}
 use Rattle.chart.specs.declared.time.TheConstants as times
 
--- the time of a slot in minutes, to the tenth: a slot lasts 8 * 51 frames of 120/26 ms (3GPP TS 45.002)
-unfoldable pub minutes_text : ℕ → List ℕ
-minutes_text slot =
-    let tenths = slot * 102 / 325 in decimal (tenths / 10) ++ times.POINT.now ++ decimal (tenths % 10)
+-- a number below 100 in two digits
+unfoldable pub two_digits : ℕ → List ℕ
+two_digits number = decimal (number / 10) ++ decimal (number % 10)
 
--- the axis: the slots at each quarter of the run, and their times
-unfoldable pub tick : (slot : ℕ) → List ℕ
-tick slot = times.TICK.now ++ decimal slot ++ times.AT.now ++ minutes_text slot ++ times.TICK_END.now
+-- so many seconds in hours, minutes and seconds, as 1:05:09
+unfoldable pub clock_text : (seconds : ℕ) → List ℕ
+clock_text seconds =
+    decimal (seconds / 3600) ++ times.COLON.now ++ two_digits (seconds / 60 % 60) ++ times.COLON.now
+    ++ two_digits (seconds % 60)
+
+-- when a slot begins, cut down to whole seconds: a slot lasts 8 * 51 frames of 120/26 ms (3GPP TS 45.002), which are
+-- 24480/13 ms
+abbrev pub seconds_at : (slot : ℕ) → ℕ
+seconds_at slot = slot * 24480 / 13000
+
+unfoldable pub time_text : (slot : ℕ) → List ℕ
+time_text slot = clock_text (seconds_at slot)
+
+-- that time in brackets, and a slot with it
+unfoldable pub time_in_brackets : (slot : ℕ) → List ℕ
+time_in_brackets slot = times.BRACKET.now ++ time_text slot ++ times.BRACKET_END.now
+
+unfoldable pub slot_text : (slot : ℕ) → List ℕ
+slot_text slot = decimal slot ++ time_in_brackets slot
+
+-- the axis has a tick at each multiple of a round step: at the first of these of which a run lasts less than six
+abbrev pub has_few : (step seconds : ℕ) → Bool
+has_few step seconds = nat_lt seconds (step * 6)
+
+abbrev pub step_of : (seconds : ℕ) → ℕ
+step_of seconds =
+    if has_few 10 seconds then 10 else if has_few 30 seconds then 30 else if has_few 60 seconds then 60
+    else if has_few 120 seconds then 120 else if has_few 300 seconds then 300 else if has_few 600 seconds then 600
+    else if has_few 1800 seconds then 1800 else if has_few 3600 seconds then 3600
+    else if has_few 7200 seconds then 7200 else if has_few 14400 seconds then 14400 else 21600
+
+-- where a time stands on the axis, in hundredths of a slot, and that in slots
+abbrev pub place_of : (seconds : ℕ) → ℕ
+place_of seconds = seconds * 1300000 / 24480
+
+unfoldable pub place_text : (place : ℕ) → List ℕ
+place_text place = decimal (place / 100) ++ times.POINT.now ++ two_digits (place % 100)
+
+-- a tick: where it stands, of how many slots, and then the slot that is on the air there, and the time
+unfoldable pub tick_front : (slots place : ℕ) → List ℕ
+tick_front slots place = times.TICK.now ++ place_text place ++ times.OF.now ++ decimal slots ++ times.TICK_PLACED.now
+
+unfoldable pub tick : (slots seconds : ℕ) → List ℕ
+tick slots seconds =
+    tick_front slots (place_of seconds) ++ decimal (place_of seconds / 100) ++ times.AT.now ++ clock_text seconds
+    ++ times.TICK_END.now
+
+-- it is within the run
+abbrev pub tick_within : (slots step number : ℕ) → List ℕ
+tick_within slots step number = if nat_le (number * step) (seconds_at slots) then tick slots (number * step) else []
 
 unfoldable pub ticks : (slots : ℕ) → List ℕ
-ticks slots = tick 0 ++ tick (slots / 4) ++ tick (slots / 2) ++ tick (slots * 3 / 4) ++ tick slots
+ticks slots = flat_map (tick_within slots (step_of (seconds_at slots))) (range_with_len 0 times.MOST_TICKS)
 
 unfoldable pub axis : (slots : ℕ) → List ℕ
 axis slots = times.AXIS.now ++ ticks slots ++ times.AXIS_END.now

@@ -13,7 +13,7 @@ use crate::cell::panel_of;
 use crate::page::Page;
 use crate::panel::Panel;
 use crate::section::push_all;
-use crate::time::push_minutes;
+use crate::time::push_time;
 use bsc_table::CellRecord;
 use cbsp_wire::Cell;
 use device_ends::{Failed, Sink, write_all};
@@ -33,11 +33,11 @@ pub const HEAD: &str = r#"<!DOCTYPE html>
 <style>
 :root{color-scheme:light dark;--ground:#fff;--text:#1a1a1a;--faint:#666;--lane:#eef1f4}
 :root{--f1:#6288b5;--f2:#456f9f;--f3:#2a5588;--f4:#143c6a;--f5:#061d38;--load:#5e7688;--refusal:#b3261e}
-:root{--mark:rgb(0 0 0/.3);--pale:rgb(255 255 255/.25)}
+:root{--mark:rgb(0 0 0/.3);--pale:rgb(255 255 255/.25);--first:#fe5}
 @media(prefers-color-scheme:dark){
 :root{--ground:#15181c;--text:#e6e6e6;--faint:#a0a6ac;--lane:#262c33}
 :root{--f1:#5c7fa9;--f2:#7398c5;--f3:#8fb3dc;--f4:#b0cfef;--f5:#d9e9fa;--load:#7f95a6;--refusal:#ff8a80}
-:root{--mark:rgb(255 255 255/.3);--pale:rgb(0 0 0/.25)}
+:root{--mark:rgb(255 255 255/.3);--pale:rgb(0 0 0/.25);--first:#201400}
 }
 body{background:var(--ground);color:var(--text);font:15px/1.4 system-ui,sans-serif;margin:1.5em}
 summary{color:var(--faint);cursor:pointer;margin:.8em 0 .4em}
@@ -65,19 +65,21 @@ nav .loads{border-top-width:1px;height:1.4em}
 .f1.many,.f2.many{fill:var(--f3)}
 .whole{stroke:var(--mark)}
 .f5~.whole{stroke:var(--pale)}
+.shown{stroke:var(--first);stroke-width:4px}
 .pace b{display:inline-block;height:.8em;margin:0 .3em 0 .6em;width:1.6em}
 .refusal{stroke:var(--refusal);stroke-width:4px}
-.line .axis{color:var(--faint);font-size:.85em;justify-content:space-between;overflow:visible}
-.axis span{width:0}
-.axis span:last-child{margin-left:-5em;text-align:right;width:5em}
+.line .axis{color:var(--faint);display:block;font-size:.85em;height:3.2em;overflow:visible;position:relative}
+.axis span{left:var(--at);padding-top:.3em;position:absolute;text-align:center;transform:translateX(calc(-1*var(--at)))}
+.axis span::before{border-left:1px solid;content:"";height:.4em;left:var(--at);position:absolute;top:0}
 @media(max-width:46em){
 body{margin:1em}
 nav a{gap:.1em .5em;grid-template-columns:1fr auto;margin:.2em 0}
 nav .loads{grid-column:1/3;grid-row:2}
 .line{gap:.1em;grid-template-columns:minmax(0,1fr);margin:.5em 0}
 .line p{flex-wrap:wrap;gap:0 .3em}
-.line p.axis{flex-wrap:nowrap;font-size:.75em}
+.line p.axis{font-size:.75em}
 .line bdi,.cause{flex-basis:100%}
+.cause{white-space:normal}
 }
 @media print{
 :root{--lane:#fff}
@@ -96,12 +98,12 @@ svg{border:1px solid var(--faint);print-color-adjust:exact;-webkit-print-color-a
 pub const SLOTS: &str = " slots of 1.883 s, ";
 
 /// What comes after their time.
-pub const INTRODUCTION: &str = r#" minutes.</p>
+pub const INTRODUCTION: &str = r#" (h:mm:ss).</p>
 <p class="pace">A message is sent every <b class="f5"></b>15 s <b class="f4"></b>30 s <b class="f3"></b>minute
 <b class="f2"></b>2 minutes <b class="f1"></b>or less often</p>
 <p>A bar is a message from its start to its end, with a mark wherever a broadcast of it is whole, or with their number
-if there are over 400; a red mark is a refused order. Below is the load that the cell has reserved: at the red edge it
-is full.</p>
+if there are over 400. At the short thick mark a phone shows it first. A red mark is a refused order. Below is the load
+that the cell has reserved: at the red edge it is full.</p>
 "#;
 
 /// The end of the page.
@@ -220,7 +222,7 @@ fn push_front(page: &mut Page, slots: u16) -> Result<(), AllocError>
     push_head(page)?;
     page.number(u64::from(slots))?;
     page.markup(SLOTS)?;
-    push_minutes(page, u32::from(slots))?;
+    push_time(page, u32::from(slots))?;
     push_introduction(page)
 }
 

@@ -7,7 +7,7 @@ ghost use Rattle.admission.specs.declared.measure.TheConstants.{SCALE};
 ghost use Rattle.chart.specs.Facts.{facts_of, facts_text, fullest_text, hundredths, is_refusal, most_of};
 
 use crate::page::Page;
-use crate::time::push_minutes;
+use crate::time::push_time;
 use admission::SCALE;
 use report::{Row, Showing};
 use std::alloc::AllocError;
@@ -23,9 +23,6 @@ pub const FULLEST: &str = ", fullest: ";
 
 /// Between the share of the cell and when it is taken.
 pub const SHARE_END: &str = " % at ";
-
-/// What comes after the time.
-pub const TIME_END: &str = " min";
 
 /// What counts of a cell.
 #[derive(Clone, Copy, Debug, PartialEq, Eq)]
@@ -118,8 +115,7 @@ pub(crate) fn push_fullest(page: &mut Page, facts: Facts) -> Result<(), AllocErr
 {
     page.number(hundredths(facts.most))?;
     page.markup(SHARE_END)?;
-    push_minutes(page, u32::from(facts.slot))?;
-    page.markup(TIME_END)
+    push_time(page, u32::from(facts.slot))
 }
 
 /// Appends what counts of a cell.

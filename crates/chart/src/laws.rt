@@ -1,10 +1,10 @@
 //! Laws of a chart.
 
 ghost use Rattle.chart.specs.Escape.{EscapedIsPlain};
-ghost use Rattle.chart.specs.Laws.{HeightsAreOfLoads, LikeAreTheSame, MarksAreCompleted};
+ghost use Rattle.chart.specs.Laws.{HeightsAreOfLoads, LikeAreTheSame, MarksAreCompleted, TicksReachTheEnd};
 
-/// States, as its contract, what texts, marks, loads and sections are in a page. Does nothing: its body names the laws
-/// that carry it.
+/// States, as its contract, what texts, marks, loads, sections and axes are in a page. Does nothing: its body names the
+/// laws that carry it.
 pub fn chart_laws()
     // No text begins or ends a tag, or the value of an attribute.
     ensures escaped { EscapedIsPlain }
@@ -17,6 +17,9 @@ pub fn chart_laws()
 
     // Cells have one section exactly if what stands in theirs is the same.
     ensures sections { LikeAreTheSame }
+
+    // An axis has all ticks that the run lasts.
+    ensures ticks { TicksReachTheEnd }
 {
     bsc_table::guarantee();
     bsc_table::legal_histories();

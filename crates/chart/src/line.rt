@@ -7,14 +7,18 @@ ghost use Rattle.chart.specs.Message.{text_shown};
 ghost use Rattle.chart.specs.Kept.{accepted_kept};
 ghost use Rattle.std.specs.Option.{option_map};
 ghost use Rattle.handset.specs.Keeping.{messages_shown};
-ghost use Rattle.chart.specs.ChartText.{bar, bar_front, description, line_of, many_class, many_text, message_front};
-ghost use Rattle.chart.specs.ChartText.{message_line, message_name, name_text, number_text, picture_front};
-ghost use Rattle.chart.specs.ChartText.{refusal_description, refusal_front, refusal_line, refusal_picture};
+ghost use Rattle.chart.specs.ChartText.{bar, bar_front, first_text, line_of, many_class, many_text, message_end};
+ghost use Rattle.chart.specs.ChartText.{message_front, message_line, message_name, message_title, name_text};
+ghost use Rattle.chart.specs.ChartText.{number_text, picture_front, refusal_front, refusal_line, refusal_picture};
+ghost use Rattle.chart.specs.ChartText.{refusal_title, shown_after, standing_text};
 
 use crate::cause::push_cause;
 use crate::kept::{KeptMessage, named};
-use crate::message::{are_many, category_words, pace, push_drawn_marks, text_shown};
+use crate::message::{
+    are_many, category_words, pace, period_of, push_drawn_marks, push_first_mark, text_shown,
+};
 use crate::page::Page;
+use crate::time::{push_slot, push_time_in_brackets};
 use bsc_table::CellRecord;
 use handset::Shown;
 use report::{Row, Showing};
@@ -56,26 +60,29 @@ pub const PICTURE: &str = "<svg viewBox=\"0 0 ";
 /// What comes before its title.
 pub const TITLE: &str = " 10\" preserveAspectRatio=\"none\" role=\"img\"><title>";
 
-/// What comes after its title.
-pub const TITLE_END: &str = "</title>\n<desc>";
-
 /// What comes before a message's start.
-pub const FROM: &str = "from slot ";
+pub const FROM: &str = ": from slot ";
 
 /// What comes before its end.
 pub const TO: &str = " to slot ";
 
+/// What comes before its period.
+pub const EVERY: &str = ", every ";
+
 /// What comes before the number of its whole broadcasts.
-pub const WHOLE: &str = ", whole broadcasts: ";
+pub const WHOLE: &str = " slots, whole broadcasts: ";
 
-/// What comes after that number, where phones show the message.
-pub const SHOWN: &str = ", shown";
+/// What comes before the slot after which a phone shows it first.
+pub const SHOWN: &str = ", first shown after slot ";
 
-/// The same where they don't.
+/// What stands there if none shows it.
 pub const NOT_SHOWN: &str = ", not shown";
 
+/// What comes before all of its text.
+pub const ALL_TEXT: &str = "\n";
+
 /// The front of the bar, up to its classes.
-pub const BAR: &str = "</desc>\n<rect class=\"bar";
+pub const BAR: &str = "</title>\n<rect class=\"bar";
 
 /// Its class where the broadcasts are too many for marks.
 pub const MANY: &str = " many";
@@ -89,17 +96,20 @@ pub const WIDTH: &str = "\" width=\"";
 /// What comes after the bar, up to the marks.
 pub const BAR_END: &str = "\"/>\n<path class=\"whole\" d=\"";
 
+/// What comes after the marks, up to the one where a phone shows the message first.
+pub const MARKS_END: &str = "\"/>\n<path class=\"shown\" d=\"";
+
 /// The end of a line.
 pub const LINE_END: &str = "\"/></svg></div>\n";
 
 /// What comes before the slot of a refusal.
-pub const REFUSED_AT: &str = "refused at slot ";
+pub const REFUSED_AT: &str = ": refused at slot ";
 
 /// What comes before its cause.
 pub const COLON: &str = ": ";
 
 /// The front of its mark, up to the slot.
-pub const REFUSAL: &str = "</desc>\n<path class=\"refusal\" d=\"M";
+pub const REFUSAL: &str = "</title>\n<path class=\"refusal\" d=\"M";
 
 /// The end of its mark and of the line.
 pub const REFUSAL_END: &str = " 0v10\"/></svg></div>\n";
@@ -114,7 +124,7 @@ fn push_name(page: &mut Page, row: &Row) -> Result<(), AllocError>
     page.digits(row.serial.number().to_be_bytes().as_slice())
 }
 
-/// Appends the front of a row's picture.
+/// Appends the front of a row's picture, up to its name in the title.
 #[tactic(auto, unfolding(crate::specs::ChartText::picture_front))]
 fn push_picture_front(page: &mut Page, slots: u16, row: &Row) -> Result<(), AllocError>
     ensures { OnOk result (page.new ≡ page.old ++ picture_front slots row.now) }
@@ -122,22 +132,54 @@ fn push_picture_front(page: &mut Page, slots: u16, row: &Row) -> Result<(), Allo
     page.markup(PICTURE)?;
     page.number(u64::from(slots))?;
     page.markup(TITLE)?;
-    push_name(page, row)?;
-    page.markup(TITLE_END)
+    push_name(page, row)
 }
 
-/// Appends the description of an accepted message's picture.
-#[tactic(auto, unfolding(crate::specs::ChartText::description))]
-fn push_description(page: &mut Page, row: &Row, outcome: &'static str) -> Result<(), AllocError>
-    ensures { OnOk result (page.new ≡ page.old ++ description row.now outcome.now) }
+/// Appends from when to when an accepted message stands, and how often it is to be sent.
+#[tactic(auto, unfolding(crate::specs::ChartText::standing_text))]
+fn push_standing(page: &mut Page, row: &Row) -> Result<(), AllocError>
+    ensures { OnOk result (page.new ≡ page.old ++ standing_text row.now) }
 {
     page.markup(FROM)?;
-    page.number(u64::from(row.start))?;
+    push_slot(page, row.start)?;
     page.markup(TO)?;
-    page.number(u64::from(row.end))?;
+    push_slot(page, u32::from(row.end))?;
+    page.markup(EVERY)?;
+    page.number(u64::from(period_of(row.demand)))
+}
+
+/// Appends after which slot a phone shows a message first, or that none does.
+fn push_first(page: &mut Page, first: Option<u16>) -> Result<(), AllocError>
+    ensures { OnOk result (page.new ≡ page.old ++ first_text first) }
+{
+    match first {
+        None => page.markup(NOT_SHOWN),
+        Some(slot) => push_shown_after(page, slot),
+    }
+}
+
+/// Appends the slot after which a phone shows a message first, and when it is over.
+#[tactic(auto, unfolding(crate::specs::ChartText::shown_after))]
+fn push_shown_after(page: &mut Page, slot: u16) -> Result<(), AllocError>
+    ensures { OnOk result (page.new ≡ page.old ++ shown_after slot) }
+{
+    page.markup(SHOWN)?;
+    page.number(u64::from(slot))?;
+    push_time_in_brackets(page, u32::from(slot) + 1)
+}
+
+/// Appends what the title says of an accepted message after its name. The text comes last, since browsers cut long
+/// titles.
+#[tactic(auto, unfolding(crate::specs::ChartText::message_title))]
+fn push_message_title(page: &mut Page, row: &Row, all_text: &str) -> Result<(), AllocError>
+    ensures { OnOk result (page.new ≡ page.old ++ message_title row.now all_text.now) }
+{
+    push_standing(page, row)?;
     page.markup(WHOLE)?;
     page.number(u64::from(row.completed))?;
-    page.markup(outcome)
+    push_first(page, row.first_shown)?;
+    page.markup(ALL_TEXT)?;
+    page.text(all_text)
 }
 
 /// The class of a bar of which so many broadcasts are whole, where they are too many for marks.
@@ -225,6 +267,16 @@ fn push_message_front(
     page.markup(TEXT_END)
 }
 
+/// Appends the end of the line of an accepted message: the mark where a phone shows it first.
+#[tactic(auto, unfolding(crate::specs::ChartText::message_end))]
+fn push_message_end(page: &mut Page, first: Option<u16>) -> Result<(), AllocError>
+    ensures { OnOk result (page.new ≡ page.old ++ message_end first) }
+{
+    page.markup(MARKS_END)?;
+    push_first_mark(page, first)?;
+    page.markup(LINE_END)
+}
+
 /// Appends what is said of a refused order.
 #[tactic(auto, unfolding(crate::specs::ChartText::refusal_front))]
 fn push_refusal_front(page: &mut Page, row: &Row, cause: u8) -> Result<(), AllocError>
@@ -237,13 +289,13 @@ fn push_refusal_front(page: &mut Page, row: &Row, cause: u8) -> Result<(), Alloc
     page.markup(CAUSE_END)
 }
 
-/// Appends the description of a refused order's picture.
-#[tactic(auto, unfolding(crate::specs::ChartText::refusal_description))]
-fn push_refusal_description(page: &mut Page, row: &Row, cause: u8) -> Result<(), AllocError>
-    ensures { OnOk result (page.new ≡ page.old ++ refusal_description row.now cause) }
+/// Appends what the title says of a refused order after its name.
+#[tactic(auto, unfolding(crate::specs::ChartText::refusal_title))]
+fn push_refusal_title(page: &mut Page, row: &Row, cause: u8) -> Result<(), AllocError>
+    ensures { OnOk result (page.new ≡ page.old ++ refusal_title row.now cause) }
 {
     page.markup(REFUSED_AT)?;
-    page.number(u64::from(row.start))?;
+    push_slot(page, row.start)?;
     page.markup(COLON)?;
     push_cause(page, cause)
 }
@@ -254,7 +306,7 @@ fn push_refusal_picture(page: &mut Page, slots: u16, row: &Row, cause: u8) -> Re
     ensures { OnOk result (page.new ≡ page.old ++ refusal_picture slots row.now cause) }
 {
     push_picture_front(page, slots, row)?;
-    push_refusal_description(page, row, cause)?;
+    push_refusal_title(page, row, cause)?;
     page.markup(REFUSAL)?;
     page.number(u64::from(row.start))?;
     page.markup(REFUSAL_END)
@@ -273,24 +325,20 @@ impl<'a> CellContext<'a> {
     ghost use Rattle.chart.specs.LineSteps.{IsContext};
 
     /// Appends the line of an accepted message.
-    fn push_message(
-        &self,
-        page: &mut Page,
-        row: &Row,
-        outcome: &'static str,
-    ) -> Result<(), AllocError>
+    fn push_message(&self, page: &mut Page, row: &Row) -> Result<(), AllocError>
         requires { IsContext self.now }
         ensures { OnOk result (page.new ≡ page.old ++ message_line self.now.run.now row.now
             (accepted_named row.now.id row.now.serial self.now.run.now.log)
-            (text_shown (messages_shown self.now.shown.now) row.now.id row.now.serial) outcome.now) }
+            (text_shown (messages_shown self.now.shown.now) row.now.id row.now.serial)) }
     {
         let found = named(self.messages, row.id, row.serial.number());
-        push_message_front(page, row, found, text_shown(self.shown, row.id, row.serial))?;
+        let text = text_shown(self.shown, row.id, row.serial);
+        push_message_front(page, row, found, text)?;
         push_picture_front(page, self.run.slots(), row)?;
-        push_description(page, row, outcome)?;
+        push_message_title(page, row, text)?;
         push_bar(page, row)?;
         push_drawn_marks(page, row.completed, self.run.air(), found)?;
-        page.markup(LINE_END)
+        push_message_end(page, row.first_shown)
     }
 
     /// Appends the line of a refused order.
@@ -309,8 +357,7 @@ impl<'a> CellContext<'a> {
             ++ line_of self.now.run.now (messages_shown self.now.shown.now) row.now) }
     {
         match row.shown {
-            Showing::Yes => self.push_message(page, row, SHOWN),
-            Showing::No => self.push_message(page, row, NOT_SHOWN),
+            Showing::Yes | Showing::No => self.push_message(page, row),
             Showing::Refused(cause) => self.push_refusal(page, row, cause),
         }
     }

@@ -6,8 +6,8 @@ ghost use Rattle.scheduler.specs.Pages.{airs_page};
 ghost use Rattle.bsc_table.specs.Book.{air_pairs, aired_pair};
 ghost use Rattle.handset.specs.Keeping.{messages_shown};
 ghost use Rattle.chart.specs.Kept.{accepted_kept};
-ghost use Rattle.chart.specs.Message.{are_many, category_words, drawn_marks, is_every, mark_at, marks_of, pace_text};
-ghost use Rattle.chart.specs.Message.{text_shown};
+ghost use Rattle.chart.specs.Message.{are_many, category_words, drawn_marks, first_mark, first_mark_after, is_every};
+ghost use Rattle.chart.specs.Message.{mark_at, marks_of, pace_text, period_of, text_shown};
 
 use crate::kept::KeptMessage;
 use crate::load::end_within;
@@ -32,6 +32,9 @@ pub const MARK: &str = "M";
 
 /// What comes after it: the mark is drawn downwards.
 pub const MARK_END: &str = " 0v10";
+
+/// What comes after the slot of the mark where a phone shows a message first: it is a short one.
+pub const FIRST_END: &str = " 0v6";
 
 /// The most marks of a message. One with more whole broadcasts has none, since they would run into one another.
 pub const MOST_MARKS: u16 = 400;
@@ -106,9 +109,9 @@ fn push_mark(
     Ok(())
 }
 
-/// The period of a message; 0 of none.
-fn period_of(demand: Option<Demand>) -> u16
-    ensures { result ≡ option_map_or (λ demand. demand.period) demand 0 }
+/// The period of a message in slots; 0 of none.
+pub(crate) fn period_of(demand: Option<Demand>) -> u16
+    ensures { result ≡ period_of demand }
 {
     match demand {
         None => 0,
@@ -184,4 +187,24 @@ fn push_marks(
         push_mark(page, air, &kept, slot)?;
     }
     Ok(())
+}
+
+/// Appends the mark where a phone shows a message first: at the end of the slot after whose blocks it does.
+pub(crate) fn push_first_mark(page: &mut Page, first: Option<u16>) -> Result<(), AllocError>
+    ensures { OnOk result (page.new ≡ page.old ++ first_mark first) }
+{
+    match first {
+        None => Ok(()),
+        Some(slot) => push_first_mark_after(page, slot),
+    }
+}
+
+/// Appends the mark at the end of this slot.
+#[tactic(auto, unfolding(crate::specs::Message::first_mark_after))]
+fn push_first_mark_after(page: &mut Page, slot: u16) -> Result<(), AllocError>
+    ensures { OnOk result (page.new ≡ page.old ++ first_mark_after slot) }
+{
+    page.markup(MARK)?;
+    page.number(u64::from(slot) + 1)?;
+    page.markup(FIRST_END)
 }

@@ -1,22 +1,42 @@
-//! Slots in minutes, and the axis under a cell's lines.
+//! The times of slots, and the axis under a cell's lines.
 
 ghost use Rattle.std.specs.Prelude.{◌≡◌, ◌++◌, OnOk};
-ghost use Rattle.chart.specs.Time.{axis, minutes_text, tick, ticks};
+ghost use Rattle.std.specs.List.{flat_map, range_with_len};
+ghost use Rattle.chart.specs.Time.{axis, clock_text, has_few, place_text, seconds_at, slot_text, step_of, tick};
+ghost use Rattle.chart.specs.Time.{tick_front, tick_within, ticks, time_in_brackets, time_text, two_digits};
 
 use crate::page::Page;
 use std::alloc::AllocError;
 
-/// Between minutes and their tenths.
+/// Between hours, minutes and seconds.
+pub const COLON: &str = ":";
+
+/// What comes before a time in brackets.
+pub const BRACKET: &str = " (";
+
+/// What comes after it.
+pub const BRACKET_END: &str = ")";
+
+/// The most ticks of an axis.
+pub const MOST_TICKS: u16 = 6;
+
+/// The front of a tick, up to where it stands.
+pub const TICK: &str = "<span style=\"--at:calc(100%*";
+
+/// Between slots and their hundredths.
 pub const POINT: &str = ".";
 
-/// What comes before the slot of a tick.
-pub const TICK: &str = "<span>";
+/// Between where a tick stands and the slots of the run.
+pub const OF: &str = "/";
+
+/// What comes after where it stands.
+pub const TICK_PLACED: &str = ")\">";
 
 /// Between a tick's slot and its time.
 pub const AT: &str = "<br>";
 
 /// The end of a tick.
-pub const TICK_END: &str = " min</span>\n";
+pub const TICK_END: &str = "</span>\n";
 
 /// The front of the axis.
 pub const AXIS: &str = "<div class=\"line\"><p>Slot, time</p><p class=\"axis\">\n";
@@ -24,40 +44,163 @@ pub const AXIS: &str = "<div class=\"line\"><p>Slot, time</p><p class=\"axis\">\
 /// The end of the axis.
 pub const AXIS_END: &str = "</p></div>\n";
 
-/// Appends the time of a slot in minutes, to the tenth. A slot lasts 8 * 51 frames of 120/26 ms (3GPP TS 45.002), which
-/// are 102/325 tenths of a minute.
-#[tactic(auto, unfolding(crate::specs::Time::minutes_text))]
-pub(crate) fn push_minutes(page: &mut Page, slot: u32) -> Result<(), AllocError>
-    ensures { OnOk result (page.new ≡ page.old ++ minutes_text slot) }
+/// Appends a number below 100 in two digits.
+#[tactic(auto, unfolding(crate::specs::Time::two_digits))]
+fn push_two_digits(page: &mut Page, number: u64) -> Result<(), AllocError>
+    ensures { OnOk result (page.new ≡ page.old ++ two_digits number) }
 {
-    let tenths = u64::from(slot) * 102 / 325;
-    page.number(tenths / 10)?;
-    page.markup(POINT)?;
-    page.number(tenths % 10)
+    page.number(number / 10)?;
+    page.number(number % 10)
 }
 
-/// Appends the tick of a slot.
-#[tactic(auto, unfolding(crate::specs::Time::tick))]
-fn push_tick(page: &mut Page, slot: u32) -> Result<(), AllocError>
-    ensures { OnOk result (page.new ≡ page.old ++ tick slot) }
+/// Appends so many seconds as hours, minutes and seconds.
+#[tactic(auto, unfolding(crate::specs::Time::clock_text))]
+fn push_clock(page: &mut Page, seconds: u64) -> Result<(), AllocError>
+    ensures { OnOk result (page.new ≡ page.old ++ clock_text seconds) }
+{
+    page.number(seconds / 3600)?;
+    page.markup(COLON)?;
+    push_two_digits(page, seconds / 60 % 60)?;
+    page.markup(COLON)?;
+    push_two_digits(page, seconds % 60)
+}
+
+/// When a slot begins, cut down to whole seconds. A slot lasts 8 * 51 frames of 120/26 ms (3GPP TS 45.002), which are
+/// 24480/13 ms.
+fn seconds_at(slot: u32) -> u64
+    ensures { result ≡ seconds_at slot }
+{
+    u64::from(slot) * 24480 / 13000
+}
+
+/// Appends when a slot begins.
+#[tactic(auto, unfolding(crate::specs::Time::time_text))]
+pub(crate) fn push_time(page: &mut Page, slot: u32) -> Result<(), AllocError>
+    ensures { OnOk result (page.new ≡ page.old ++ time_text slot) }
+{
+    push_clock(page, seconds_at(slot))
+}
+
+/// Appends that time in brackets.
+#[tactic(auto, unfolding(crate::specs::Time::time_in_brackets))]
+pub(crate) fn push_time_in_brackets(page: &mut Page, slot: u32) -> Result<(), AllocError>
+    ensures { OnOk result (page.new ≡ page.old ++ time_in_brackets slot) }
+{
+    page.markup(BRACKET)?;
+    push_time(page, slot)?;
+    page.markup(BRACKET_END)
+}
+
+/// Appends a slot and its time.
+#[tactic(auto, unfolding(crate::specs::Time::slot_text))]
+pub(crate) fn push_slot(page: &mut Page, slot: u32) -> Result<(), AllocError>
+    ensures { OnOk result (page.new ≡ page.old ++ slot_text slot) }
+{
+    page.number(u64::from(slot))?;
+    push_time_in_brackets(page, slot)
+}
+
+/// Whether a run of so many seconds lasts less than six such steps.
+fn has_few(step: u16, seconds: u64) -> bool
+    ensures { result ≡ has_few step seconds }
+{
+    seconds < u64::from(step) * 6
+}
+
+/// The seconds from one tick to the next: the first of these round times of which the run lasts less than six.
+fn step_of(seconds: u64) -> u16
+    ensures { result ≡ step_of seconds }
+{
+    if has_few(10, seconds) {
+        10
+    } else if has_few(30, seconds) {
+        30
+    } else if has_few(60, seconds) {
+        60
+    } else if has_few(120, seconds) {
+        120
+    } else if has_few(300, seconds) {
+        300
+    } else if has_few(600, seconds) {
+        600
+    } else if has_few(1800, seconds) {
+        1800
+    } else if has_few(3600, seconds) {
+        3600
+    } else if has_few(7200, seconds) {
+        7200
+    } else if has_few(14400, seconds) {
+        14400
+    } else {
+        21600
+    }
+}
+
+/// Appends where a tick stands, in slots.
+#[tactic(auto, unfolding(crate::specs::Time::place_text))]
+fn push_place(page: &mut Page, place: u64) -> Result<(), AllocError>
+    ensures { OnOk result (page.new ≡ page.old ++ place_text place) }
+{
+    page.number(place / 100)?;
+    page.markup(POINT)?;
+    push_two_digits(page, place % 100)
+}
+
+/// Appends the front of a tick: where it stands of the slots of the run.
+#[tactic(auto, unfolding(crate::specs::Time::tick_front))]
+fn push_tick_front(page: &mut Page, slots: u16, place: u64) -> Result<(), AllocError>
+    ensures { OnOk result (page.new ≡ page.old ++ tick_front slots place) }
 {
     page.markup(TICK)?;
-    page.number(u64::from(slot))?;
+    push_place(page, place)?;
+    page.markup(OF)?;
+    page.number(u64::from(slots))?;
+    page.markup(TICK_PLACED)
+}
+
+/// Appends the tick of a time.
+#[tactic(auto, unfolding(crate::specs::Time::tick))]
+fn push_tick(page: &mut Page, slots: u16, seconds: u32) -> Result<(), AllocError>
+    ensures { OnOk result (page.new ≡ page.old ++ tick slots seconds) }
+{
+    // In hundredths of a slot.
+    let place = u64::from(seconds) * 1_300_000 / 24480;
+    push_tick_front(page, slots, place)?;
+    page.number(place / 100)?;
     page.markup(AT)?;
-    push_minutes(page, slot)?;
+    push_clock(page, u64::from(seconds))?;
     page.markup(TICK_END)
 }
 
-/// Appends the ticks of an axis, at each quarter of the run.
+/// Appends the tick of this number, if it is within the run.
+fn push_tick_within(page: &mut Page, slots: u16, step: u16, number: u16) -> Result<(), AllocError>
+    ensures { OnOk result (page.new ≡ page.old ++ tick_within slots step number) }
+{
+    let seconds = u32::from(number) * u32::from(step);
+    if u64::from(seconds) > seconds_at(u32::from(slots)) {
+        return Ok(());
+    }
+    push_tick(page, slots, seconds)
+}
+
+/// Appends so many ticks at most, from the begin of the run on.
+fn push_ticks_by(page: &mut Page, slots: u16, step: u16, most: u16) -> Result<(), AllocError>
+    ensures { OnOk result (page.new ≡ page.old
+        ++ flat_map (tick_within slots step) (range_with_len 0 most)) }
+{
+    for number in 0..most {
+        push_tick_within(page, slots, step, number)?;
+    }
+    Ok(())
+}
+
+/// Appends the ticks of an axis.
 #[tactic(auto, unfolding(crate::specs::Time::ticks))]
 fn push_ticks(page: &mut Page, slots: u16) -> Result<(), AllocError>
     ensures { OnOk result (page.new ≡ page.old ++ ticks slots) }
 {
-    push_tick(page, 0)?;
-    push_tick(page, u32::from(slots / 4))?;
-    push_tick(page, u32::from(slots / 2))?;
-    push_tick(page, u32::from(slots) * 3 / 4)?;
-    push_tick(page, u32::from(slots))
+    let step = step_of(seconds_at(u32::from(slots)));
+    push_ticks_by(page, slots, step, MOST_TICKS)
 }
 
 /// Appends the axis.

@@ -75,7 +75,7 @@ past is full.</p> -> yes
 out -> <details>
 out -> <summary><h2>Group 1</h2></summary>
 out -> <details open id=\"c1-64\">
-out -> <summary><h2>Cell 1-64</h2> messages: 1, refused: 0, fullest: 50 % at 0.0 min</summary>
+out -> <summary><h2>Cell 1-64</h2> messages: 1, refused: 0, fullest: 50 % at 0:00:00</summary>
 past </details> -> yes
 out -> </details>
 out -> </body>
@@ -84,16 +84,16 @@ args chart --slots 2 --network
 run -> 0
 past <summary><h2>Group 0</h2></summary> -> yes
 out -> <nav aria-label=\"Cells\">
-past <summary><h2>Cell 1-0</h2> messages: 1, refused: 0, fullest: 50 % at 0.0 min</summary> -> yes
-past <summary><h2>Cells 1-1 to 1-63, 63 cells</h2> messages: 0, refused: 0, fullest: 0 % at 0.0 min</summary> -> yes
+past <summary><h2>Cell 1-0</h2> messages: 1, refused: 0, fullest: 50 % at 0:00:00</summary> -> yes
+past <summary><h2>Cells 1-1 to 1-63, 63 cells</h2> messages: 0, refused: 0, fullest: 0 % at 0:00:00</summary> -> yes
 past <summary><h2>Group 1</h2></summary> -> yes
-past <summary><h2>Cell 1-64</h2> messages: 1, refused: 0, fullest: 50 % at 0.0 min</summary> -> yes
+past <summary><h2>Cell 1-64</h2> messages: 1, refused: 0, fullest: 50 % at 0:00:00</summary> -> yes
 past </html> -> yes
 args chart --slots 2 --group 1
 run -> 0
 past is full.</p> -> yes
 out -> <details open id=\"c1-64\">
-out -> <summary><h2>Cell 1-64</h2> messages: 1, refused: 0, fullest: 50 % at 0.0 min</summary>
+out -> <summary><h2>Cell 1-64</h2> messages: 1, refused: 0, fullest: 50 % at 0:00:00</summary>
 past </html> -> yes
 
 # and is no book of 64 cells

@@ -1,5 +1,6 @@
 use Rattle.std.proofs.Common.{arith, refl}
 use Rattle.std.proofs.lemmas.Slice.Eq.{bytes_eq-Decides}
+use Rattle.chart.proofs.AxisLaws.{ticks_reach_the_end}
 use Rattle.chart.proofs.EscapeLaws.{escaped_is_plain}
 use Rattle.chart.proofs.MarkLaws.{marks_are_completed}
 use Rattle.chart.proofs.laws.chart_laws.Goals as goal
@@ -15,5 +16,6 @@ returns c = record {
     last = c.air_laws.ensures.last_page_counts;
   });
   sections = λ p other. bytes_eq-Decides other.contents p.contents;
+  ticks = ticks_reach_the_end;
   heights = (refl, refl, refl, λ load more less. omega (arith, less));
 }
