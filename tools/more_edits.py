@@ -123,8 +123,9 @@ class Room:
         for file, text in texts.items():
             with open(os.path.join(self.crate, file), "w", encoding="utf-8") as it:
                 it.write(text)
-        ran = subprocess.run(["rt", "check", *flags], cwd=self.crate, stdin=subprocess.DEVNULL, stdout=subprocess.PIPE,
-                             stderr=subprocess.STDOUT, errors="replace")
+        # crates are tried side by side, and a check by several jobs loads the libraries in each
+        ran = subprocess.run(["rt", "check", "--jobs", "1", *flags], cwd=self.crate, stdin=subprocess.DEVNULL,
+                             stdout=subprocess.PIPE, stderr=subprocess.STDOUT, errors="replace")
         return ran.stdout
 
 
