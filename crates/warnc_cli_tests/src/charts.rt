@@ -13,8 +13,8 @@ in stop,3,a,*
 args chart --slots 4
 run -> 0
 out -> <!DOCTYPE html>
-past .refusal{stroke:var(--refusal);stroke-width:4px} -> yes
 past .shown{stroke:var(--first);stroke-width:4px} -> yes
+past .refusal{stroke:var(--refusal);stroke-width:4px} -> yes
 past <p>A run of 4 slots of 1.883 s, 0:00:07 (h:mm:ss).</p> -> yes
 past is full.</p> -> yes
 out -> <details open id=\"c1-1\">
