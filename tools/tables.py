@@ -27,7 +27,8 @@ def tables_of(path):
     """Returns the tables of a file of tests, as the program of the tests reads them."""
     with open(path, encoding="utf-8") as it:
         found = re.findall(r'^const [A-Z_]+: &str = "(.*?[^\\])";', it.read(), re.M | re.S)
-    return [it.replace('\\"', '"').replace("\\\\", "\\") for it in found]
+    # a line that ends in a backslash goes on with the next one
+    return [re.sub(r"(?<!\\)\\\n\s*", "", it).replace('\\"', '"').replace("\\\\", "\\") for it in found]
 
 
 class Sheet:

@@ -51,7 +51,7 @@ args chart --slots 4 --cell 1-2 --workers 2
 run -> 0
 past is full.</p> -> yes
 out -> <details open id=\"c1-2\">
-out -> <summary><h2>Cell 1-2</h2> messages: 3, refused: 0, fullest: 100 % at 0:00:00</summary>
+out -> <summary><h2>Cell 1-2</h2> messages: 3, refused: 0, fullest: 100 % at 0:00:01</summary>
 past <b>4370 0010</b> <i>normal</i> <bdi>One</bdi> -> yes
 past <rect class=\"bar f5\" height=\"10\" x=\"0\" width=\"1\"/> -> yes
 past <b>4371 0020</b> <i>background</i> <bdi>Two</bdi> -> yes
