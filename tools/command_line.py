@@ -19,6 +19,7 @@ import sys
 import textwrap
 from dataclasses import dataclass, field
 
+import limits
 import release
 
 TOP = os.path.dirname(os.path.dirname(os.path.realpath(__file__)))
@@ -86,11 +87,21 @@ def given(body, method):
     return names
 
 
+def value_of(bound):
+    """Returns the number that a bound of a range is: a number, or a constant that docs/limits.md has."""
+    if bound.isdigit():
+        return int(bound)
+    found = [number for number, said in limits.bullets() if re.search(rf"`{bound}` in", said)]
+    if len(found) != 1:
+        fail(f"has a bound that docs/limits.md doesn't have: {bound}")
+    return int(found[0].replace(",", ""))
+
+
 def choices_of(text, body):
     """Returns the values that an option has, if they are few: those of a short range, or words after a colon."""
-    bounds = re.search(r"\.\s*range\((\d+)\.\.=(\d+)\)", body)
+    bounds = re.search(r"\.\s*range\(\s*(\d+)\.\.=(\w+)(?: as i64)?,?\s*\)", body)
     if bounds:
-        least, most = map(int, bounds.groups())
+        least, most = map(value_of, bounds.groups())
         return [str(it) for it in range(least, most + 1)] if most - least < FEW else []
     words = re.split(r", | or ", text.partition(": ")[2])
     return words if len(words) > 1 and all(re.fullmatch("[a-z]+", it) for it in words) else []

@@ -9,11 +9,15 @@ use Rattle.admission.specs.declared.measure.TheConstants.{SCALE}
 use Rattle.admission.specs.Reservation.{is_before_end}
 use Rattle.admission.specs.Waiting.{held_now, HandsOver, started_at}
 
+-- the most reservations of a budget at a time
+abbrev pub max_reserved : ℕ
+max_reserved = 64
+
 -- each entry stands once, there are at most 64, what they hold now is no more than SCALE, each that waits does so
 -- behind one that hands over to it, and no two behind the same
 pub record IsAdmitted (table : List Held) : Type 0 where
   pub distinct : AllPairs (λ a b. a.entry ≢ b.entry) table
-  pub places : length table ≤ 64
+  pub places : length table ≤ max_reserved
   pub loads : sum_by held_now table ≤ SCALE
   pub handed : All (λ h. (w : Waits) → h.waits ≡ Some w → Any (HandsOver h.load w) table) table
   pub alone : AllPairs (λ a b. (v w : Waits) → a.waits ≡ Some v → b.waits ≡ Some w → v.behind ≢ w.behind) table
@@ -22,7 +26,7 @@ pub record IsAdmitted (table : List Held) : Type 0 where
 -- where the sum with the load would be over SCALE
 abbrev pub room_answer : ℕ → ℕ → ℕ → Result (Unit {0}) NoRoom
 room_answer places total load =
-    if nat_lt places 64 then (if nat_le (total + load) SCALE then Ok tt else Err Load) else Err Table
+    if nat_lt places max_reserved then (if nat_le (total + load) SCALE then Ok tt else Err Load) else Err Table
 
 -- whether a load has room beside a table
 abbrev pub room_answer_for : List Held → ℕ → Result (Unit {0}) NoRoom

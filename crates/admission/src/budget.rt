@@ -11,6 +11,7 @@ ghost use Rattle.std.specs.List.{list_all};
 ghost use Rattle.admission.specs.TableSteps.{HasPlace, goes_on, stays_at};
 ghost use Rattle.admission.specs.Waiting.{IsWhether, behind_of, held_now, held_at, started_at};
 ghost use Rattle.admission.specs.Reservation.{is_before_end};
+ghost use Rattle.admission.specs.Table.{max_reserved};
 
 use crate::measure::SCALE;
 use arrayvec::ArrayVec;
@@ -350,7 +351,8 @@ fn count_without(table: &[Held], entry: u16) -> usize
 
 /// How many others stand in a table that is full; of one that isn't, whose others aren't counted, as many as there are.
 fn places_without(table: &[Held], entry: u16) -> usize
-    ensures { nat_lt result 64 ≡ nat_lt (length (remaining_without (Some entry) table.now)) 64 }
+    ensures { nat_lt result max_reserved
+        ≡ nat_lt (length (remaining_without (Some entry) table.now)) max_reserved }
 {
     let places = table.len();
     if places < MAX_RESERVED {

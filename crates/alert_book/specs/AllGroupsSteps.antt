@@ -23,6 +23,7 @@ use Rattle.alert_book.specs.Fields.{column, if_right, number}
 use Rattle.alert_book.specs.Network.{cells_of_action, cells_of_group, max_network_cells, order_to, orders_in}
 use Rattle.alert_book.specs.Network.{row_in_group}
 use Rattle.alert_book.specs.NetworkSteps.{network_row_by}
+use Rattle.alert_book.specs.Network.{group_size}
 
 -- the group of a cell, if it has one
 abbrev pub group_of_cell : List (Pair × ℕ) → Cell → Option ℕ
@@ -67,7 +68,7 @@ pub record HasCellMore (old new : NetworkCells) (cell : Cell) : Type 0 where
   pub cells : new.cells ≡ old.cells ++ cell ∷ []
   pub groups : (other : Cell)
       → group_of_cell new.groups other
-      ≡ cond (is_cell cell other) (Some (length old.cells / 64)) (group_of_cell old.groups other)
+      ≡ cond (is_cell cell other) (Some (length old.cells / group_size)) (group_of_cell old.groups other)
 
 -- the group of a cell is right where these are the cells
 abbrev pub IsRightGroup : List Cell → Cell → Option ℕ → Type 0

@@ -22,6 +22,7 @@ use Rattle.alert_book.specs.Fields.{are_texts, column, if_right, number}
 use Rattle.alert_book.specs.Network.{cells_of_group, declares_cell, has_cells, max_network_cells, max_orders}
 use Rattle.alert_book.specs.Network.{max_network, row_in_group}
 use Rattle.alert_book.specs.Row.{row_after_verb_by, verb_of, FieldCells}
+use Rattle.alert_book.specs.Network.{group_size}
 
 -- a field of cells, and a row that declares a cell, by what is kept
 abbrev pub kept_judged : GroupCells → Option (List Cell) → Result (List Cell) RowFault
@@ -60,7 +61,7 @@ kept_row row g orders fields = network_row_by row (kept_declares g fields) (kept
 
 -- a cell more
 abbrev pub is_next_in : GroupCells → Bool
-is_next_in g = nat_le (64 * g.group) g.count && nat_lt g.count (64 * g.group + 64)
+is_next_in g = nat_le (group_size * g.group) g.count && nat_lt g.count (group_size * g.group + group_size)
 
 pub record HasMore (old new : GroupCells) (cell : Cell) : Type 0 where
   pub group : new.group ≡ old.group

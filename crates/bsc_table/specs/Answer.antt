@@ -13,6 +13,7 @@
 use Rattle.std.specs.Prelude.{ℕ, ◌+◌, ◌==◌, nat_le, nat_lt, if◌then◌else◌, Option, Some, None, List, length, filter}
 use Rattle.admission.specs.declared.measure.TheConstants.{SCALE}
 use Rattle.admission.specs.Load.{load_of}
+use Rattle.admission.specs.Table.{max_reserved}
 use Rattle.scheduler.specs.Message.{ScheduledMessage}
 use Rattle.scheduler.specs.Air.{Air}
 use Rattle.scheduler.specs.Completed.{completed}
@@ -44,7 +45,7 @@ answer_at claims slot accepts (Some place) =
 -- 5 and 6, else the answer that accepts, by the slot at which the message starts: at once where its load fits
 abbrev pub admit_or_refuse : List Claim → ℕ → ℕ → Option Place → (ℕ → Answer) → Answer
 admit_or_refuse claims slot load place accepts =
-    if nat_le 64 (length (filter (is_claimed_at slot) claims)) then answers.Cause CELL_MEMORY_EXCEEDED
+    if nat_le max_reserved (length (filter (is_claimed_at slot) claims)) then answers.Cause CELL_MEMORY_EXCEEDED
     else if nat_lt SCALE (claimed_at claims slot + load) then answer_at claims slot accepts place
     else accepts slot
 

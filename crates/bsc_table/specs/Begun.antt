@@ -1,6 +1,7 @@
 -- A message that a write adds, as it begins (own): at once, or behind the one from which it takes over.
 use Rattle.std.specs.Prelude.{◌≡◌, ◌⊎◌, ℕ, ◌+◌, ◌<◌, ◌≤◌, Option, Some, None, List, length, filter}
 use Rattle.admission.specs.declared.measure.TheConstants.{SCALE}
+use Rattle.admission.specs.Table.{max_reserved}
 use Rattle.scheduler.specs.Air.{layer}
 use Rattle.bsc_table.specs.Claim.{own_load, is_claimed_at, claimed_at}
 use Rattle.bsc_table.specs.Handover.{Place, handover, IsPlacedAt}
@@ -34,5 +35,5 @@ pub record IsBegun (entry slot : ℕ) (replaced : Option Accepted) (before : Lis
   pub standing : a.message.stop ≡ None
   pub some_pages : 0 < a.message.pages
   pub some_period : 0 < a.message.period
-  pub room : layer a.message ≡ 0 → length (filter (is_claimed_at slot) (claims_of before)) < 64
+  pub room : layer a.message ≡ 0 → length (filter (is_claimed_at slot) (claims_of before)) < max_reserved
   pub starts : Starts slot replaced before a

@@ -9,7 +9,7 @@ use Rattle.admission.specs.declared.measure.TheConstants.{SCALE}
 use Rattle.admission.specs.Reservation.{end_of_stopped}
 use Rattle.std.specs.Option.{option_map}
 use Rattle.admission.specs.Waiting.{behind_of}
-use Rattle.admission.specs.Table.{room_answer, room_answer_for, excess_over}
+use Rattle.admission.specs.Table.{room_answer, room_answer_for, excess_over, max_reserved}
 use Rattle.scheduler.specs.Message.{ScheduledMessage, stopped_if}
 use Rattle.scheduler.specs.Air.{Air, IsAirOf}
 use Rattle.scheduler.specs.Follows.{PlanState, Follows, next_slot}
@@ -161,7 +161,7 @@ by_room (Err Load) now later = later
 
 -- a load has room beside claims at a slot
 pub record HasRoom (claims : List Claim) (slot load : ℕ) : Type 0 where
-  pub places : length (filter (is_claimed_at slot) claims) < 64
+  pub places : length (filter (is_claimed_at slot) claims) < max_reserved
   pub loads : claimed_at claims slot + load ≤ SCALE
 
 -- whether it has, as a budget answers: a write is answered so, and accepted now only where the load has room

@@ -4,6 +4,7 @@ use Rattle.std.specs.Prelude.{◌≡◌, ℕ, ◌≤◌, ⊤, Bool, true, ◌==�
 use Rattle.std.specs.Prelude.{List, length, All}
 use Rattle.cbs_page.specs.declared.content.Content.{Content}
 use Rattle.cbs_page.specs.declared.Dcs.{Dcs}
+use Rattle.cbs_page.specs.Text.{max_pages}
 use Rattle.cbsp_wire.specs.Range.{has_alphabet}
 use Rattle.cbsp_wire.specs.declared.message.Cell.{Cell}
 use Rattle.cbsp_wire.specs.declared.message.Message.{Message}
@@ -25,7 +26,7 @@ IsWrite (commands.Status id serial) = ⊥
 -- period from 1 to 1,024 slots, and a data coding that has an alphabet
 pub record IsBroadcastable (period : ℕ) (dcs : Dcs) (contents : List Content) : Type 0 where
   pub some_pages : 1 ≤ length contents
-  pub few_pages : length contents ≤ 15
+  pub few_pages : length contents ≤ max_pages
   pub used : All (λ c. c.used ≤ 82) contents
   pub some_period : 1 ≤ period
   pub short_period : period ≤ 1024

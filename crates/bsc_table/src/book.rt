@@ -32,7 +32,7 @@ ghost use Rattle.bsc_table.specs.BookSteps.{right_answer, HasRoomFor};
 ghost use Rattle.bsc_table.specs.Refusals.{is_accepting};
 ghost use Rattle.admission.specs.Reservation.{end_of_stopped};
 ghost use Rattle.admission.specs.Waiting.{behind_of};
-ghost use Rattle.admission.specs.Table.{ends_at, passed};
+ghost use Rattle.admission.specs.Table.{ends_at, passed, max_reserved};
 
 use crate::accepted::{AcceptedMessage, Place};
 use crate::command::{Command, Refused};
@@ -626,7 +626,7 @@ impl CellBook {
     fn later_place(&self, old: &Kept, load: u64) -> Option<Place>
         requires live { IsLiveIn self.now (accepted_of old.now.message) }
         requires room { length (filter (is_claimed_at self.now.clock)
-            (left_by self.now (accepted_of old.now.message))) < 64 }
+            (left_by self.now (accepted_of old.now.message))) < max_reserved }
         ensures { IsLater self.now (accepted_of old.now.message) load result }
     {
         let place = self.place_after(old, load)?;

@@ -2,6 +2,7 @@
 use Rattle.std.specs.Prelude.{ℕ, ◌+◌, ◌≤◌, ⊤, Option, Some, None, List, length, vec_len, vec_capacity}
 use Rattle.std.specs.Global.{Vec}
 use Rattle.std.specs.List.{slice_get}
+use Rattle.cbs_page.specs.Text.{max_pages}
 use Rattle.bsc_table.specs.declared.command.Command.{Command}
 use Rattle.bsc_table.specs.declared.command.Command.TheVariants as commands
 use Rattle.bsc_table.specs.declared.entry.Entry.{Entry}
@@ -10,7 +11,7 @@ use Rattle.cbch_blocks.specs.RecordBlocks.{blocks_of_slot, octets_of_blocks, pag
 -- a command that can be sent has a page of this number, and 15 pages at most
 abbrev pub CanSendPage : ℕ → Command → Type 0
 CanSendPage page (commands.Write id serial replaces category dcs period broadcasts contents) =
-    (1 ≤ page) × (page ≤ length contents) × (length contents ≤ 15)
+    (1 ≤ page) × (page ≤ length contents) × (length contents ≤ max_pages)
 CanSendPage page (commands.Kill id serial) = ⊥
 CanSendPage page (commands.Status id serial) = ⊥
 

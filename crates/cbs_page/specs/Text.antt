@@ -17,6 +17,10 @@ use Rattle.cbs_page.specs.declared.paging.Paged.{Paged}
 use Rattle.cbs_page.specs.declared.paging.TextFault.{TextFault}
 use Rattle.cbs_page.specs.declared.paging.TextFault.TheVariants as fault
 
+-- the most pages of a message
+abbrev pub max_pages : ℕ
+max_pages = 15
+
 -- how many codes a page holds: 93 septets, or 41 units
 abbrev pub capacity : Alphabet → ℕ
 capacity Gsm = 93
@@ -103,7 +107,7 @@ pub record IsPagedText (language text : List ℕ) (paged : Paged) : Type 0 where
   pub pieces : List (List ℕ)
   pub paging : IsPagingOf text pieces
   pub some : 1 ≤ length pieces
-  pub few : length pieces ≤ 15
+  pub few : length pieces ≤ max_pages
   pub contents : AreContentsOf (alphabet_for text) (map (flat_map (codes_of (alphabet_for text))) pieces)
       paged.pages.items
 
@@ -120,7 +124,7 @@ IsTextFault language text (fault.BadCharacter place) =
     IsSome (language_value language) × (position is_bad text ≡ Some place)
 IsTextFault language text fault.TooManyPages =
     IsSome (language_value language) × (position is_bad text ≡ None)
-    × ((pieces : List (List ℕ)) × IsPagingOf text pieces × (15 < length pieces))
+    × ((pieces : List (List ℕ)) × IsPagingOf text pieces × (max_pages < length pieces))
 IsTextFault language text fault.Refused =
     IsSome (language_value language) × (position is_bad text ≡ None)
-    × ((pieces : List (List ℕ)) × IsPagingOf text pieces × (1 ≤ length pieces) × (length pieces ≤ 15))
+    × ((pieces : List (List ℕ)) × IsPagingOf text pieces × (1 ≤ length pieces) × (length pieces ≤ max_pages))

@@ -2,6 +2,7 @@
 
 ghost use Rattle.std.specs.Prelude.{◌≡◌, ◌≤◌};
 ghost use Rattle.cbs_page.specs.Page.{octets_of_page, place_of, view_of, is_readable};
+ghost use Rattle.cbs_page.specs.Text.{max_pages};
 
 use crate::coding::Dcs;
 use crate::serial::Serial;
@@ -37,7 +38,7 @@ pub fn page_bytes(
 ) -> [u8; 88]
     requires first { 1 ≤ number }
     requires within { number ≤ total }
-    requires pages { total ≤ 15 }
+    requires pages { total ≤ max_pages }
     ensures { result ≡ octets_of_page id serial dcs.0 number total content.now }
 {
     let mut octets = [0; 88];

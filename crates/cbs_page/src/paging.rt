@@ -10,6 +10,7 @@ ghost use Rattle.cbs_page.specs.PagingSteps.{HoldText, TakesPages, is_own_septet
 ghost use Rattle.cbs_page.specs.Coding.{language_value};
 ghost use Rattle.cbs_page.specs.Text.{is_bad, alphabet_for, coding_for, AreContentsOf, IsTextFault, IsPagedText};
 ghost use Rattle.cbs_page.specs.Text.{ShowsText};
+ghost use Rattle.cbs_page.specs.Text.{max_pages};
 
 use crate::builder::PageBuilder;
 use crate::coding::{Alphabet, Dcs, language_dcs};
@@ -67,7 +68,7 @@ pub enum TextFault {
 pub fn paginate(alloc: Global, text: &str, language: &str) -> Result<Paged, TextFault>
     ensures sent { IfOk result (IsPagedText language.now (chars text.now)) }
     ensures shown { IfOk result (λ paged. ShowsText (chars text.now) paged) }
-    ensures count { IfOk result (λ paged. (1 ≤ length paged.pages.items) × (length paged.pages.items ≤ 15)) }
+    ensures count { IfOk result (λ paged. (1 ≤ length paged.pages.items) × (length paged.pages.items ≤ max_pages)) }
     ensures fault { IfErr result (IsTextFault language.now (chars text.now)) }
 {
     let Some(value) = language_dcs(language) else {
@@ -105,7 +106,7 @@ fn paginate_septets(alloc: Global, text: &str, value: u8) -> Result<Paged, TextF
     ensures sent { IfOk result (λ paged. (language : List ℕ) → language_value language ≡ Some value
         → IsPagedText language (chars text.now) paged) }
     ensures shown { IfOk result (λ paged. ShowsText (chars text.now) paged) }
-    ensures count { IfOk result (λ paged. (1 ≤ length paged.pages.items) × (length paged.pages.items ≤ 15)) }
+    ensures count { IfOk result (λ paged. (1 ≤ length paged.pages.items) × (length paged.pages.items ≤ max_pages)) }
     ensures fault { IfErr result (λ fault. (language : List ℕ) → language_value language ≡ Some value
         → IsTextFault language (chars text.now) fault) }
 {

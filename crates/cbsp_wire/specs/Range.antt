@@ -14,6 +14,7 @@ use Rattle.cbsp_wire.specs.declared.message.Count.{Count}
 use Rattle.cbsp_wire.specs.declared.message.Failure.{Failure}
 use Rattle.cbsp_wire.specs.declared.message.Message.{Message}
 use Rattle.cbs_page.specs.declared.content.Content.{Content}
+use Rattle.cbs_page.specs.Text.{max_pages}
 use Rattle.cbsp_wire.specs.Element.{Element, bodies_of}
 use Rattle.cbsp_wire.specs.Table.{presence_of}
 use Rattle.cbsp_wire.specs.Value.{items_of, Fields, fields_in, fields_of, type_of}
@@ -59,7 +60,7 @@ abbrev pub has_alphabet : ℕ → Bool
 has_alphabet dcs = is_some (alphabet_of dcs)
 
 abbrev pub is_page_count : ℕ → Bool
-is_page_count pages = nat_le 1 pages && nat_le pages 15
+is_page_count pages = nat_le 1 pages && nat_le pages max_pages
 
 -- no cell stands in a list twice
 abbrev pub is_cell : Cell → Cell → Bool
@@ -69,9 +70,13 @@ abbrev pub are_distinct : List Cell → Bool
 are_distinct [] = true
 are_distinct (c ∷ cs) = not (list_any (is_cell c) cs) && are_distinct cs
 
+-- how many cells a list names at most
+abbrev pub max_listed : ℕ
+max_listed = 64
+
 -- the cells that a list may name: at most 64, none twice
 abbrev pub cells_are_valid : List Cell → Bool
-cells_are_valid cs = nat_le (length cs) 64 && are_distinct cs
+cells_are_valid cs = nat_le (length cs) max_listed && are_distinct cs
 
 -- the cells that the items of a list name
 abbrev pub cells_of_counts : List Count → List Cell

@@ -3,6 +3,7 @@
 use Rattle.std.specs.Prelude.{◌≡◌, ◌≢◌, ℕ, ◌%◌, ◌≤◌, true, List, [], length, IfSome, is_some}
 use Rattle.std.specs.List.{AllByRecursion, AllPairs}
 use Rattle.cbs_page.specs.Coding.{alphabet_of}
+use Rattle.cbs_page.specs.Text.{max_pages}
 use Rattle.cbsp_wire.specs.declared.lists.item.Discriminator.{Discriminator}
 use Rattle.cbsp_wire.specs.declared.lists.item.Discriminator.TheVariants as discriminators
 use Rattle.cbsp_wire.specs.declared.message.Cell.{Cell}
@@ -13,7 +14,7 @@ use Rattle.cbsp_wire.specs.declared.message.iei.TheConstants.{FAILURE_LIST}
 use Rattle.cbsp_wire.specs.Element.{Element, bodies_of}
 use Rattle.cbsp_wire.specs.Table.{presence_of}
 use Rattle.cbsp_wire.specs.Value.{items_of, Fields, fields_in}
-use Rattle.cbsp_wire.specs.Range.{numbers, is_by_lac_and_ci, cells_of_counts, cells_of_failures}
+use Rattle.cbsp_wire.specs.Range.{numbers, is_by_lac_and_ci, cells_of_counts, cells_of_failures, max_listed}
 
 -- the body of a list: two octets of length, and whole items of a size, at least one, whose discriminators are 1
 pub record IsListBody (discriminator : Discriminator) (size : ℕ) (body : List ℕ) : Type 0 where
@@ -29,13 +30,13 @@ pub record AreLists (es : List Element) : Type 0 where
 
 -- the cells that a list names
 pub record AreCells (cells : List Cell) : Type 0 where
-  pub few : length cells ≤ 64
+  pub few : length cells ≤ max_listed
   pub distinct : AllPairs (λ a b. a ≢ b) cells
 
 -- a number of pages, for which there are as many contents
 pub record IsPageCount (pages contents : ℕ) : Type 0 where
   pub some : 1 ≤ pages
-  pub few : pages ≤ 15
+  pub few : pages ≤ max_pages
   pub counted : pages ≡ contents
 
 -- the values of a message, those that it has

@@ -16,6 +16,7 @@ mod writing;
 
 pub use fault::WireFault;
 pub use laws::meaning_law;
+pub use lists::MAX_LISTED;
 pub use message::{Cell, Cells, Contents, Count, Counts, Failure, Failures, Message};
 pub use reading::read;
 pub use writing::{write, write_in};

@@ -3,7 +3,7 @@
 ghost use Rattle.std.specs.Prelude.{◌≡◌, ◌<◌, length, nat_le};
 ghost use Rattle.cbsp_wire.specs.Value.{cell_at, items_of};
 ghost use Rattle.cbsp_wire.specs.CellLists.{contains};
-ghost use Rattle.cbsp_wire.specs.Range.{are_distinct, cells_are_valid, items_are_whole};
+ghost use Rattle.cbsp_wire.specs.Range.{are_distinct, cells_are_valid, items_are_whole, max_listed};
 ghost use Rattle.cbsp_wire.specs.Range.{failures_are_by_lac_and_ci, is_by_lac_and_ci, is_list_body};
 ghost use Rattle.cbsp_wire.specs.Rising.{is_after, are_rising, are_rising_after};
 
@@ -13,6 +13,9 @@ use crate::message::Cell;
 
 pub(crate) mod cursor;
 pub(crate) mod item;
+
+/// How many cells a list names at most (own).
+pub const MAX_LISTED: usize = 64;
 
 /// The cell that four octets are, the high ones first.
 pub(crate) fn cell_of(a: u8, b: u8, c: u8, d: u8) -> Cell
@@ -95,10 +98,10 @@ fn are_pairwise_distinct<C: Cursor>(list: C) -> bool
 
 /// Whether a list has at most 64 items.
 fn are_few<C: Cursor>(list: C) -> bool
-    ensures { result ≡ nat_le (length (C.cells list)) 64 }
+    ensures { result ≡ nat_le (length (C.cells list)) max_listed }
 {
     let mut left = list;
-    for _ in 0..64u8 {
+    for _ in 0..MAX_LISTED {
         match left.first() {
             Some((_, rest)) => left = rest,
             None => return true,

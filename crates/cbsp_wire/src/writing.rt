@@ -3,9 +3,10 @@
 ghost use Rattle.std.specs.Prelude.{◌≡◌, ◌+◌, ◌*◌, ◌/◌, ◌%◌, ◌≤◌, ◌<◌, ◌^◌, ◌++◌, ◌∷◌, [], length, map, IsTrue, IfOk};
 ghost use Rattle.std.specs.Prelude.{IfErr, IfSome, vec_len, vec_capacity};
 ghost use Rattle.std.specs.List.{flat_map};
+ghost use Rattle.cbs_page.specs.Text.{max_pages};
 ghost use Rattle.cbsp_wire.specs.Meaning.{IsMessage, IsUnwritten};
 ghost use Rattle.cbsp_wire.specs.WritingSteps.{HasRoomIn};
-ghost use Rattle.cbsp_wire.specs.Range.{is_writable};
+ghost use Rattle.cbsp_wire.specs.Range.{is_writable, max_listed};
 ghost use Rattle.cbsp_wire.specs.Written.{number_octets, number_bodies, octet_bodies, list_head, list_bodies};
 ghost use Rattle.cbsp_wire.specs.Written.{cell_octets, count_octets, failure_octets, content_body};
 ghost use Rattle.cbsp_wire.specs.Written.{bodies_in, octets_of_message};
@@ -83,7 +84,7 @@ fn put_list_head(out: &mut Vec<u8>, element: u8, discriminator: Discriminator, i
 
 /// Appends a list, if it has items.
 fn put_list<T: ListItem>(out: &mut Vec<u8>, element: u8, items: &[T])
-    requires short { length items.now ≤ 64 }
+    requires short { length items.now ≤ max_listed }
     requires room { HasRoomIn out.old (element_octets element (list_bodies T.DISCRIMINATOR T.octets_of items.now)) }
     ensures appended { out.new.items
         ≡ out.old.items ++ element_octets element (list_bodies T.DISCRIMINATOR T.octets_of items.now) }
@@ -98,7 +99,7 @@ fn put_list<T: ListItem>(out: &mut Vec<u8>, element: u8, items: &[T])
 
 /// Appends the number of pages, if it is given.
 fn put_pages(out: &mut Vec<u8>, element: u8, pages: Option<usize>)
-    requires few { IfSome pages (λ n. n ≤ 15) }
+    requires few { IfSome pages (λ n. n ≤ max_pages) }
     requires room { HasRoomIn out.old (element_octets element (octet_bodies pages)) }
     ensures appended { out.new.items ≡ out.old.items ++ element_octets element (octet_bodies pages) }
     ensures room { vec_capacity out.new ≡ vec_capacity out.old }

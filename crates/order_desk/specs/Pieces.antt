@@ -6,6 +6,7 @@ use Rattle.std.specs.List.{slice_get}
 use Rattle.std.specs.Option.{option_map}
 use Rattle.cbs_page.specs.declared.content.Content.{Content}
 use Rattle.cbs_page.specs.Page.{octets_of_page}
+use Rattle.cbs_page.specs.Text.{max_pages}
 use Rattle.cbsp_wire.specs.declared.message.Cell.{Cell}
 use Rattle.bsc_table.specs.declared.command.Command.{Command}
 use Rattle.bsc_table.specs.declared.command.Command.TheVariants as commands
@@ -16,10 +17,14 @@ use Rattle.order_desk.specs.declared.fault.DeskFault.TheVariants as faults
 use Rattle.order_desk.specs.declared.desk.piece.Piece.{Piece}
 use Rattle.order_desk.specs.Desk.{IsHeld, DeskState, has_cell}
 
+-- how many slots a piece has at most
+abbrev pub piece_slots : ℕ
+piece_slots = 64
+
 -- the octets of a page of a write, of which the pages are numbered from 1 and are 15 at most
 abbrev pub write_page_octets : ℕ → Command → Option (List ℕ)
 write_page_octets page (commands.Write id serial replaces category dcs period broadcasts contents) =
-    if (page == 0) || nat_lt (length contents) page || nat_lt 15 (length contents)
+    if (page == 0) || nat_lt (length contents) page || nat_lt max_pages (length contents)
     then None
     else option_map (λ (content : Content). octets_of_page id serial dcs.0 page (length contents) content.octets)
     (slice_get contents (page - 1))

@@ -3,14 +3,14 @@
 ghost use Rattle.std.specs.Prelude.{◌≡◌, ◌+◌, ◌*◌, ◌<◌, ◌≤◌, ◌∷◌, [], ◌++◌, List, length, map, false, true, vec_len};
 ghost use Rattle.std.specs.Prelude.{vec_capacity, IfErr, IfNone, IfOk, IfSome, OnErr, OnOk, Some};
 ghost use Rattle.std.specs.List.{slice_get};
-ghost use Rattle.cbsp_wire.specs.Range.{cells_are_valid};
+ghost use Rattle.cbsp_wire.specs.Range.{cells_are_valid, max_listed};
 ghost use Rattle.bsc_table.specs.Orders.{IsWellFormed};
 ghost use Rattle.bsc_table.specs.Transitions.{opened};
 ghost use Rattle.order_desk.specs.declared.note.Note.{Note};
 ghost use Rattle.order_desk.specs.Desk.{AddsNote, AddsNotes, AreAnswered, IsAnswered, IsCarriedOut, IsPlayed};
 ghost use Rattle.order_desk.specs.Desk.{IsRefusedOrder, IsRefusedPlay, IsRefusedStatus, IsTold, has_cell};
 ghost use Rattle.order_desk.specs.DeskSteps.{AreHalted, IsHalted};
-ghost use Rattle.order_desk.specs.Pieces.{IsPieceOf, IsRefusedPiece};
+ghost use Rattle.order_desk.specs.Pieces.{IsPieceOf, IsRefusedPiece, piece_slots};
 ghost use Rattle.order_desk.specs.Reply.{cells_answered};
 
 use crate::closed::Closed;
@@ -233,7 +233,7 @@ impl Desk {
         gate: &G,
     ) -> Result<Vec<(Cell, Answer)>, DeskFault>
         requires formed { IsWellFormed command.now }
-        requires few { length cells.now ≤ 64 }
+        requires few { length cells.now ≤ max_listed }
         requires no_answers { answers.items ≡ [] }
         requires room_for_answers { length cells.now ≤ vec_capacity answers }
         requires room_for_notes { vec_len notes.old + 2 * length cells.now ≤ vec_capacity notes.old }
@@ -393,7 +393,7 @@ impl Desk {
         k: u16,
         gate: &G,
     ) -> Result<Piece, DeskFault>
-        requires { k ≤ 64 }
+        requires { k ≤ piece_slots }
         ensures piece { IfOk result (IsPieceOf self.now cell from k) }
         ensures refused { IfErr result (IsRefusedPiece self.now cell) }
         ensures foreign { has_cell self.now cell ≡ false → result ≡ Err DeskFault.Unknown }

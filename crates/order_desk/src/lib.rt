@@ -17,7 +17,7 @@ pub mod settle;
 pub use cells::cells_ok;
 pub use closed::Closed;
 pub use desk::Desk;
-pub use desk::piece::Piece;
+pub use desk::piece::{PIECE_SLOTS, Piece};
 pub use desk::reply::reply_of;
 pub use fault::DeskFault;
 pub use gate::{Gate, Open};

@@ -10,6 +10,7 @@ use Rattle.cbch_blocks.specs.Slots.{with_slot}
 use Rattle.order_desk.specs.declared.desk.piece.Piece.{Piece}
 use Rattle.order_desk.specs.Desk.{DeskState}
 use Rattle.order_desk.specs.SettleSteps.{IsLeastFailing, lesser}
+use Rattle.order_desk.specs.Pieces.{piece_slots}
 use Rattle.parallel_compile.specs.declared.board.Board.{Board}
 use Rattle.parallel_compile.specs.declared.board.Numbered.{Numbered}
 use Rattle.parallel_compile.specs.declared.filling.Filling.{Filling}
@@ -23,9 +24,9 @@ pieces_in slots = (slots + 63) / 64
 -- a piece is the one with this place in the run of a cell
 pub record FitsTape (cell : Cell) (slots place : ℕ) (piece : Piece) : Type 0 where
   pub of_cell : piece.cell ≡ cell
-  pub begins : piece.from ≡ 64 * place
+  pub begins : piece.from ≡ piece_slots * place
   pub within : piece.from < slots
-  pub long : vec_len piece.pages ≡ min 64 (slots - piece.from)
+  pub long : vec_len piece.pages ≡ min piece_slots (slots - piece.from)
 
 -- a tape with these pages in its slots from one on; a slot without a page stays as it was
 abbrev pub with_pages : ℕ → List (Option (List ℕ)) → List ℕ → List ℕ

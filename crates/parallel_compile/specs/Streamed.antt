@@ -6,6 +6,7 @@ use Rattle.cbch_blocks.specs.RecordBlocks.{tape_header}
 use Rattle.order_desk.specs.Desk.{DeskState}
 use Rattle.parallel_compile.specs.declared.fault.CompileFault.{CompileFault}
 use Rattle.parallel_compile.specs.declared.fault.CompileFault.TheVariants as fault
+use Rattle.parallel_compile.specs.Workers.{max_workers}
 
 -- tapes have the headers of a desk's cells, in their order, and as many slots as its runs
 pub record AreTapesFor (desk : DeskState) (tapes : List (List ℕ)) : Type 0 where
@@ -14,6 +15,6 @@ pub record AreTapesFor (desk : DeskState) (tapes : List (List ℕ)) : Type 0 whe
 
 -- a fault of a stream by so many workers
 abbrev pub IsOfStream : ℕ → CompileFault → Type 0
-IsOfStream workers fault.Workers = (workers ≡ 0) ⊎ (64 < workers)
-IsOfStream workers fault.Refused = (0 < workers) × (workers ≤ 64)
-IsOfStream workers (fault.Piece index) = (0 < workers) × (workers ≤ 64)
+IsOfStream workers fault.Workers = (workers ≡ 0) ⊎ (max_workers < workers)
+IsOfStream workers fault.Refused = (0 < workers) × (workers ≤ max_workers)
+IsOfStream workers (fault.Piece index) = (0 < workers) × (workers ≤ max_workers)

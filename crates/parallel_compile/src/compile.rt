@@ -1,9 +1,10 @@
 //! The tapes of records, by the calling thread or by workers.
 
 ghost use Rattle.std.specs.Prelude.{◌≡◌, ◌<◌, ◌≤◌, IfErr, IfOk, length, map};
+ghost use Rattle.cbsp_wire.specs.Range.{max_listed};
 ghost use Rattle.cbch_blocks.specs.RecordBlocks.{tape_of_record};
 ghost use Rattle.parallel_compile.specs.declared.fault.CompileFault.TheVariants as faults;
-ghost use Rattle.parallel_compile.specs.Workers.{IsOfWorkers};
+ghost use Rattle.parallel_compile.specs.Workers.{IsOfWorkers, max_workers};
 
 use crate::fault::CompileFault;
 use crate::gathered::gather;
@@ -13,6 +14,9 @@ use cbch_blocks::{Tape, tape_of};
 use order_desk::Gate;
 use std::alloc::Global;
 use std::thread::Threads;
+
+/// The most workers of a call (own).
+pub const MAX_WORKERS: u64 = 64;
 
 /// The tapes of records, in their order.
 ///
@@ -45,12 +49,12 @@ pub fn compile_all<R: Threads + Sync, G: Gate>(
     workers: u64,
     gate: &G,
 ) -> Result<Vec<Tape>, CompileFault>
-    requires { length records.now ≤ 64 }
+    requires { length records.now ≤ max_listed }
     ensures ok { IfOk result (λ tapes. tapes.items ≡ map tape_of_record records.now) }
-    ensures workers { IfOk result (λ _. (0 < workers) × (workers ≤ 64)) }
+    ensures workers { IfOk result (λ _. (0 < workers) × (workers ≤ max_workers)) }
     ensures err { IfErr result (IsOfWorkers workers) }
 {
-    if workers == 0 || workers > 64 {
+    if workers == 0 || workers > MAX_WORKERS {
         return Err(CompileFault::Workers);
     }
     let pieces = pieces_of(rt, alloc, records, workers, gate)?;

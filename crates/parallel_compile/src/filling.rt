@@ -15,7 +15,7 @@ use order_desk::Piece;
 use std::alloc::Global;
 
 /// How many slots a piece has, unless the run ends in it.
-pub(crate) const PIECE: u16 = 64;
+pub(crate) const PIECE: u16 = order_desk::PIECE_SLOTS;
 
 /// The tape of a cell while its pieces come, and for each piece whether it has come.
 #[derive(Drop)]

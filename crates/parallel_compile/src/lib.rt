@@ -18,7 +18,7 @@ pub mod stream;
 mod work;
 
 pub use check::check_streamed;
-pub use compile::{compile_all, compile_one};
+pub use compile::{MAX_WORKERS, compile_all, compile_one};
 pub use fault::CompileFault;
 pub use gathered::gather;
 pub use stream::stream_all;

@@ -6,8 +6,10 @@ ghost use Rattle.parallel_compile.specs.declared.board.Numbered.{Numbered};
 ghost use Rattle.parallel_compile.specs.declared.fault.CompileFault.TheVariants as faults;
 ghost use Rattle.parallel_compile.specs.StreamSteps.{AreFillings, HaveCome};
 ghost use Rattle.parallel_compile.specs.Streamed.{AreTapesFor, IsOfStream};
+ghost use Rattle.parallel_compile.specs.Workers.{max_workers};
 
 use crate::board::{Board, Numbered};
+use crate::compile::MAX_WORKERS;
 use crate::fault::CompileFault;
 use crate::player::{Ended, work, work_alone};
 use crate::work::seats_of;
@@ -174,7 +176,7 @@ fn stream<R: Threads + Wait + Sync, G: Gate>(
     board: Board,
     gate: &G,
 ) -> Result<(Board, Vec<Pass>), CompileFault>
-    requires few { workers ≤ 64 }
+    requires few { workers ≤ max_workers }
     requires board { AreFillings desk.now board.fillings.items }
     ensures board { IfOk result (λ r. AreFillings desk.now r.0.fillings.items) }
     ensures passes { IfOk result (λ r. vec_len r.1 ≡ workers) }
@@ -210,10 +212,10 @@ pub fn stream_all<R: Threads + Wait + Sync, G: Gate>(
 ) -> Result<(Vec<Tape>, Vec<Pass>), CompileFault>
     ensures tapes { IfOk result (λ streamed. AreTapesFor desk.now streamed.0.items) }
     ensures passes { IfOk result (λ streamed. vec_len streamed.1 ≡ workers) }
-    ensures workers { IsErrOf result faults.Workers ↔ ((0 < workers) × (workers ≤ 64) → ⊥) }
+    ensures workers { IsErrOf result faults.Workers ↔ ((0 < workers) × (workers ≤ max_workers) → ⊥) }
     ensures err { IfErr result (IsOfStream workers) }
 {
-    if workers == 0 || workers > 64 {
+    if workers == 0 || workers > MAX_WORKERS {
         return Err(CompileFault::Workers);
     }
     let board = Board::open(alloc, desk)?;

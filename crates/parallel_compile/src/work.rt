@@ -1,10 +1,11 @@
 //! What a worker does: it draws the numbers of records, and makes their tapes.
 
 ghost use Rattle.std.specs.Prelude.{◌≡◌, ◌+◌, ◌≤◌, ◌<◌, All, IfErr, IfOk, length, [], true};
-ghost use Rattle.tickets.specs.Draws.{AreSame, IsSeatOf, first_seat, new_seat, numbers_below};
+ghost use Rattle.cbsp_wire.specs.Range.{max_listed};
+ghost use Rattle.tickets.specs.Draws.{AreSame, IsSeatOf, first_seat, new_seat, numbers_below, all_parts};
 ghost use Rattle.parallel_compile.specs.declared.fault.CompileFault.TheVariants as faults;
 ghost use Rattle.parallel_compile.specs.Gathered.{piece_numbers};
-ghost use Rattle.parallel_compile.specs.Workers.{IsDone, IsPieceOfRecord, IsSplit};
+ghost use Rattle.parallel_compile.specs.Workers.{IsDone, IsPieceOfRecord, IsSplit, max_workers};
 
 use crate::fault::CompileFault;
 use bsc_table::CellRecord;
@@ -30,7 +31,7 @@ pub(crate) fn seats_of(
     workers: u64,
 ) -> Result<Vec<Seat>, CompileFault>
     requires first { first.old ≡ first_seat counter.now }
-    requires few { workers ≤ 64 }
+    requires few { workers ≤ max_workers }
     ensures ok { IfOk result (λ seats. (length seats.items ≡ workers)
         × All (λ seat. seat ≡ new_seat (first_seat counter.now)) seats.items) }
     ensures first { IfOk result (λ _. IsSplit counter.now workers first.new) }
@@ -53,7 +54,7 @@ fn draw_all<G: Gate>(
 ) -> Result<Work, CompileFault>
     requires seat { seat ≡ new_seat (first_seat counter.now) }
     requires limit { counter.now.limit ≡ length records.now }
-    requires few { length records.now ≤ 64 }
+    requires few { length records.now ≤ max_listed }
     ensures ok { IfOk result (λ work. IsDone counter.now records.now 1 true work.seat work.pieces.items) }
     ensures err { IfErr result (λ fault. fault ≡ faults.Refused) }
 {
@@ -81,7 +82,7 @@ fn joined(
     requires works { All (λ work.
         IfOk work (λ w. IsDone counter.now records.now 1 true w.seat w.pieces.items)
         × IfErr work (λ fault. fault ≡ faults.Refused)) works.items }
-    ensures ok { IfOk result (λ work. IsDone counter.now records.now 65 true work.seat work.pieces.items) }
+    ensures ok { IfOk result (λ work. IsDone counter.now records.now all_parts true work.seat work.pieces.items) }
     ensures err { IfErr result (λ fault. fault ≡ faults.Refused) }
 {
     let mut seat = first;
@@ -108,9 +109,9 @@ pub(crate) fn pieces_of<R: Threads + Sync, G: Gate>(
     workers: u64,
     gate: &G,
 ) -> Result<Vec<(u64, Tape)>, CompileFault>
-    requires records { length records.now ≤ 64 }
+    requires records { length records.now ≤ max_listed }
     requires some { 0 < workers }
-    requires few { workers ≤ 64 }
+    requires few { workers ≤ max_workers }
     ensures numbers { IfOk result (λ made. AreSame (piece_numbers made.items) (numbers_below (length records.now))) }
     ensures tapes { IfOk result (λ pieces. All (IsPieceOfRecord records.now) pieces.items) }
     ensures err { IfErr result (λ fault. fault ≡ faults.Refused) }
@@ -124,7 +125,7 @@ pub(crate) fn pieces_of<R: Threads + Sync, G: Gate>(
         &|seat: Seat| -> Result<Work, CompileFault>
             requires seat { seat ≡ new_seat (first_seat shared.now) }
             requires limit { shared.now.limit ≡ length records.now }
-            requires few { length records.now ≤ 64 }
+            requires few { length records.now ≤ max_listed }
             ensures ok { IfOk result (λ work.
                 IsDone shared.entry.now records.entry.now 1 true work.seat work.pieces.items) }
             ensures err { IfErr result (λ fault. fault ≡ faults.Refused) }

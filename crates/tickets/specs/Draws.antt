@@ -39,10 +39,24 @@ pub record SeatState : Type 0 where
 abbrev pub IsSeatOf : CounterState → SeatState → Type 0
 IsSeatOf counter seat = (seat.table ≡ counter.table) × (seat.limit ≡ counter.limit)
 
+-- how many parts of a counter its seats share, and how often seats can be split
+abbrev pub all_parts : ℕ
+all_parts = 65
+
+abbrev pub all_splits : ℕ
+all_splits = 64
+
 -- the seat that a new counter comes with
 abbrev pub first_seat : CounterState → SeatState
 first_seat counter =
-    record { table = counter.table; limit = counter.limit; parts = 65; spare = 64; drawn = []; over = false }
+    record {
+      table = counter.table;
+      limit = counter.limit;
+      parts = all_parts;
+      spare = all_splits;
+      drawn = [];
+      over = false;
+    }
 
 -- after a draw that gave n
 abbrev pub with_number : SeatState → ℕ → SeatState

@@ -4,7 +4,7 @@ use mathlib.Core.Option.{some}
 use lib.ListN.{get_elem?}
 use Rattle.atomic_table.specs.Table.{State, Me, Step}
 use Rattle.tickets.specs.declared.view.View.{View}
-use Rattle.tickets.specs.Draws.{times, numbers_below}
+use Rattle.tickets.specs.Draws.{times, numbers_below, all_parts, all_splits}
 
 -- the sum over all views
 abbrev pub total : (View → ℕ) → List View → ℕ
@@ -19,14 +19,14 @@ Fits limit word v = (v.late + v.spare ≤ v.parts) × (v.parts ≡ 0 → v.drawn
 -- The views have 65 parts, and have drawn the numbers below the word, those below the limit alone, each once. Past the
 -- limit the word has grown by the answers of None alone, so it can't wrap.
 abbrev pub IsHandedOut : {S : Type 0} → ℕ → State S View → Type 0
-IsHandedOut limit s = (word : ℕ) × (s.words ≡ word ∷ []) × (limit < 65536) × (total (λ v. v.parts) s.views ≡ 65)
+IsHandedOut limit s = (word : ℕ) × (s.words ≡ word ∷ []) × (limit < 65536) × (total (λ v. v.parts) s.views ≡ all_parts)
     × ((x : ℕ) → total (λ v. times x v.drawn) s.views ≡ times x (numbers_below (min limit word)))
     × (word ≤ limit + total (λ v. v.late) s.views)
     × ((by : ℕ) (v : View) → get_elem? s.views by ≡ some v → Fits limit word v)
 
 -- the first seat's view: every part, and 64 splits to make
 abbrev pub first_view : ℕ → View
-first_view limit = record { parts = 65; spare = 64; limit = limit; drawn = []; late = 0 }
+first_view limit = record { parts = all_parts; spare = all_splits; limit = limit; drawn = []; late = 0 }
 
 abbrev pub numbered_view : View → ℕ → View
 numbered_view v n =

@@ -2,6 +2,7 @@
 
 ghost use Rattle.std.specs.Prelude.{◌≡◌, ℕ, ◌+◌, ◌<◌, ◌≤◌, true, false, IfOk, IfSome, IfNone, IsNone};
 ghost use Rattle.tickets.specs.Draws.{
+  all_parts,
   IsSeatOf,
   IsNoMoreThan,
   AreSame,
@@ -93,7 +94,7 @@ impl Counter {
         requires { IsSeatOf self seat }
         ensures limit { result ≤ self.limit }
         ensures drawn { IsNoMoreThan seat.drawn (numbers_below result) }
-        ensures whole { seat.parts ≡ 65 → AreSame seat.drawn (numbers_below result) }
+        ensures whole { seat.parts ≡ all_parts → AreSame seat.drawn (numbers_below result) }
         ensures over { seat.over ≡ true → result ≡ self.limit }
     {
         let Counter { table, limit } = self;

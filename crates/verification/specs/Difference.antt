@@ -7,6 +7,7 @@ use Rattle.std.specs.Option.{option_map, option_to_list}
 use Rattle.std.specs.Ordering.{nat_cmp, ordering_then}
 use Rattle.std.specs.declared.cmp.Ordering.{Ordering}
 use Rattle.cbs_page.specs.declared.octets.PageView.{PageView}
+use Rattle.cbs_page.specs.Text.{max_pages}
 use Rattle.bsc_table.specs.Record.{Record}
 use Rattle.verification.specs.declared.difference.Difference.{Difference}
 use Rattle.verification.specs.declared.difference.Kind.{Kind}
@@ -47,7 +48,7 @@ first_difference a pages kind = map (difference_of a kind) (option_to_list (firs
 
 -- the numbers that a page can have: 1 to 15
 abbrev pub page_numbers : List ℕ
-page_numbers = range_with_len 1 15
+page_numbers = range_with_len 1 max_pages
 
 abbrev pub page_differences : AskedMessage → List JudgedPage → List Difference
 page_differences a pages =

@@ -12,7 +12,7 @@ use cbs_page::Serial;
 use std::alloc::AllocError;
 
 /// The most pages of a message.
-const MAX_PAGES: u8 = 15;
+const MAX_PAGES: u8 = cbs_page::MAX_PAGES as u8;
 
 impl<'a> Asked<'a> {
     /// A difference of the message at a slot.

@@ -7,7 +7,7 @@ use Rattle.std.specs.Prelude.{Some, None, position, encode_utf8_all}
 use Rattle.std.specs.Str.{chars, IsUtf8}
 use Rattle.gsm_alphabet.specs.Alphabet.{code_of}
 use Rattle.cbs_page.specs.Page.{is_readable, octets_of_page, view_of}
-use Rattle.cbs_page.specs.Text.{IsPagedText, IsTextFault, text_of_page}
+use Rattle.cbs_page.specs.Text.{IsPagedText, IsTextFault, text_of_page, max_pages}
 use Rattle.cbs_page.specs.declared.content.Content.{Content}
 use Rattle.cbs_page.specs.declared.paging.Paged.{Paged}
 use Rattle.cbs_page.specs.declared.paging.TextFault.{TextFault}
@@ -72,7 +72,7 @@ IsFirstUcs2 text number place =
 
 -- a page of a message has a number from 1 to the total, and that is at most 15
 abbrev pub IsPageNumber : (number total : ℕ) → Type 0
-IsPageNumber number total = (1 ≤ number) × (number ≤ total) × (total ≤ 15)
+IsPageNumber number total = (1 ≤ number) × (number ≤ total) × (total ≤ max_pages)
 
 abbrev pub IsPage : (id serial coding number total : ℕ) → (content : List ℕ) → (answer : ℕ) → (page : List ℕ) → Type 0
 IsPage id serial coding number total content answer page =

@@ -7,7 +7,7 @@ ghost use Rattle.warnc_c.specs.Calls.{IsPage, IsPageText};
 use crate::output::put;
 use crate::status;
 use cbch_blocks::cut;
-use cbs_page::{Dcs, Serial, page_bytes, page_text, read_page};
+use cbs_page::{Dcs, MAX_PAGES, Serial, page_bytes, page_text, read_page};
 use std::alloc::Global;
 
 /// The 88 octets of a page (3GPP TS 23.041, clause 9.4.1).
@@ -26,7 +26,7 @@ pub extern "C" fn warnc_page(
     ensures answer { IsPage id serial coding number total content.now result page.new }
     ensures stays { result ≢ 0 → page.new ≡ page.old }
 {
-    if number < 1 || number > total || total > 15 {
+    if number < 1 || number > total || usize::from(total) > MAX_PAGES {
         return status::NUMBER;
     }
     *page = page_bytes(id, Serial::of(serial), Dcs(coding), number, total, content);

@@ -2,11 +2,12 @@
 
 ghost use Rattle.std.specs.Prelude.{◌≡◌, ◌≢◌, ◌≤◌, drop, length, not, position, is_some, take};
 ghost use Rattle.std.specs.Str.{chars};
+ghost use Rattle.cbs_page.specs.Text.{max_pages};
 ghost use Rattle.gsm_alphabet.specs.Alphabet.{code_of};
 ghost use Rattle.warnc_c.specs.Calls.{IsFaultNumber, IsFirstUcs2, IsPaginated, KeepsRest, octets_of, used_of};
 
 use crate::status;
-use cbs_page::{Content, Paged, TextFault, paginate};
+use cbs_page::{Content, MAX_PAGES, Paged, TextFault, paginate};
 use gsm_alphabet::encode_char;
 use std::alloc::Global;
 use std::str;
@@ -15,9 +16,9 @@ use std::str;
 #[repr(C)]
 pub struct Pages {
     /// What the pages hold, page 1 first.
-    pub octets: [[u8; 82]; 15],
+    pub octets: [[u8; 82]; MAX_PAGES],
     /// How many octets of each page its text takes, 1 to 82.
-    pub used: [u8; 15],
+    pub used: [u8; MAX_PAGES],
     /// How many pages there are, 1 to 15.
     pub count: u8,
     /// Their data coding (3GPP TS 23.038, clause 5).
@@ -78,7 +79,7 @@ fn fault_number(fault: TextFault, place: &mut usize) -> u32
 
 /// Puts the pages of a text where C has room for them.
 fn put_pages(paged: &Paged, pages: &mut Pages)
-    requires { length paged.now.pages.items ≤ 15 }
+    requires { length paged.now.pages.items ≤ max_pages }
     ensures coding { pages.new.coding ≡ paged.now.dcs.0 }
     ensures count { pages.new.count ≡ length paged.now.pages.items }
     ensures octets { take (length paged.now.pages.items) pages.new.octets ≡ octets_of paged.now.pages.items }

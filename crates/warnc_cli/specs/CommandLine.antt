@@ -6,6 +6,7 @@ use Rattle.std.specs.Prelude.{slice_get, ◌<◌, [], Option, None}
 use Rattle.std.specs.List.{list_any, starts_with}
 use Rattle.std.specs.Str.{bytes_eq}
 use Rattle.std.specs.Str.Parse.{IsNumeral, digits_value, without_leading_plus}
+use Rattle.parallel_compile.specs.Workers.{max_workers}
 use Rattle.alert_book.specs.declared.network.Origin.{Origin}
 use Rattle.alert_book.specs.declared.network.Origin.TheVariants as origin
 use Rattle.cbs_page.specs.Serial.{serial_number, AreSerialFields}
@@ -128,7 +129,7 @@ pub record AsksForRemarks (words : List (List ℕ)) (slots : ℕ) (strict : Bool
 pub record GivesThreads (words : List (List ℕ)) (name : List ℕ) (number : ℕ) : Type 0 where
   pub given : GivesNumber words name number ⊎ ((is_given words name ≡ false) × (number ≡ 1))
   pub some : 1 ≤ number
-  pub most : number ≤ 64
+  pub most : number ≤ max_workers
 
 -- where no word begins with the name `--group` the input is a book, and else it is a network book, of which the words
 -- give the number of a group

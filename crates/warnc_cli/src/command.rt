@@ -11,11 +11,12 @@ ghost use Rattle.warnc_cli.specs.CommandLine.{pages_given, GivesProduct, IsNumbe
 ghost use Rattle.warnc_cli.specs.Tasks.{IsTaskOf};
 
 use alert_book::Origin;
-use cbs_page::Serial;
+use cbs_page::{MAX_PAGES, Serial};
 use cbsp_wire::Cell;
 use clap::builder::ValueParser;
 use clap::{Arg, ArgAction, Command, Error, value_parser};
 use gsmtap::{Channel, ChannelType, Sender, Settings, Slots, Wanted};
+use parallel_compile::MAX_WORKERS;
 use report::Columns;
 use short_pages::Pages;
 use std::alloc::{AllocError, Global};
@@ -810,7 +811,7 @@ fn pages<'a>(alloc: Global) -> Arg<'a> {
         "PAGES",
         "Writes, too, to how many characters each text is cut\nso that it takes at most this many pages, 1 to 15",
     )
-    .value_parser(value_parser!(u16).range(1..=15))
+    .value_parser(value_parser!(u16).range(1..=MAX_PAGES as i64))
 }
 
 /// The option of the message identifier.
@@ -961,5 +962,7 @@ fn optional<'a>(alloc: Global, name: &'a str, value: &'a str, help: &'a str) -> 
 
 /// An option `--name` of a number of threads, which needn't be given.
 fn threads<'a>(alloc: Global, name: &'a str, value: &'a str, help: &'a str) -> Arg<'a> {
-    optional(alloc, name, value, help).value_parser(value_parser!(u16).range(1..=64))
+    optional(alloc, name, value, help).value_parser(value_parser!(u16).range(
+        1..=MAX_WORKERS as i64,
+    ))
 }

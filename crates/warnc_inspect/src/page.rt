@@ -2,6 +2,7 @@
 
 ghost use Rattle.std.specs.Prelude.{◌≡◌, ◌≤◌, ◌+◌, ◌++◌, length, string_bytes, IfErr, IfOk, OnOk};
 ghost use Rattle.std.specs.List.{flat_map};
+ghost use Rattle.cbs_page.specs.Text.{max_pages};
 ghost use Rattle.device_ends.specs.Moves.{ConsumesSome};
 ghost use Rattle.device_ends.specs.Source.{reader_of};
 ghost use Rattle.device_ends.specs.Stream.{FaultOfInput, IsStreamBetween, OutputOfInput};
@@ -118,7 +119,7 @@ fn page_output(
 
 /// The lines of a message's blocks, and of what they show.
 fn output_of(alloc: Global, id: u16, serial: Serial, paged: &Paged) -> Result<String, AllocError>
-    requires { length paged.now.pages.items ≤ 15 }
+    requires { length paged.now.pages.items ≤ max_pages }
     ensures { IfOk result (λ output. string_bytes output ≡ lines_of (blocks_of_message id serial paged.now)) }
 {
     let blocks = blocks_of(alloc, id, serial, paged)?;
@@ -159,7 +160,7 @@ fn blocks_of(
     serial: Serial,
     paged: &Paged,
 ) -> Result<Vec<[u8; 23]>, AllocError>
-    requires { length paged.now.pages.items ≤ 15 }
+    requires { length paged.now.pages.items ≤ max_pages }
     ensures { IfOk result (λ blocks. blocks.items ≡ blocks_of_message id serial paged.now) }
 {
     let total = paged.pages.len() as u8;

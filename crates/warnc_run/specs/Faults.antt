@@ -16,6 +16,7 @@ use Rattle.order_desk.specs.declared.settle.SettleFault.TheVariants as settle
 use Rattle.order_desk.specs.Settled.{ClosedDesk, IsFault}
 use Rattle.parallel_compile.specs.declared.fault.CompileFault.{CompileFault}
 use Rattle.parallel_compile.specs.declared.fault.CompileFault.TheVariants as compile
+use Rattle.parallel_compile.specs.Workers.{max_workers}
 use Rattle.warnc_run.specs.declared.fault.RunFault.{RunFault}
 use Rattle.warnc_run.specs.declared.fault.RunFault.TheVariants as fault
 use Rattle.warnc_run.specs.declared.product.Product.{Product}
@@ -31,9 +32,13 @@ pub record HasReadFrom (from : Origin) (first last : Option (List ℕ)) : Type 0
   pub ended : IsAtEnd last
   pub is_book : IsBookFrom from input book
 
+-- the most sessions of a run
+abbrev pub max_sessions : ℕ
+max_sessions = 64
+
 -- there are 1 to 64 workers
 abbrev pub AreWorkers : ℕ → Type 0
-AreWorkers workers = (0 < workers) × (workers ≤ 64)
+AreWorkers workers = (0 < workers) × (workers ≤ max_workers)
 
 -- a fault of the writer
 abbrev pub IsWriteFault : RunFault → Type 0

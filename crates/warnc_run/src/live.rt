@@ -10,6 +10,7 @@ ghost use Rattle.warnc_run.specs.Made.{IsMade, IsUnmade, Makes};
 ghost use Rattle.warnc_run.specs.Products.{IsCompiled, IsLive, IsLiveFrom};
 ghost use Rattle.warnc_run.specs.declared.fault.RunFault.TheVariants as faults;
 ghost use Rattle.warnc_run.specs.declared.product.Product.TheVariants as product;
+ghost use Rattle.warnc_run.specs.Faults.{max_sessions};
 
 use crate::book::book_from;
 use crate::fault::RunFault;
@@ -97,7 +98,7 @@ pub fn live_stream<T: AllocGlobal + Threads + Wait + Sync, R: Read, W: Write, G:
     gate: &G,
 ) -> Result<(), RunFault>
     requires some { 0 < sessions }
-    requires few { sessions ≤ 64 }
+    requires few { sessions ≤ max_sessions }
     ensures ok { OnOk result (Between R.remaining W.contents (Makes (IsLive slots sessions)) source.old source.new
         sink.old sink.new) }
     ensures err { IfErr result (FaultBetween R.remaining W.contents (IsLiveFault slots sessions) source.old source.new

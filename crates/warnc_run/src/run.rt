@@ -2,8 +2,11 @@
 //! cells.
 
 ghost use Rattle.std.specs.Prelude.{◌≡◌, ◌<◌, ◌≤◌, MatchOption};
+ghost use Rattle.warnc_run.specs.Faults.{max_sessions};
+ghost use Rattle.parallel_compile.specs.Workers.{max_workers};
 
 use alert_book::Origin;
+use parallel_compile::MAX_WORKERS;
 
 /// How many workers play cells and make tapes side by side.
 #[derive(Clone, Copy, Debug, PartialEq, Eq)]
@@ -11,20 +14,23 @@ pub struct Workers {
     /// Their number, 1 to 64.
     pub number: u64,
     pub ghost some: { 0 < number },
-    pub ghost few: { number ≤ 64 },
+    pub ghost few: { number ≤ max_workers },
 }
 
 impl Workers {
     /// As many workers; None if that is none, or over 64.
     pub fn new(number: u64) -> Option<Workers>
-        ensures { MatchOption result ((0 < number) × (number ≤ 64) → ⊥) (λ workers. workers.number ≡ number) }
+        ensures { MatchOption result ((0 < number) × (number ≤ max_workers) → ⊥) (λ workers. workers.number ≡ number) }
     {
-        if number == 0 || number > 64 {
+        if number == 0 || number > MAX_WORKERS {
             return None;
         }
         Some(Workers { number })
     }
 }
+
+/// The most sessions of a run (own).
+const MAX_SESSIONS: u16 = 64;
 
 /// How many sessions order at a desk side by side, each what a part of a book says.
 #[derive(Clone, Copy, Debug, PartialEq, Eq)]
@@ -32,15 +38,16 @@ pub struct Sessions {
     /// Their number, 1 to 64.
     pub number: u16,
     pub ghost some: { 0 < number },
-    pub ghost few: { number ≤ 64 },
+    pub ghost few: { number ≤ max_sessions },
 }
 
 impl Sessions {
     /// As many sessions; None if that is none, or over 64.
     pub fn new(number: u16) -> Option<Sessions>
-        ensures { MatchOption result ((0 < number) × (number ≤ 64) → ⊥) (λ sessions. sessions.number ≡ number) }
+        ensures { MatchOption result ((0 < number) × (number ≤ max_sessions) → ⊥)
+            (λ sessions. sessions.number ≡ number) }
     {
-        if number == 0 || number > 64 {
+        if number == 0 || number > MAX_SESSIONS {
             return None;
         }
         Some(Sessions { number })

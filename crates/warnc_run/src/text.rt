@@ -1,6 +1,7 @@
 //! The texts that are made of a run: the report of its cells, and their chart.
 
 ghost use Rattle.std.specs.Prelude.{◌≡◌, ◌≤◌, ◌++◌, ℕ, List, length, map, All, IfErr, IfOk, OnOk};
+ghost use Rattle.cbsp_wire.specs.Range.{max_listed};
 ghost use Rattle.cbch_blocks.specs.RecordBlocks.{tape_of_record};
 ghost use Rattle.handset.specs.Tape.{readings_of, IsTape};
 ghost use Rattle.warnc_run.specs.Engine.{IsEngineAtEnds, IsOutputFault, IsProductOf, IsText};
@@ -125,7 +126,7 @@ fn text_of_records<T: AllocGlobal + Threads + Wait + Sync>(
     slots: u16,
     workers: Workers,
 ) -> Result<Vec<u8>, RunFault>
-    requires few { length records.now ≤ 64 }
+    requires few { length records.now ≤ max_listed }
     requires tapes { All (λ r. IsTape (tape_of_record r) (reading_of_record r)) records.now }
     ensures ok { IfOk result (λ octets. octets.items ≡ octets_of_text text slots records.now) }
     ensures err { IfErr result IsOfRun }
@@ -179,7 +180,7 @@ fn rows_by<T: AllocGlobal + Threads + Wait + Sync>(
     records: &[CellRecord],
     workers: Workers,
 ) -> Result<Vec<Row>, RunFault>
-    requires few { length records.now ≤ 64 }
+    requires few { length records.now ≤ max_listed }
     requires tapes { All (λ r. IsTape (tape_of_record r) (reading_of_record r)) records.now }
     ensures ok { IfOk result (λ rows. rows.items ≡ own_rows records.now) }
     ensures err { IfErr result IsOfRun }
@@ -224,7 +225,7 @@ fn readings_by<T: AllocGlobal + Threads + Wait + Sync>(
     records: &[CellRecord],
     workers: Workers,
 ) -> Result<Vec<Reading>, RunFault>
-    requires few { length records.now ≤ 64 }
+    requires few { length records.now ≤ max_listed }
     requires tapes { All (λ r. IsTape (tape_of_record r) (reading_of_record r)) records.now }
     ensures ok { IfOk result (λ readings. readings_of readings.items ≡ map reading_of_record records.now) }
     ensures err { IfErr result IsOfRun }

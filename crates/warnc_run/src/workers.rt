@@ -1,6 +1,7 @@
 //! Workers that play the cells of a desk to the ends of their runs, side by side.
 
 ghost use Rattle.std.specs.Prelude.{◌≡◌, ◌<◌, ◌≤◌, length, All, IfErr, IfOk};
+ghost use Rattle.cbsp_wire.specs.Range.{max_listed};
 ghost use Rattle.tickets.specs.Draws.{first_seat, IsSeatOf};
 ghost use Rattle.warnc_run.specs.Faults.{IsOfRun};
 
@@ -91,7 +92,7 @@ pub(crate) fn play_out<T: AllocGlobal + Threads + Wait + Sync, G: Gate>(
     workers: Workers,
     gate: &G,
 ) -> Result<Vec<Pass>, RunFault>
-    requires cells { length desk.now.cells ≤ 64 }
+    requires cells { length desk.now.cells ≤ max_listed }
     ensures { IfErr result IsOfRun }
 {
     let (counter, mut first) = Counter::new(rt.alloc(), desk.cells().len() as u64)?;

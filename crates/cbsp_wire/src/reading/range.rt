@@ -22,7 +22,7 @@ use crate::message::{Cell, Count, Failure, iei};
 use crate::reading::elements::{NUMBERS, find, first_octet, presence};
 use crate::reading::places::Elements;
 use crate::reading::value::{u8_value, u16_value};
-use cbs_page::Dcs;
+use cbs_page::{Dcs, MAX_PAGES};
 
 /// Whether the element is there, if the message needs it.
 fn is_there(elements: &Elements<'_>, element: u8) -> bool
@@ -80,7 +80,7 @@ fn used_is_valid(message_type: MessageType, octets: &[u8]) -> bool
 pub(crate) fn is_page_count(pages: usize) -> bool
     ensures { result ≡ is_page_count pages }
 {
-    1 <= pages && pages <= 15
+    1 <= pages && pages <= MAX_PAGES
 }
 
 /// Whether there are as many contents as pages, from 1 to 15, and at most 82 octets used of each.

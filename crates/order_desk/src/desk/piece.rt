@@ -5,8 +5,11 @@ ghost use Rattle.bsc_table.specs.Book.{aired_pair};
 ghost use Rattle.order_desk.specs.Pieces.{octets_aired, write_page_octets, piece_pages};
 
 use bsc_table::{Aired, CellBook, Command, Entry};
-use cbs_page::page_bytes;
+use cbs_page::{MAX_PAGES, page_bytes};
 use cbsp_wire::Cell;
+
+/// How many slots a piece has at most (own).
+pub const PIECE_SLOTS: u16 = 64;
 
 /// What a cell aired in some slots that follow each other.
 #[derive(Debug, Drop)]
@@ -33,7 +36,7 @@ fn page_of(command: &Command, page: u8) -> Option<[u8; 88]>
         } => {
             let contents = contents.as_slice();
             let total = contents.len();
-            if page == 0 || page as usize > total || total > 15 {
+            if page == 0 || page as usize > total || total > MAX_PAGES {
                 return None;
             }
             let content = &contents[page as usize - 1];
