@@ -88,10 +88,10 @@ function isOf({ id, serial, period, text }, order) {
 }
 
 // Gives each message the row and the name of its order, and returns of each order in how many cells its message is
-// shown or never is, and which cells refused it, by the cause. A cell's lines stand in the order of the rows: each is
-// of the first order after that of the line before it that names the cell and that it can be of.
+// shown, and which cells refused it, by the cause. A cell's lines stand in the order of the rows: each is of the first
+// order after that of the line before it that names the cell and that it can be of.
 function fatesOf(groups, book) {
-    const fates = book.orders.map(({ row }) => ({ row, shown: 0, hidden: 0, refused: {} }));
+    const fates = book.orders.map(({ row }) => ({ row, shown: 0, refused: {} }));
     const named = new Map(book.cells.map(({ key }) => [key, []]));
     book.orders.forEach((order, k) => order.where.forEach((key) => named.get(key)?.push({ order, fate: fates[k] })));
     for (const { cells, messages } of groups) for (const { key } of cells) {
@@ -103,19 +103,18 @@ function fatesOf(groups, book) {
             const { order, fate } = orders[next++];
             if (key === cells[0].key) Object.assign(message, { row: order.row, name: order.name });
             if (message.cause) (fate.refused[message.cause] ||= []).push(key);
-            else if (message.first < 0) fate.hidden++;
-            else fate.shown++;
+            else if (message.first >= 0) fate.shown++;
         }
     }
     return fates;
 }
 
 // Returns what the program doesn't remark yet, as `check --slots` would.
-function ownRemarks({ cells, orders }, fates) {
-    return orders.flatMap(({ row, cells: where, text }, k) => {
-        const { hidden } = fates[k], after = where === "*" ? cells.filter((cell) => cell.row > row).length : 0;
+function ownRemarks({ cells, orders }) {
+    return orders.flatMap(({ row, cells: where, text }) => {
+        const after = where === "*" ? cells.filter((cell) => cell.row > row).length : 0;
         const isSpaced = text?.trim() && text !== text.trim();
-        return [hidden ? `never shown in ${hidden}` : "", isSpaced ? "spaces at an end of the text" : "",
-            after ? `${after} declared after it` : ""].filter(Boolean).map((says) => ({ row, says }));
+        return [isSpaced ? "spaces at an end of the text" : "", after ? `${after} declared after it` : ""]
+            .filter(Boolean).map((says) => ({ row, says }));
     });
 }

@@ -42,7 +42,7 @@ const jobs = {
         if (chart.status) return { fault: chart.says };
         say(3);
         const book = readBook(text), groups = groupsOf(decode(chart.out), decode(report.out), book);
-        const fates = fatesOf(groups, book), own = ownRemarks(book, fates);
+        const fates = fatesOf(groups, book), own = ownRemarks(book);
         return { told: JSON.stringify({ groups, fates, own }) }; // so large a text is passed on faster than its objects
     },
 

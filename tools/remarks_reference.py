@@ -15,9 +15,11 @@ import subprocess
 import sys
 
 import books
+import gsm
 from random_runs import judged
 
-TEXTS = ("Stay in!", " ", "Go up to the roof " * 8, "\n \n", "Вода поднимается, идите наверх. " * 3, "a", "x" * 186)
+TEXTS = ("Stay in!", " ", "Go up to the roof " * 8, "\n \n", "Вода поднимается, идите наверх. " * 3, "a", "x" * 186,
+         "Don’t go out – " * 7, "Woda idzie, idźcie w górę! " * 2, "Don’t go", "№1 ", "€" * 60 + "…")
 NAMES = ("", ",", '"', " é")
 PAST, UNKNOWN = 0x0A, 0x02
 # 3GPP TS 48.049, 8.2
@@ -58,20 +60,21 @@ class Walk:
         self.slots, self.reported, self.clock, self.live = slots, reported, 0, {}
 
     def answer(self, order):
-        """Returns the slot at which the cell did what was ordered, and the cause with which it refused it, one of which
-        is None; or None if it wasn't asked."""
+        """Returns the slot at which the cell did what was ordered, the cause with which it refused it, one of which is
+        None, and whether its message is never shown; or None if it wasn't asked."""
         name = order.alert.name
         live = self.live.get(name)
         if order.verb != "write" and live is None:
             return None
         self.clock = slot = min(self.slots, max(self.clock, order.at))
+        row = self.reported[0] if self.reported else None
         cause = self.cause_of_stop(order, live) if order.verb == "stop" else self.cause_of_next()
         if cause is None:
             self.live[name] = None if order.verb == "stop" else order.alert.update
-            return slot, None
+            return slot, None, order.verb != "stop" and row["shown"] == "no"
         if cause == UNKNOWN:
             self.live[name] = None
-        return None, cause
+        return None, cause, False
 
     def cause_of_next(self):
         shown = self.reported.pop(0)["shown"]
@@ -90,6 +93,10 @@ class Walk:
         return None
 
 
+def cells_in(count):
+    return f"{count} cell{'s' if count > 1 else ''}"
+
+
 def says_of(order, answers, earlier):
     """Yields what is said of an order: `answers` has that of each cell that it names, in the order of the book."""
     asked = {cell: it for cell, it in answers.items() if it is not None}
@@ -98,20 +105,32 @@ def says_of(order, answers, earlier):
         yield "orders nothing"
     elif omitted:
         yield " ".join(["leaves out", *omitted])
-    done = max((slot for slot, cause in asked.values() if cause is None), default=0)
+    done = max((slot for slot, cause, _ in asked.values() if cause is None), default=0)
     if done > order.at:
         yield f"done at slot {done}"
-    causes = [cause for _, cause in asked.values() if cause is not None]
+    causes = [cause for _, cause, _ in asked.values() if cause is not None]
     for cause in dict.fromkeys(it for it in causes if it != PAST):
-        count = causes.count(cause)
-        yield f"refused in {count} cell{'s' if count > 1 else ''}: {CAUSES[cause]}"
+        yield f"refused in {cells_in(causes.count(cause))}: {CAUSES[cause]}"
     if PAST in causes:
         yield "past the end"
+    unshown = sum(it[2] for it in asked.values())
+    if unshown:
+        yield f"never shown in {cells_in(unshown)}"
     if order.verb == "write":
         key = order.alert.identifier, order.alert.scope, order.alert.code
         yield from [f"same identifier and serial number as row {row}" for it, row in earlier if it == key][:1]
-    if order.sending and not order.sending.text.strip(" \n"):
+    if order.sending:
+        yield from says_of_text(order.sending.text)
+
+
+def says_of_text(text):
+    """Yields what is said of a text."""
+    if not text.strip(" \n"):
         yield "only spaces"
+    lacking = [at for at, it in enumerate(text) if it not in gsm.CODES]
+    pages, without = (len(gsm.pieces_of(it)[0]) for it in (text, "".join(it for it in text if it in gsm.CODES)))
+    if 0 < 2 * len(lacking) < len(text) and without < pages:
+        yield f"UCS-2 because of {text[lacking[0]]} at {lacking[0]}: {pages} pages in place of {without}"
 
 
 def table_of(rows, report, slots):

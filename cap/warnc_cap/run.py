@@ -16,6 +16,9 @@ from .text import NoProgram, run
 CAUSES = {"02": "message reference not identified", "06": "BSC capacity exceeded", "0a": "past the end of the run",
           "0d": "message reference already used"}
 STOP = "stop"
+# Remarks that become no note: refusals are told by their causes, a message that is never shown has nothing under
+# `first_shown` of the receipt, and the texts of messages are as their senders wrote them.
+PASSED_OVER = ("refused in ", "never shown in ", "UCS-2 because of ")
 # so many cells that refuse most are run until they settle, before all are
 MOST_CROWDED = 4 * MOST_CELLS
 
@@ -208,5 +211,5 @@ def gather(made, rows, part, said):
             one.left_out += [it for name, every in names.items() if name in rows[place].item.cells for it in every]
         elif what.startswith("done at slot "):
             one.done = max(one.done, int(what.rpartition(" ")[2]))
-        elif not what.startswith("refused in "):
+        elif not what.startswith(PASSED_OVER):
             one.others[what] = True

@@ -1,17 +1,14 @@
 //! What is said of a fault: what is wanted in its place.
 
 ghost use Rattle.std.specs.Prelude.{◌≡◌, IfOk, string_bytes};
-ghost use Rattle.std.specs.Str.{chars};
 ghost use Rattle.csv.specs.Records.{fields_of};
 ghost use Rattle.alert_book.specs.Fields.{column};
 ghost use Rattle.book_check.specs.Words.{columns_words, count_words, pages_words, says_of_row};
-ghost use Rattle.book_texts.specs.Cost.{pages_needed};
-ghost use Rattle.book_check.specs.Words.{says_of_text};
-ghost use Rattle.book_check.specs.Words.{text_of, twice_words, undeclared_words};
+ghost use Rattle.book_check.specs.Words.{says_of_text, text_of, twice_words, undeclared_words};
 
 use crate::words::{column_of, number_words, too_many_words, unknown_words, verb_name, verb_words};
 use alert_book::{Column, Found, Judge, RowFault, Verb, are_texts, columns_of, octets_at, text_at};
-use book_texts::{cost_of_text, first_forcing, place_of_forcing};
+use book_texts::{first_forcing, pages_needed, place_of_forcing};
 use cbs_page::TextFault;
 use cbsp_wire::Cell;
 use csv::ByteRecord;
@@ -109,13 +106,6 @@ pub(crate) fn says_of_row(
         RowFault::TooManyRows => String::from_str(alloc, too_many_words(row)),
         RowFault::Refused => Ok(String::new(alloc)),
     }
-}
-
-/// How many pages a text takes.
-fn pages_needed(text: &str) -> usize
-    ensures { result ≡ pages_needed (chars text.now) }
-{
-    cost_of_text(text).pages
 }
 
 /// What is said of a text that has too many pages.

@@ -6,8 +6,11 @@ use Rattle.std.specs.Prelude.{◌==◌, ◌&&◌, ◌||◌, count_by, filter, ma
 use Rattle.std.specs.List.{flat_map, list_any, range_with_len, slice_get}
 use Rattle.std.specs.Option.{option_map}
 use Rattle.std.proofs.lemmas.Bool.{cases_Bool, eq-eqb, eqb-true, ltb-false, or_parts, cases_eq, ne_eqb}
+use Rattle.std.proofs.lemmas.List.{nil_from_length}
 use Rattle.std.proofs.lemmas.List.Folds.{list_any_more}
+use Rattle.std.proofs.lemmas.List.Sums.{length-filter}
 use Rattle.std.proofs.lemmas.Option.{get_or_from_slice_get, slice_get-map, slice_get_within, slice_get-get_or}
+use Rattle.scheduler.specs.Air.{Air}
 use Rattle.cbsp_wire.specs.declared.cause.TheConstants.{CELL_BROADCAST_NOT_OPERATIONAL}
 use Rattle.cbsp_wire.specs.declared.message.Cell.{Cell}
 use Rattle.alert_book.specs.declared.book.order.Order.{Order}
@@ -21,14 +24,15 @@ use Rattle.book_remarks.specs.declared.mark.Mark.TheVariants as marks
 use Rattle.book_remarks.specs.declared.says.CellMark.{CellMark}
 use Rattle.book_remarks.specs.declared.says.Says.{Says}
 use Rattle.book_remarks.specs.declared.says.Says.TheVariants as says
-use Rattle.book_remarks.specs.Answers.{Column, accepted_after, asks, column_of, is_entry_of, mark_by, mark_of}
-use Rattle.book_remarks.specs.Answers.{mark_of_entry, marks_from, may_ask, names, one_if}
+use Rattle.book_remarks.specs.Answers.{Column, accepted_after, asks, column_of, is_entry_of, is_unseen, mark_by}
+use Rattle.book_remarks.specs.Answers.{mark_of, mark_of_entry, marks_from, may_ask, names, one_if}
 use Rattle.book_remarks.specs.Laws.{IsKept}
 use Rattle.book_remarks.specs.Remarks.{cause_says, cause_says_of, cell_remarks, cells_left_out, is_answered}
-use Rattle.book_remarks.specs.Remarks.{is_left_out, is_refusal, is_refused, late_says, latest, leaving, mark_in}
+use Rattle.book_remarks.specs.Remarks.{is_in_vain, is_left_out, is_refusal, is_refused, is_unshown, late_says, latest}
+use Rattle.book_remarks.specs.Remarks.{leaving, mark_in}
 use Rattle.book_remarks.specs.Remarks.{new_cause_says, order_remarks, order_says, past_says, refused_at, refused_says}
 use Rattle.book_remarks.specs.Remarks.{remark_of, remarks_at, remarks_in, remarks_of_place, same_says, slot_done}
-use Rattle.book_remarks.specs.Remarks.{text_says, unasked_says}
+use Rattle.book_remarks.specs.Remarks.{text_says, unasked_says, unshown_count, unshown_says}
 
 -- nothing is made of two lists only where both are empty
 nil_both : {X : Type 0} (xs ys : List X) → xs ++ ys ≡ [] → (xs ≡ []) × (ys ≡ [])
@@ -105,7 +109,7 @@ by_latest (x ∷ ms) (suc k) m is =
 refusing : (cause : ℕ) (mark : Mark) → is_refusal cause mark ≡ true → mark ≡ marks.Refused cause
 refusing cause marks.Elsewhere is = absurd (search (rules, is))
 refusing cause marks.LeftOut is = absurd (search (rules, is))
-refusing cause (marks.Done slot) is = absurd (search (rules, is))
+refusing cause (marks.Done slot unseen) is = absurd (search (rules, is))
 refusing cause (marks.Refused of) is = ap marks.Refused (eqb-true of cause is)
 
 -- a cause that no cell before has is told
@@ -209,16 +213,56 @@ none_late at ms none = elim (cases_Bool (nat_lt at (latest ms))) [
   | inr isnt ↦ ltb-false at (latest ms) isnt
 ]
 
+-- where a filter leaves none of a list, the first doesn't pass it, and none of the others is left
+first_filtered : {X : Type 0} (p : X → Bool) (x : X) (xs : List X) → filter p (x ∷ xs) ≡ [] → p x ≡ false
+first_filtered p x xs none = elim (cases_Bool (p x)) [
+  | inl passes ↦
+      let told : x ∷ filter p xs ≡ [] =
+      ap (λ (b : Bool). cond b (x ∷ filter p xs) (filter p xs)) (sym passes) ∙ none in
+      absurd (search (rules, told))
+  | inr fails ↦ fails
+]
+
+others_filtered : {X : Type 0} (p : X → Bool) (x : X) (xs : List X) → filter p (x ∷ xs) ≡ [] → filter p xs ≡ []
+others_filtered p x xs none =
+    ap (λ (b : Bool). cond b (x ∷ filter p xs) (filter p xs)) (sym (first_filtered p x xs none)) ∙ none
+
+none_filtered : {X : Type 0} (p : X → Bool) (xs : List X) (k : ℕ) (x : X) → filter p xs ≡ []
+    → slice_get xs k ≡ Some x
+    → p x ≡ false
+none_filtered p [] k x none is = absurd (search (rules, is))
+none_filtered p (y ∷ xs) zero x none is =
+    subst (λ z. p z ≡ false) (same_some y x is) (first_filtered p y xs none)
+none_filtered p (y ∷ xs) (suc k) x none is = none_filtered p xs k x (others_filtered p y xs none) is
+
+-- where none is counted, none passes a test
+none_counted : {X : Type 0} (p : X → Bool) (xs : List X) (k : ℕ) (x : X) → count_by p xs ≡ 0
+    → slice_get xs k ≡ Some x
+    → p x ≡ false
+none_counted p xs k x none is =
+    none_filtered p xs k x (nil_from_length (filter p xs) (length-filter p xs ∙ none)) is
+
+-- no message is in vain
+none_unshown : (ms : List CellMark) → unshown_says ms ≡ [] → unshown_count ms ≡ 0
+none_unshown ms none = elim (cases_Bool (unshown_count ms == 0)) [
+  | inl is ↦ eqb-true (unshown_count ms) 0 is
+  | inr some ↦
+      let told : says.NeverShown (unshown_count ms) ∷ [] ≡ [] =
+      ap (λ (b : Bool). cond b [] (says.NeverShown (unshown_count ms) ∷ [])) (sym some) ∙ none in
+      absurd (search (rules, told))
+]
+
 -- what became of an order of which nothing is said, in a cell that it names
 kept_by : (at : ℕ) (mark : Mark) (last : ℕ) → (mark ≡ marks.Elsewhere → ⊥) → (mark ≡ marks.LeftOut → ⊥)
     → ((cause : ℕ) → is_refusal cause mark ≡ false)
     → slot_done mark ≤ last
     → last ≤ at
+    → is_in_vain mark ≡ false
     → IsKept at mark
-kept_by at marks.Elsewhere last named asked unrefused done late = named refl
-kept_by at marks.LeftOut last named asked unrefused done late = asked refl
-kept_by at (marks.Done slot) last named asked unrefused done late = omega (arith, done, late)
-kept_by at (marks.Refused cause) last named asked unrefused done late =
+kept_by at marks.Elsewhere last named asked unrefused done late seen = named refl
+kept_by at marks.LeftOut last named asked unrefused done late seen = asked refl
+kept_by at (marks.Done slot unseen) last named asked unrefused done late seen = (omega (arith, done, late), seen)
+kept_by at (marks.Refused cause) last named asked unrefused done late seen =
     let is : (cause == cause) ≡ true = eq-eqb cause cause refl in
     let isnt = unrefused cause in
     search (rules, is, isnt)
@@ -229,11 +273,13 @@ kept_in : (earlier : List Order) (order : Order) (ms : List CellMark) (k : ℕ) 
     → (m.mark ≡ marks.Elsewhere → ⊥)
     → IsKept order.at m.mark
 kept_in earlier order ms k m none is named =
-    let without_text = (nil_both ((((unasked_says ms ++ late_says order.at ms) ++ refused_says ms) ++ past_says ms)
-    ++ same_says earlier order) (text_says (sending_of order.action)) none).0 in
-    let without_same = (nil_both (((unasked_says ms ++ late_says order.at ms) ++ refused_says ms) ++ past_says ms)
-    (same_says earlier order) without_text).0 in
-    let past = nil_both ((unasked_says ms ++ late_says order.at ms) ++ refused_says ms) (past_says ms) without_same in
+    let without_text = (nil_both (((((unasked_says ms ++ late_says order.at ms) ++ refused_says ms) ++ past_says ms)
+    ++ unshown_says ms) ++ same_says earlier order) (text_says (sending_of order.action)) none).0 in
+    let without_same = (nil_both ((((unasked_says ms ++ late_says order.at ms) ++ refused_says ms) ++ past_says ms)
+    ++ unshown_says ms) (same_says earlier order) without_text).0 in
+    let unshown = nil_both (((unasked_says ms ++ late_says order.at ms) ++ refused_says ms) ++ past_says ms)
+    (unshown_says ms) without_same in
+    let past = nil_both ((unasked_says ms ++ late_says order.at ms) ++ refused_says ms) (past_says ms) unshown.0 in
     let refused = nil_both (unasked_says ms ++ late_says order.at ms) (refused_says ms) past.0 in
     let late = nil_both (unasked_says ms) (late_says order.at ms) refused.0 in
     let asked : m.mark ≡ marks.LeftOut → ⊥ =
@@ -241,53 +287,56 @@ kept_in earlier order ms k m none is named =
     kept_by order.at m.mark (latest ms) named asked
     (λ cause. none_refused ms k m cause refused.1 past.1 is)
     (by_latest ms k m is) (none_late order.at ms late.1)
+    (none_counted is_unshown ms k m (none_unshown ms unshown.1) is)
   where
     both_ways : is_left_out m ≡ false → m.mark ≡ marks.LeftOut → ⊥
     both_ways asked out = search (rules, asked, out)
 
 -- what became of an order in a cell that it names isn't that it doesn't
-entry_is_there : (slot : ℕ) (answer : Answer) → mark_by slot answer ≡ marks.Elsewhere → ⊥
-entry_is_there slot (answers.Started start) is = search (rules, is)
-entry_is_there slot (answers.Replaced start completed) is = search (rules, is)
-entry_is_there slot (answers.Stopped completed) is = search (rules, is)
-entry_is_there slot (answers.Told completed state) is = search (rules, is)
-entry_is_there slot answers.Unknown is = search (rules, is)
-entry_is_there slot (answers.Cause cause) is = search (rules, is)
-entry_is_there slot answers.Refused is = search (rules, is)
+entry_is_there : (slot : ℕ) (unseen : Bool) (answer : Answer) → mark_by slot unseen answer ≡ marks.Elsewhere → ⊥
+entry_is_there slot unseen (answers.Started start) is = search (rules, is)
+entry_is_there slot unseen (answers.Replaced start completed) is = search (rules, is)
+entry_is_there slot unseen (answers.Stopped completed) is = search (rules, is)
+entry_is_there slot unseen (answers.Told completed state) is = search (rules, is)
+entry_is_there slot unseen answers.Unknown is = search (rules, is)
+entry_is_there slot unseen (answers.Cause cause) is = search (rules, is)
+entry_is_there slot unseen answers.Refused is = search (rules, is)
 
-next_is_there : (next : Option Entry) → mark_of_entry next ≡ marks.Elsewhere → ⊥
-next_is_there None is = search (rules, is)
-next_is_there (Some e) is = entry_is_there e.slot e.answer is
+next_is_there : (air : Air) (place : ℕ) (next : Option Entry) → mark_of_entry air place next ≡ marks.Elsewhere → ⊥
+next_is_there air place None is = search (rules, is)
+next_is_there air place (Some e) is = entry_is_there e.slot (is_unseen air place e) e.answer is
 
-there : (order : Order) (cell : Cell) (accepted : List ℕ) (next : Option Entry) → names order cell ≡ true
-    → mark_of order cell accepted next ≡ marks.Elsewhere
+there : (order : Order) (cell : Cell) (accepted : List ℕ) (air : Air) (place : ℕ) (next : Option Entry)
+    → names order cell ≡ true
+    → mark_of order cell accepted air place next ≡ marks.Elsewhere
     → ⊥
-there order cell accepted next named is =
+there order cell accepted air place next named is =
     let asked = may_ask accepted order && is_entry_of order next in
-    let one : cond asked (mark_of_entry next) marks.LeftOut ≡ marks.Elsewhere =
-    ap (λ (b : Bool). cond b (cond asked (mark_of_entry next) marks.LeftOut) marks.Elsewhere) (sym named) ∙ is in
+    let mark = mark_of_entry air place next in
+    let one : cond asked mark marks.LeftOut ≡ marks.Elsewhere =
+    ap (λ (b : Bool). cond b (cond asked mark marks.LeftOut) marks.Elsewhere) (sym named) ∙ is in
     elim (cases_Bool asked) [
       | inl so ↦
-          next_is_there next (ap (λ (b : Bool). cond b (mark_of_entry next) marks.LeftOut) (sym so) ∙ one)
+          next_is_there air place next (ap (λ (b : Bool). cond b mark marks.LeftOut) (sym so) ∙ one)
       | inr isnt ↦
           let out : marks.LeftOut ≡ marks.Elsewhere =
-          ap (λ (b : Bool). cond b (mark_of_entry next) marks.LeftOut) (sym isnt) ∙ one in
+          ap (λ (b : Bool). cond b mark marks.LeftOut) (sym isnt) ∙ one in
           search (rules, out)
     ]
 
-there_at : (orders : List Order) (place : ℕ) (order : Order) (cell : Cell) (log : List Entry) (at : ℕ)
+there_at : (orders : List Order) (place : ℕ) (order : Order) (cell : Cell) (air : Air) (log : List Entry) (at : ℕ)
     (accepted : List ℕ)
     → slice_get orders place ≡ Some order
     → names order cell ≡ true
-    → get_or (marks_from cell log at accepted orders) place marks.Elsewhere ≡ marks.Elsewhere
+    → get_or (marks_from cell air log at accepted orders) place marks.Elsewhere ≡ marks.Elsewhere
     → ⊥
-there_at [] place order cell log at accepted found named is = search (rules, found)
-there_at (o ∷ orders) zero order cell log at accepted found named is =
-    there o cell accepted (slice_get log at)
+there_at [] place order cell air log at accepted found named is = search (rules, found)
+there_at (o ∷ orders) zero order cell air log at accepted found named is =
+    there o cell accepted air at (slice_get log at)
     (subst (λ (it : Order). names it cell ≡ true) (sym (same_some o order found)) named) is
-there_at (o ∷ orders) (suc place) order cell log at accepted found named is =
-    there_at orders place order cell log (at + one_if (asks o cell accepted (slice_get log at)))
-    (accepted_after accepted o (mark_of o cell accepted (slice_get log at))) found named is
+there_at (o ∷ orders) (suc place) order cell air log at accepted found named is =
+    there_at orders place order cell air log (at + one_if (asks o cell accepted (slice_get log at)))
+    (accepted_after accepted o (mark_of o cell accepted air at (slice_get log at))) found named is
 
 -- all of it
 pub unremarked_are_kept : (orders : List Order) (records : List Record) (place : ℕ) (order : Order) (k : ℕ) (r : Record)
@@ -311,4 +360,4 @@ unremarked_are_kept orders records place order k r none found in_run named =
     let mark : slice_get (map (mark_in place) columns) k ≡ Some (mark_in place (column_of orders r)) =
     slice_get-map (mark_in place) columns k ∙ ap (option_map (mark_in place)) column in
     kept_in (take place orders) order (map (mark_in place) columns) k (mark_in place (column_of orders r)) said mark
-    (λ is. there_at orders place order r.cell r.log 0 [] found named is)
+    (λ is. there_at orders place order r.cell r.air r.log 0 [] found named is)

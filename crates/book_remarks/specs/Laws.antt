@@ -1,5 +1,5 @@
 -- What holds of remarks by their definition alone (own).
-use Rattle.std.specs.Prelude.{◌≡◌, ℕ, ◌≤◌, true, Some, List, [], slice_index_or}
+use Rattle.std.specs.Prelude.{◌≡◌, ℕ, ◌≤◌, false, true, Some, List, [], slice_index_or}
 use Rattle.std.specs.List.{slice_get}
 use Rattle.alert_book.specs.declared.book.order.Order.{Order}
 use Rattle.bsc_table.specs.Record.{Record}
@@ -10,15 +10,15 @@ use Rattle.book_remarks.specs.Answers.{column_of, names}
 use Rattle.book_remarks.specs.Remarks.{remarks_in}
 use Rattle.book_remarks.specs.Remarked.{IsRemarked}
 
--- the cell did what was ordered for this slot, and no later
+-- the cell did what was ordered for this slot, and no later; and if that was to send a message, its last page was sent
 abbrev pub IsKept : (at : ℕ) → Mark → Type 0
 IsKept at marks.Elsewhere = ⊥
 IsKept at marks.LeftOut = ⊥
-IsKept at (marks.Done slot) = slot ≤ at
+IsKept at (marks.Done slot unseen) = (slot ≤ at) × (unseen ≡ false)
 IsKept at (marks.Refused cause) = ⊥
 
 -- where nothing is remarked, each cell of the run did what each order that names it orders, and no later than at its
--- slot
+-- slot, and sent the last page of its message
 abbrev pub UnremarkedAreKept : Type 0
 UnremarkedAreKept = (orders : List Order) (records : List Record) (place : ℕ) (order : Order) (k : ℕ) (r : Record)
     → remarks_in orders records ≡ []

@@ -1,9 +1,11 @@
 -- What is remarked of a book and of its run (own): orders that do nothing, or not in each of their cells, or late;
--- those that are refused; texts of nothing but spaces; equal serial numbers; and cells that get nothing. None of these
--- is a fault.
-use Rattle.std.specs.Prelude.{ℕ, ◌==◌, ◌&&◌, ◌||◌, Bool, true, false, if◌then◌else◌, max, nat_lt, Option, Some, None}
+-- those that are refused, or never shown; equal serial numbers; texts of nothing but spaces, and texts that a few
+-- characters have sent in UCS-2; and cells that get nothing. None of these is a fault.
+use Rattle.std.specs.Prelude.{ℕ, ◌-◌, ◌==◌, ◌&&◌, ◌||◌, Bool, true, false, if◌then◌else◌, max, nat_lt, Option, Some}
+use Rattle.std.specs.Prelude.{None}
 use Rattle.std.specs.Prelude.{is_some, List, [], ◌∷◌, ◌++◌, count_by, filter, find, length, map, slice_index_or, take}
 use Rattle.std.specs.List.{flat_map, list_all, list_any, range_with_len, slice_get}
+use Rattle.std.specs.Str.{chars}
 use Rattle.cbsp_wire.specs.declared.cause.TheConstants.{CELL_BROADCAST_NOT_OPERATIONAL}
 use Rattle.cbsp_wire.specs.declared.message.Cell.{Cell}
 use Rattle.alert_book.specs.declared.book.order.Alert.{Alert}
@@ -11,6 +13,7 @@ use Rattle.alert_book.specs.declared.book.order.Order.{Order}
 use Rattle.alert_book.specs.declared.book.order.Sending.{Sending}
 use Rattle.alert_book.specs.Book.{sending_of}
 use Rattle.alert_book.specs.Row.{is_write}
+use Rattle.book_texts.specs.Cost.{first_forcing, forcing_count, pages_needed, pages_without_forcing, place_of_forcing}
 use Rattle.bsc_table.specs.declared.entry.Entry.{Entry}
 use Rattle.bsc_table.specs.Record.{Record, start_of}
 use Rattle.book_remarks.specs.declared.mark.Mark.{Mark}
@@ -32,7 +35,7 @@ mark_in place column = record { cell = column.cell; mark = slice_index_or column
 abbrev pub is_answer : Mark → Bool
 is_answer marks.Elsewhere = false
 is_answer marks.LeftOut = false
-is_answer (marks.Done slot) = true
+is_answer (marks.Done slot unseen) = true
 is_answer (marks.Refused cause) = true
 
 abbrev pub is_answered : CellMark → Bool
@@ -42,7 +45,7 @@ is_answered m = is_answer m.mark
 abbrev pub is_omission : Mark → Bool
 is_omission marks.Elsewhere = false
 is_omission marks.LeftOut = true
-is_omission (marks.Done slot) = false
+is_omission (marks.Done slot unseen) = false
 is_omission (marks.Refused cause) = false
 
 abbrev pub is_left_out : CellMark → Bool
@@ -66,7 +69,7 @@ unasked_says in_cells =
 abbrev pub slot_done : Mark → ℕ
 slot_done marks.Elsewhere = 0
 slot_done marks.LeftOut = 0
-slot_done (marks.Done slot) = slot
+slot_done (marks.Done slot unseen) = slot
 slot_done (marks.Refused cause) = 0
 
 -- the latest slot at which a cell did what was ordered
@@ -82,7 +85,7 @@ late_says at in_cells = if nat_lt at (latest in_cells) then says.DoneAt (latest 
 abbrev pub is_refusal : (cause : ℕ) → Mark → Bool
 is_refusal cause marks.Elsewhere = false
 is_refusal cause marks.LeftOut = false
-is_refusal cause (marks.Done slot) = false
+is_refusal cause (marks.Done slot unseen) = false
 is_refusal cause (marks.Refused of) = of == cause
 
 abbrev pub is_refused : (cause : ℕ) → CellMark → Bool
@@ -102,7 +105,7 @@ new_cause_says before in_cells cause =
 abbrev pub cause_says : (before in_cells : List CellMark) → Mark → List Says
 cause_says before in_cells marks.Elsewhere = []
 cause_says before in_cells marks.LeftOut = []
-cause_says before in_cells (marks.Done slot) = []
+cause_says before in_cells (marks.Done slot unseen) = []
 cause_says before in_cells (marks.Refused cause) = new_cause_says before in_cells cause
 
 abbrev pub cause_says_of : (before in_cells : List CellMark) → Option CellMark → List Says
@@ -117,6 +120,24 @@ refused_before in_cells place = flat_map (refused_at in_cells) (range_with_len 0
 
 abbrev pub refused_says : List CellMark → List Says
 refused_says in_cells = refused_before in_cells (length in_cells)
+
+-- Orders that cells accept, and of which nobody ever sees anything.
+
+abbrev pub is_in_vain : Mark → Bool
+is_in_vain marks.Elsewhere = false
+is_in_vain marks.LeftOut = false
+is_in_vain (marks.Done slot unseen) = unseen
+is_in_vain (marks.Refused cause) = false
+
+abbrev pub is_unshown : CellMark → Bool
+is_unshown m = is_in_vain m.mark
+
+abbrev pub unshown_count : List CellMark → ℕ
+unshown_count in_cells = count_by is_unshown in_cells
+
+-- in how many cells its message is never shown
+abbrev pub unshown_says : List CellMark → List Says
+unshown_says in_cells = if unshown_count in_cells == 0 then [] else says.NeverShown (unshown_count in_cells) ∷ []
 
 -- Alerts of one identifier and serial number.
 
@@ -139,15 +160,37 @@ same_says earlier order = if is_write order then same_as (find (is_write_with or
 abbrev pub is_blank : ℕ → Bool
 is_blank octet = (octet == 32) || (octet == 10)
 
+abbrev pub blank_says : (text : List ℕ) → List Says
+blank_says text = if list_all is_blank text then says.OnlySpaces ∷ [] else []
+
+-- Texts that a few characters have sent in UCS-2, of which a page holds less than half as many.
+
+-- GSM 7-bit has more than half of a text's characters, and those that it has take fewer pages than the text
+abbrev pub is_dear : (text : List ℕ) → Bool
+is_dear text =
+    nat_lt (forcing_count text) (length text - forcing_count text)
+    && nat_lt (pages_without_forcing text) (pages_needed text)
+
+-- the first of these characters is named
+abbrev pub dear_says : (text : List ℕ) → (character place : Option ℕ) → List Says
+dear_says text None place = []
+dear_says text (Some character) None = []
+dear_says text (Some character) (Some place) =
+    if is_dear text then says.ForcesUcs2 character place (pages_needed text) (pages_without_forcing text) ∷ [] else []
+
+abbrev pub coding_says : (text : List ℕ) → List Says
+coding_says text = dear_says text (first_forcing text) (place_of_forcing text)
+
+-- what is said of an order's text
 abbrev pub text_says : Option Sending → List Says
 text_says None = []
-text_says (Some sending) = if list_all is_blank sending.text then says.OnlySpaces ∷ [] else []
+text_says (Some sending) = blank_says sending.text ++ coding_says (chars sending.text)
 
 -- all that is said of an order, by the orders before it and by what became of it in the cells of the run
 abbrev pub order_says : (earlier : List Order) → Order → List CellMark → List Says
 order_says earlier order in_cells =
-    ((((unasked_says in_cells ++ late_says order.at in_cells) ++ refused_says in_cells) ++ past_says in_cells)
-    ++ same_says earlier order) ++ text_says (sending_of order.action)
+    (((((unasked_says in_cells ++ late_says order.at in_cells) ++ refused_says in_cells) ++ past_says in_cells)
+    ++ unshown_says in_cells) ++ same_says earlier order) ++ text_says (sending_of order.action)
 
 abbrev pub remark_of : Order → Says → Remark
 remark_of order said = remarks.OfOrder order.row order.name said

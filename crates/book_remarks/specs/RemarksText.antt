@@ -1,5 +1,5 @@
 -- The text of remarks, as CSV: a line for each (own).
-use Rattle.std.specs.Prelude.{ℕ, ◌==◌, if◌then◌else◌, List, [], ◌∷◌, ◌++◌, codes}
+use Rattle.std.specs.Prelude.{ℕ, ◌==◌, if◌then◌else◌, List, [], ◌∷◌, ◌++◌, codes, encode_utf8}
 use Rattle.std.specs.Fmt.{decimal}
 use Rattle.std.specs.List.{flat_map}
 use Rattle.csv.specs.Writing.{default_writer, row_text}
@@ -36,8 +36,12 @@ says_text (says.DoneAt slot) = codes "done at slot " ++ decimal slot
 says_text (says.Refused count cause) =
     codes "refused in " ++ (decimal count ++ (codes " " ++ (cells_word count ++ (codes ": " ++ cause_words cause))))
 says_text says.PastTheEnd = codes "past the end"
+says_text (says.NeverShown count) = codes "never shown in " ++ (decimal count ++ (codes " " ++ cells_word count))
 says_text (says.SameAs row) = codes "same identifier and serial number as row " ++ decimal row
 says_text says.OnlySpaces = codes "only spaces"
+says_text (says.ForcesUcs2 character place pages without) =
+    codes "UCS-2 because of " ++ (encode_utf8 character ++ (codes " at " ++ (decimal place ++ (codes ": "
+    ++ (decimal pages ++ (codes " pages in place of " ++ decimal without))))))
 
 -- the fields of a remark: the row and the name of its order, or else its cell
 abbrev pub remark_fields : Remark → List (List ℕ)

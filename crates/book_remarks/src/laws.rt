@@ -2,9 +2,9 @@
 
 ghost use Rattle.book_remarks.specs.Laws.{RemarkedAreClean, RemarksAreOne, UnremarkedAreKept};
 
-/// Where nothing is remarked, each cell did what each order that names it orders, and no later than at its slot. For a
-/// number of slots octets have one table of remarks, and if they have one, no row has a fault. It does nothing: its
-/// contract is the law, and its body names the laws that carry it.
+/// Where nothing is remarked, each cell did what each order that names it orders, and no later than at its slot, and
+/// sent the last page of the order's message. For a number of slots octets have one table of remarks, and if they have
+/// one, no row has a fault. It does nothing: its contract is the law, and its body names the laws that carry it.
 pub fn remark_laws()
     ensures kept { UnremarkedAreKept }
     ensures one { RemarksAreOne }

@@ -1,15 +1,18 @@
 //! What became of each order of a book in a cell of its run.
 
-ghost use Rattle.std.specs.Prelude.{◌≡◌, ◌==◌, [], IfOk, OnOk};
+ghost use Rattle.std.specs.Prelude.{◌≡◌, ◌==◌, [], is_some, IfOk, OnOk};
 ghost use Rattle.std.specs.List.{list_any, slice_get};
 ghost use Rattle.std.specs.Option.{option_copied};
 ghost use Rattle.alert_book.specs.Row.{is_write};
+ghost use Rattle.bsc_table.specs.Book.{air_pairs, aired_pair};
+ghost use Rattle.bsc_table.specs.Record.{start_of};
+ghost use Rattle.scheduler.specs.Pages.{airs_page};
 ghost use Rattle.book_remarks.specs.Answers.{accepted_after, asks, cells_named, column_of, is_done, is_entry_of};
-ghost use Rattle.book_remarks.specs.Answers.{is_ordered, kills_alert, mark_by, mark_of, mark_of_entry, marks_from};
-ghost use Rattle.book_remarks.specs.Answers.{may_ask, names, writes_version};
+ghost use Rattle.book_remarks.specs.Answers.{is_never_whole, is_ordered, is_unseen, kills_alert, mark_by, mark_of};
+ghost use Rattle.book_remarks.specs.Answers.{mark_of_entry, marks_from, may_ask, names, sends_page, writes_version};
 
 use alert_book::{Action, Alert, Order};
-use bsc_table::{Answer, CellRecord, Command, Entry};
+use bsc_table::{Aired, Answer, CellRecord, Command, Entry};
 use cbsp_wire::Cell;
 use cbsp_wire::cells::contains;
 use std::alloc::{AllocError, Global};
@@ -26,6 +29,8 @@ pub enum Mark {
     Done {
         /// The slot at which it did.
         slot: u16,
+        /// Whether it accepted a message of which no broadcast is whole in the run, so that no phone shows it.
+        unseen: bool,
     },
     /// The cell refused it with this cause (3GPP TS 48.049, 8.2, Cause).
     Refused {
@@ -160,9 +165,73 @@ fn asks(order: &Order, cell: Cell, accepted: &[u16], next: Option<&Entry>) -> bo
     is_entry_of(order, next) && names(order, cell) && may_ask(accepted, order)
 }
 
+/// Whether a slot sends this page of the entry at a place of the log.
+fn airs_page(used: &Option<Aired>, place: usize, page: usize) -> bool
+    ensures { result ≡ airs_page place page (aired_pair used.now) }
+{
+    match used {
+        Some(aired) => usize::from(aired.entry) == place && usize::from(aired.page) == page,
+        None => false,
+    }
+}
+
+/// Whether one of these slots sends this page of the entry at a place of the log.
+fn is_sent(air: &[Option<Aired>], place: usize, page: usize) -> bool
+    ensures { result ≡ list_any (airs_page place page) (air_pairs air.now) }
+{
+    for used in air {
+        if airs_page(used, place, page) {
+            return true;
+        }
+    }
+    false
+}
+
+/// Whether some slot from this one on sends this page of the entry at a place of the log.
+fn sends_page(air: &[Option<Aired>], slot: u16, place: usize, page: usize) -> bool
+    ensures { result ≡ sends_page (air_pairs air.now) slot place page }
+{
+    let later = &air[usize::from(slot).min(air.len())..];
+    is_sent(later, place, page)
+}
+
+/// Whether no broadcast of a write is whole from this slot on, which is the entry at a place of the log.
+fn is_never_whole(air: &[Option<Aired>], slot: u16, place: usize, command: &Command) -> bool
+    ensures { result ≡ is_never_whole (air_pairs air.now) slot place command.now }
+{
+    match command {
+        Command::Write { contents, .. } => {
+            !sends_page(air, slot, place, contents.as_slice().len())
+        }
+        Command::Kill { .. } => false,
+        Command::Status { .. } => false,
+    }
+}
+
+/// Whether an entry started a message.
+pub(crate) fn starts(entry: &Entry) -> bool
+    ensures { result ≡ is_some (start_of entry.now.answer) }
+{
+    match entry.answer {
+        Answer::Started { .. } | Answer::Replaced { .. } => true,
+        Answer::Stopped { .. }
+        | Answer::Told { .. }
+        | Answer::Unknown
+        | Answer::Cause(_)
+        | Answer::Refused => false,
+    }
+}
+
+/// Whether an entry at a place of the log started a message of which no broadcast is whole.
+fn is_unseen(air: &[Option<Aired>], place: usize, entry: &Entry) -> bool
+    ensures { result ≡ is_unseen (air_pairs air.now) place entry.now }
+{
+    starts(entry) && is_never_whole(air, entry.slot, place, &entry.command)
+}
+
 /// What became of an order, by the answer to it at a slot.
-fn mark_by(slot: u16, answer: Answer) -> Mark
-    ensures { result ≡ mark_by slot answer }
+fn mark_by(slot: u16, unseen: bool, answer: Answer) -> Mark
+    ensures { result ≡ mark_by slot unseen answer }
 {
     match answer {
         Answer::Cause(cause) => Mark::Refused { cause },
@@ -171,24 +240,31 @@ fn mark_by(slot: u16, answer: Answer) -> Mark
         | Answer::Stopped { .. }
         | Answer::Told { .. }
         | Answer::Unknown
-        | Answer::Refused => Mark::Done { slot },
+        | Answer::Refused => Mark::Done { slot, unseen },
     }
 }
 
-/// What became of an order that asked, by its entry.
-fn mark_of_entry(next: Option<&Entry>) -> Mark
-    ensures { result ≡ mark_of_entry (option_copied next.entry) }
+/// What became of an order that asked, by its entry, which is at this place of the log.
+fn mark_of_entry(air: &[Option<Aired>], place: usize, next: Option<&Entry>) -> Mark
+    ensures { result ≡ mark_of_entry (air_pairs air.now) place (option_copied next.entry) }
 {
     match next {
-        Some(entry) => mark_by(entry.slot, entry.answer),
+        Some(entry) => mark_by(entry.slot, is_unseen(air, place, entry), entry.answer),
         None => Mark::LeftOut,
     }
 }
 
 /// What became of an order in a cell that has accepted the first versions of these alerts, and whose log goes on with
-/// this entry.
-fn mark_of(order: &Order, cell: Cell, accepted: &[u16], next: Option<&Entry>) -> Mark
-    ensures { result ≡ mark_of order.now cell accepted.now (option_copied next.entry) }
+/// this entry, at this place.
+fn mark_of(
+    order: &Order,
+    cell: Cell,
+    accepted: &[u16],
+    air: &[Option<Aired>],
+    place: usize,
+    next: Option<&Entry>,
+) -> Mark
+    ensures { result ≡ mark_of order.now cell accepted.now (air_pairs air.now) place (option_copied next.entry) }
 {
     if !names(order, cell) {
         return Mark::Elsewhere;
@@ -196,7 +272,7 @@ fn mark_of(order: &Order, cell: Cell, accepted: &[u16], next: Option<&Entry>) ->
     if !is_entry_of(order, next) || !may_ask(accepted, order) {
         return Mark::LeftOut;
     }
-    mark_of_entry(next)
+    mark_of_entry(air, place, next)
 }
 
 /// Whether a cell did what was ordered.
@@ -230,21 +306,22 @@ fn entry_at(log: &[Entry], place: usize) -> Option<&Entry>
     }
 }
 
-/// What became of orders in a cell with this log.
+/// What became of orders in a cell that has sent these pages and has this log.
 fn marks_of(
     alloc: Global,
     cell: Cell,
+    air: &[Option<Aired>],
     log: &[Entry],
     orders: &[Order],
 ) -> Result<Vec<Mark>, AllocError>
-    ensures { IfOk result (λ marks. marks.items ≡ marks_from cell log.now 0 [] orders.now) }
+    ensures { IfOk result (λ marks. marks.items ≡ marks_from cell (air_pairs air.now) log.now 0 [] orders.now) }
 {
     let mut marks = Vec::with_capacity(alloc, orders.len())?;
     let mut accepted = Vec::new(alloc);
     let mut place = 0;
     for order in orders {
         let next = entry_at(log, place);
-        let mark = mark_of(order, cell, accepted.as_slice(), next);
+        let mark = mark_of(order, cell, accepted.as_slice(), air, place, next);
         place += usize::from(asks(order, cell, accepted.as_slice(), next));
         keep_accepted(&mut accepted, order, mark)?;
         marks.push(mark)?;
@@ -267,6 +344,6 @@ pub fn column_of(
     let cell = run.cell();
     Ok(CellColumn {
         cell,
-        marks: marks_of(alloc, cell, run.log(), orders)?,
+        marks: marks_of(alloc, cell, run.air(), run.log(), orders)?,
     })
 }

@@ -6,10 +6,10 @@ ghost use Rattle.book_remarks.specs.Answers.{column_of};
 ghost use Rattle.book_remarks.specs.Remarks.{cell_remarks, mark_in, order_remarks, remark_of, remarks_before};
 ghost use Rattle.book_remarks.specs.Remarks.{remarks_in, starts};
 
-use crate::mark::{CellColumn, Mark, column_of};
+use crate::mark::{CellColumn, Mark, column_of, starts};
 use crate::says::{CellMark, Says, says_of};
 use alert_book::{Order, Text};
-use bsc_table::{Answer, CellRecord, Entry};
+use bsc_table::{CellRecord, Entry};
 use cbsp_wire::Cell;
 use std::alloc::{AllocError, Global};
 
@@ -120,20 +120,6 @@ fn push_orders(
         push_order(alloc, remarks, &orders[..place], order, &in_cells)?;
     }
     Ok(())
-}
-
-/// Whether an entry starts a message.
-fn starts(entry: &Entry) -> bool
-    ensures { result ≡ starts entry.now }
-{
-    match entry.answer {
-        Answer::Started { .. } | Answer::Replaced { .. } => true,
-        Answer::Stopped { .. }
-        | Answer::Told { .. }
-        | Answer::Unknown
-        | Answer::Cause(_)
-        | Answer::Refused => false,
-    }
 }
 
 /// Whether a cell has accepted a message.

@@ -3,15 +3,21 @@
 ghost use Rattle.std.specs.Prelude.{◌≡◌, ◌++◌, count_by, filter, find, map, IfOk, OnOk};
 ghost use Rattle.std.specs.List.{list_all, list_any};
 ghost use Rattle.std.specs.Option.{option_copied};
+ghost use Rattle.std.specs.Str.{chars};
 ghost use Rattle.alert_book.specs.Book.{sending_of};
 ghost use Rattle.alert_book.specs.Row.{is_write};
 ghost use Rattle.book_remarks.specs.Remarks.{cause_says, cells_left_out, is_answer, is_answered, is_blank};
 ghost use Rattle.book_remarks.specs.Remarks.{is_left_out, is_omission, is_refusal, is_refused, is_same, is_write_with};
 ghost use Rattle.book_remarks.specs.Remarks.{late_says, latest, new_cause_says, order_says, past_says, refused_says};
-ghost use Rattle.book_remarks.specs.Remarks.{same_says, slot_done, text_says, unasked_says};
+ghost use Rattle.book_remarks.specs.Remarks.{blank_says, coding_says, is_dear, same_says, slot_done, text_says};
+ghost use Rattle.book_remarks.specs.Remarks.{is_in_vain, unasked_says, unshown_count, unshown_says};
 
 use crate::mark::{Mark, is_write};
 use alert_book::{Action, Alert, Order, Sending};
+use book_texts::{
+    cost_of_text, first_forcing, forcing_count, pages_needed, pages_without_forcing,
+    place_of_forcing,
+};
 use cbsp_wire::cause::CELL_BROADCAST_NOT_OPERATIONAL;
 use cbsp_wire::{Cell, Cells};
 use std::alloc::{AllocError, Global};
@@ -46,6 +52,11 @@ pub enum Says {
     },
     /// The run was over in a cell.
     PastTheEnd,
+    /// Cells accepted its message, and no broadcast of it is whole, so that no phone shows it.
+    NeverShown {
+        /// In how many cells.
+        cells: usize,
+    },
     /// An earlier row has written an alert of the same identifier and serial number.
     SameAs {
         /// The first of these rows.
@@ -53,6 +64,18 @@ pub enum Says {
     },
     /// Its text has spaces and line feeds alone.
     OnlySpaces,
+    /// A few characters have its text sent in UCS-2, in which it takes more pages: GSM 7-bit (3GPP TS 23.038) lacks
+    /// these, and has more than half of its characters.
+    ForcesUcs2 {
+        /// The first of them.
+        character: char,
+        /// How many characters stand before it.
+        place: usize,
+        /// How many pages the text takes.
+        pages: usize,
+        /// How many it would take without these characters.
+        without: usize,
+    },
 }
 
 /// Whether an order asked a cell.
@@ -125,7 +148,7 @@ fn slot_done(mark: Mark) -> u16
     ensures { result ≡ slot_done mark }
 {
     match mark {
-        Mark::Done { slot } => slot,
+        Mark::Done { slot, .. } => slot,
         Mark::Elsewhere | Mark::LeftOut | Mark::Refused { .. } => 0,
     }
 }
@@ -246,6 +269,39 @@ fn push_past(said: &mut Vec<Says>, in_cells: &[CellMark]) -> Result<(), AllocErr
     Ok(())
 }
 
+/// Whether a cell accepted a message that is never shown.
+fn is_in_vain(mark: Mark) -> bool
+    ensures { result ≡ is_in_vain mark }
+{
+    match mark {
+        Mark::Done { unseen, .. } => unseen,
+        Mark::Elsewhere | Mark::LeftOut | Mark::Refused { .. } => false,
+    }
+}
+
+/// In how many cells the message of an order is never shown.
+fn count_unshown(in_cells: &[CellMark]) -> usize
+    ensures { result ≡ unshown_count in_cells.now }
+{
+    let mut count = 0;
+    for m in in_cells {
+        count += usize::from(is_in_vain(m.mark));
+    }
+    count
+}
+
+/// Appends what is said of an order whose message is never shown.
+fn push_unshown(said: &mut Vec<Says>, in_cells: &[CellMark]) -> Result<(), AllocError>
+    ensures { OnOk result (said.new.items ≡ said.old.items ++ unshown_says in_cells.now) }
+{
+    let cells = count_unshown(in_cells);
+    if cells == 0 {
+        return Ok(());
+    }
+    said.push(Says::NeverShown { cells })?;
+    Ok(())
+}
+
 /// Whether an order is a `write` of an alert of this identifier, scope and code.
 fn is_write_with(alert: Alert, order: &Order) -> bool
     ensures { result ≡ is_write_with alert order.now }
@@ -305,6 +361,45 @@ fn sending_of(order: &Order) -> Option<&Sending>
     }
 }
 
+/// Appends what is said of a text that shows nothing.
+fn push_blank(said: &mut Vec<Says>, text: &str) -> Result<(), AllocError>
+    ensures { OnOk result (said.new.items ≡ said.old.items ++ blank_says text.now) }
+{
+    if !is_blank(text.as_bytes()) {
+        return Ok(());
+    }
+    said.push(Says::OnlySpaces)?;
+    Ok(())
+}
+
+/// Whether GSM 7-bit has more than half of a text's characters, and those that it has take fewer pages than the text.
+fn is_dear(text: &str) -> bool
+    ensures { result ≡ is_dear (chars text.now) }
+{
+    let forcing = forcing_count(text);
+    let others = cost_of_text(text).characters.saturating_sub(forcing);
+    forcing < others && pages_without_forcing(text) < pages_needed(text)
+}
+
+/// Appends what is said of a text that a few characters have sent in UCS-2.
+fn push_coding(said: &mut Vec<Says>, text: &str) -> Result<(), AllocError>
+    ensures { OnOk result (said.new.items ≡ said.old.items ++ coding_says (chars text.now)) }
+{
+    let (Some(character), Some(place)) = (first_forcing(text), place_of_forcing(text)) else {
+        return Ok(());
+    };
+    if !is_dear(text) {
+        return Ok(());
+    }
+    said.push(Says::ForcesUcs2 {
+        character,
+        place,
+        pages: pages_needed(text),
+        without: pages_without_forcing(text),
+    })?;
+    Ok(())
+}
+
 /// Appends what is said of an order's text.
 fn push_text(said: &mut Vec<Says>, order: &Order) -> Result<(), AllocError>
     ensures { OnOk result (said.new.items ≡ said.old.items ++ text_says (sending_of order.now.action)) }
@@ -312,11 +407,9 @@ fn push_text(said: &mut Vec<Says>, order: &Order) -> Result<(), AllocError>
     match sending_of(order) {
         None => Ok(()),
         Some(sending) => {
-            if !is_blank(sending.text.text.as_bytes()) {
-                return Ok(());
-            }
-            said.push(Says::OnlySpaces)?;
-            Ok(())
+            let text = sending.text.text.as_str();
+            push_blank(said, text)?;
+            push_coding(said, text)
         }
     }
 }
@@ -335,6 +428,7 @@ pub(crate) fn says_of(
     push_late(&mut said, order.at, in_cells)?;
     push_refused(&mut said, in_cells)?;
     push_past(&mut said, in_cells)?;
+    push_unshown(&mut said, in_cells)?;
     push_same(&mut said, earlier, order)?;
     push_text(&mut said, order)?;
     Ok(said)

@@ -62,10 +62,24 @@ fn says_text(alloc: Global, says: &Says) -> Result<String, AllocError>
             format!(in alloc; "refused in {cells} {word}: {why}")
         }
         Says::PastTheEnd => String::from_str(alloc, "past the end"),
+        Says::NeverShown { cells } => {
+            let word = cells_word(*cells);
+            format!(in alloc; "never shown in {cells} {word}")
+        }
         Says::SameAs { row } => {
             format!(in alloc; "same identifier and serial number as row {row}")
         }
         Says::OnlySpaces => String::from_str(alloc, "only spaces"),
+        Says::ForcesUcs2 {
+            character,
+            place,
+            pages,
+            without,
+        } => {
+            format!(in alloc;
+                "UCS-2 because of {character} at {place}: {pages} pages in place of {without}"
+            )
+        }
     }
 }
 

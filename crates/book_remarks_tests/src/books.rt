@@ -31,7 +31,8 @@ run cell,7,65535| -> ,,1-2,gets nothing|,,7-65535,gets nothing
 # Slots that fall are done late: at the slot of the order before in the cell.
 before cell,1,1|cell,1,2|write,20,fire,4370,0,1,en,2,4,0,*,Stay in!|
 run write,4,storm,4371,0,2,en,2,4,0,*,Go| -> 4,storm,,done at slot 20
-run write,4,storm,4371,0,2,en,2,4,0,*,Go|stop,12,fire,1-1| -> 4,storm,,done at slot 20|5,fire,,done at slot 20
+run write,4,storm,4371,0,2,en,2,4,0,*,Go|stop,12,fire,1-1| -> 3,fire,,never shown in 1 cell|\
+    4,storm,,done at slot 20|5,fire,,done at slot 20
 run write,20,storm,4371,0,2,en,2,4,0,*,Go| -> none
 before cell,1,1|cell,1,2|write,20,fire,4370,0,1,en,2,4,0,1-1,Stay in!|
 run write,4,storm,4371,0,2,en,2,4,0,1-2,Go| -> none
@@ -44,13 +45,38 @@ run write,24,flood,4371,0,3,en,2,4,0,*,Go| -> 4,flood,,past the end
 run stop,24,fire,*| -> 4,fire,,past the end
 run write,30,flood,4371,0,3,en,2,4,0,1-1,Go|stop,2,fire,*| -> 4,flood,,past the end|5,fire,,past the end
 slots 25
-run write,24,flood,4371,0,3,en,2,4,0,*,Go| -> none
+run write,24,flood,4371,0,3,en,2,4,0,1-1,Go| -> 4,flood,,never shown in 1 cell
+run write,24,flood,4371,0,3,en,0,4,0,1-1,Go| -> none
 slots 24
+
+# Stopped or replaced at its own slot a message is never sent; of one of two pages the last comes in the slot after.
+run stop,0,fire,*| -> 3,fire,,never shown in 2 cells
+run stop,0,fire,1-1| -> 3,fire,,never shown in 1 cell
+run stop,1,fire,*| -> none
+run update,0,fire,en,2,4,0,*,Out!| -> 3,fire,,never shown in 2 cells
+run write,23,b,4371,0,3,pl,2,8,0,*,óóóóóóóóóóóóóóóóóóóóóóóóóóóóóóóóóóóóóóóóóó| -> \
+    4,b,,never shown in 2 cells
+run write,22,b,4371,0,3,pl,2,8,0,*,óóóóóóóóóóóóóóóóóóóóóóóóóóóóóóóóóóóóóóóóóó| -> none
 
 # Texts of nothing but spaces.
 run write,2,b,4371,0,3,en,2,4,0,*, | -> 4,b,,only spaces
 run update,2,fire,en,2,4,0,*,\" | \"| -> 4,fire,,only spaces
 run update,2,fire,en,2,4,0,*, .| -> none
+
+# A page holds 41 characters in UCS-2, and 93 of GSM 7-bit, which lacks the ó.
+run write,2,b,4371,0,3,pl,2,8,0,*,aaaaaaaaaabbbbbbbbbbccccccccccddddddddddeó| -> \
+    4,b,,UCS-2 because of ó at 41: 2 pages in place of 1
+run update,2,fire,pl,2,8,0,*,óaaaaaaaaabbbbbbbbbbccccccccccddddddddddeó| -> \
+    4,fire,,UCS-2 because of ó at 0: 2 pages in place of 1
+run write,2,b,4371,0,3,pl,2,8,0,*,aaaaaaaaaabbbbbbbbbbccccccccccddddddddddó| -> none
+
+# It lacks half of a text, and then one less.
+run write,2,b,4371,0,3,ru,2,8,0,*,aaaaaaaaaabbbbbbbbbbcДДДДДДДДДДддддддддддд| -> none
+run write,2,b,4371,0,3,ru,2,8,0,*,aaaaaaaaaabbbbbbbbbbccДДДДДДДДДДддддддддддд| -> \
+    4,b,,UCS-2 because of Д at 22: 2 pages in place of 1
+
+# 47 escape pairs take two pages, too.
+run write,2,b,4371,0,3,en,2,8,0,*,€€€€€€€€€€€€€€€€€€€€€€€€€€€€€€€€€€€€€€€€€€€€€€€…| -> none
 ";
 
 /// Refused orders, with the causes of 3GPP TS 48.049, 8.2.
@@ -60,7 +86,7 @@ before cell,1,1|cell,1,2|write,0,a,4370,0,1,en,2,2,0,*,A|write,0,b,4371,0,2,en,2
 run write,0,c,4372,0,3,en,2,2,0,1-1,C| -> 5,c,,refused in 1 cell: BSC capacity exceeded
 run write,0,c,4372,0,3,en,2,2,0,*,C| -> 5,c,,refused in 1 cell: BSC capacity exceeded
 run write,0,c,4372,0,3,en,2,1,0,*,C| -> 5,c,,refused in 2 cells: BSC capacity exceeded
-run write,0,c,4372,0,3,en,1,1,0,*,C| -> none
+run write,0,c,4372,0,3,en,1,1,0,*,C| -> 5,c,,never shown in 1 cell
 
 # What was refused isn't live: so its stop orders nothing, and where it was accepted it is stopped.
 run write,0,c,4372,0,3,en,2,1,0,*,C|stop,4,c,*| -> 5,c,,refused in 2 cells: BSC capacity exceeded|\
@@ -116,7 +142,7 @@ writes 3 sell| -> WriteFailed, true, 30
 
 #[test]
 fn mistakes_are_remarked(rt: HostRuntime) -> Result<(), Fail> {
-    expect_rows(&rt, MISTAKES, 26)
+    expect_rows(&rt, MISTAKES, 39)
 }
 
 #[test]

@@ -15,7 +15,7 @@ const SIZE: usize = 1000;
 /// A book of which several things are remarked.
 const BOOK: &[u8] =
     b"cell,1,1\ncell,1,2\nwrite,0,a,4370,0,1,en,2,2,0,1-1,A\nwrite,0,b,4371,0,2,en,2,1,0,1-1,B\n\
-    stop,0,a,*\nstop,0,b,*\n";
+    stop,1,a,*\nstop,0,b,*\n";
 
 /// What is remarked of it.
 const REMARKS: &str = "row,name,cell,says\n\

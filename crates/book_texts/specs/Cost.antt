@@ -2,10 +2,11 @@
 -- text that is sent (3GPP TS 23.038, clauses 6.1.2.2, 6.2.1 and 6.2.3), but here a text may take any number of pages.
 use Rattle.std.specs.Prelude.{◌≡◌, ℕ, ◌+◌, ◌-◌, Bool, if◌then◌else◌, nat_le, not, is_some, List, [], ◌∷◌, length}
 use Rattle.std.specs.Prelude.{Option}
-use Rattle.std.specs.Prelude.{find, position, sum_by}
+use Rattle.std.specs.Prelude.{count_by, find, position, sum_by}
 use Rattle.gsm_alphabet.specs.Alphabet.{code_of}
 use Rattle.cbs_page.specs.Text.{alphabet_for, capacity, cost_of, IsPagingOf}
 use Rattle.cbs_page.specs.declared.coding.Alphabet.{Alphabet}
+use Rattle.cbs_page.specs.declared.coding.Alphabet.TheVariants.{Gsm}
 use Rattle.book_texts.specs.declared.cost.TextCost.{TextCost}
 
 -- how many codes the last of some pieces takes, where the piece before them takes this many
@@ -35,10 +36,14 @@ pages_from alphabet used (character ∷ rest) =
     then pages_from alphabet (used + cost_of alphabet character) rest
     else 1 + pages_from alphabet (cost_of alphabet character) rest
 
+-- how many a text takes in an alphabet; a character that the alphabet lacks takes no room
+abbrev pub pages_needed_in : Alphabet → List ℕ → ℕ
+pages_needed_in alphabet [] = 0
+pages_needed_in alphabet (character ∷ rest) = pages_from alphabet 0 (character ∷ rest)
+
 -- how many a text takes
 abbrev pub pages_needed : List ℕ → ℕ
-pages_needed [] = 0
-pages_needed (character ∷ rest) = pages_from (alphabet_for (character ∷ rest)) 0 (character ∷ rest)
+pages_needed text = pages_needed_in (alphabet_for text) text
 
 -- a character that GSM 7-bit lacks, so that a text with it is sent in UCS-2
 abbrev pub forces_ucs2 : ℕ → Bool
@@ -50,3 +55,11 @@ first_forcing text = find forces_ucs2 text
 
 abbrev pub place_of_forcing : List ℕ → Option ℕ
 place_of_forcing text = position forces_ucs2 text
+
+-- how many of a text's characters force it
+abbrev pub forcing_count : List ℕ → ℕ
+forcing_count text = count_by forces_ucs2 text
+
+-- how many pages a text would take without them
+abbrev pub pages_without_forcing : List ℕ → ℕ
+pages_without_forcing text = pages_needed_in Gsm text

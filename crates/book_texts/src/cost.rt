@@ -5,7 +5,8 @@ ghost use Rattle.std.specs.List.{list_all};
 ghost use Rattle.std.specs.Str.{chars};
 ghost use Rattle.gsm_alphabet.specs.Alphabet.{code_of};
 ghost use Rattle.cbs_page.specs.Text.{alphabet_for, capacity};
-ghost use Rattle.book_texts.specs.Cost.{first_forcing, forces_ucs2, place_of_forcing, IsCostOf};
+ghost use Rattle.book_texts.specs.Cost.{first_forcing, forces_ucs2, forcing_count, pages_needed};
+ghost use Rattle.book_texts.specs.Cost.{pages_without_forcing, place_of_forcing, IsCostOf};
 ghost use Rattle.book_texts.specs.TextsSteps.{Fills};
 
 use cbs_page::Alphabet;
@@ -61,6 +62,29 @@ pub fn place_of_forcing(text: &str) -> Option<usize>
     ensures { result ≡ place_of_forcing (chars text.now) }
 {
     text.chars().position(forces_ucs2)
+}
+
+/// How many characters of a text GSM 7-bit lacks.
+pub fn forcing_count(text: &str) -> usize
+    ensures { result ≡ forcing_count (chars text.now) }
+{
+    text.chars()
+        .filter(|character| forces_ucs2(*character))
+        .count()
+}
+
+/// How many pages a text takes.
+pub fn pages_needed(text: &str) -> usize
+    ensures { result ≡ pages_needed (chars text.now) }
+{
+    cost_of_text(text).pages
+}
+
+/// How many pages a text would take without the characters that GSM 7-bit lacks.
+pub fn pages_without_forcing(text: &str) -> usize
+    ensures { result ≡ pages_without_forcing (chars text.now) }
+{
+    filling_of(text, Alphabet::Gsm).pages
 }
 
 /// Whether GSM 7-bit lacks a character.

@@ -1,6 +1,6 @@
 //! Words that are no command line, and words that ask for help or for the version.
 
-use crate::rows::expect_rows;
+use command_rows::expect_rows;
 use std::test::Fail;
 
 const USAGE: &str = "
@@ -144,11 +144,11 @@ says --workers <WORKERS> -> yes
 # the version names the toolchain
 args --version
 run -> 0
-out -> warnc 1.6.0
+out -> warnc 1.7.0
 starts rattle-kit- -> yes
 args -V
 run -> 0
-out -> warnc 1.6.0
+out -> warnc 1.7.0
 starts rattle-kit- -> yes
 
 # no device takes the text
