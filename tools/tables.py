@@ -4,7 +4,7 @@
 Usage: tables.py PROGRAM      the last line says how many rows were as wanted, how many weren't, and how many need
                               devices that fail or memory that runs out, which only the tests have
 
-crates/warnc_cli_tests/src/rows.rt says what a row does. Here each run is a process.
+crates/command_rows/src/rows.rt says what a row does. Here each run is a process.
 """
 import glob
 import os

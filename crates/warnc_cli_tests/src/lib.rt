@@ -3,10 +3,6 @@
 #![tactic(auto)]
 
 #[cfg(test)]
-mod attempts;
-#[cfg(test)]
-mod bench;
-#[cfg(test)]
 mod books;
 #[cfg(test)]
 mod captures;
@@ -21,8 +17,6 @@ mod malformed;
 #[cfg(test)]
 mod malformed_table;
 #[cfg(test)]
-mod octets;
-#[cfg(test)]
 mod page;
 #[cfg(test)]
 mod read;
@@ -30,8 +24,6 @@ mod read;
 mod rows;
 #[cfg(test)]
 mod scarce;
-#[cfg(test)]
-mod shortage;
 #[cfg(test)]
 mod verify;
 #[cfg(test)]

@@ -1,7 +1,7 @@
 //! Malformed tapes: each front of some tapes, and each of their octets changed to each other value.
 
-use crate::bench::{Bench, runs};
 use crate::malformed_table::TABLE;
+use command_rows::{Bench, runs};
 use std::sync::Wait;
 use std::test::Fail;
 use std::thread::Threads;

@@ -1,6 +1,6 @@
 //! Words that are no command line, and words that ask for help or for the version.
 
-use command_rows::expect_rows;
+use crate::rows::expect_rows;
 use std::test::Fail;
 
 const USAGE: &str = "

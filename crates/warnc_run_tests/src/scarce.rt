@@ -74,7 +74,7 @@ live 8 2 2 -> done
 all -> worked
 ";
 
-/// The records of a book, their report, and their chart.
+/// The records of a book, and their report.
 const REPORT: &str = "
 in cell,1,1
 in write,0,a,4370,0,1,en,2,2,0,1-1,@
@@ -88,7 +88,13 @@ scarce 200 report 2 1 -> refused; done
 all -> worked
 scarce-threads 200 report 2 2 -> refused; done
 all -> worked
+records 2 2 -> done
+";
 
+/// Their chart.
+const CHART: &str = "
+in cell,1,1
+in write,0,a,4370,0,1,en,2,2,0,1-1,@
 chart 2 1 -> done
 keep
 scarce 200 chart 2 1 -> refused; done
@@ -96,7 +102,6 @@ all -> worked
 scarce-threads 200 chart 2 2 -> refused; done
 all -> worked
 
-records 2 2 -> done
 chart 2 2 -> done
 all -> worked
 ";
@@ -182,8 +187,13 @@ fn refused_memory_is_reported_by_live(rt: HostRuntime) -> Result<(), Fail> {
 }
 
 #[test]
-fn refused_memory_is_reported_by_report_and_chart(rt: HostRuntime) -> Result<(), Fail> {
+fn refused_memory_is_reported_by_report(rt: HostRuntime) -> Result<(), Fail> {
     expect_rows(&rt, REPORT)
+}
+
+#[test]
+fn refused_memory_is_reported_by_charts(rt: HostRuntime) -> Result<(), Fail> {
+    expect_rows(&rt, CHART)
 }
 
 #[test]
