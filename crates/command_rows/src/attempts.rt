@@ -320,7 +320,7 @@ fn grow_stack(seed: u16) -> u8 {
 }
 
 /// Runs the program again and again, short of memory as a row says.
-pub fn attempts<T: AllocGlobal + Threads + Wait + Sync>(
+pub(crate) fn attempts<T: AllocGlobal + Threads + Wait + Sync>(
     rt: &T,
     bench: &mut Bench,
     verb: &str,

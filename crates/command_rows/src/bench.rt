@@ -1,5 +1,7 @@
 //! A bench on which the program runs between memory and memory.
 
+ghost use Rattle.std.specs.Prelude.{◌≡◌, []};
+
 use crate::octets::{Sheet, Written};
 use device_ends::memory::MemoryReader;
 use std::alloc::Global;
@@ -11,13 +13,13 @@ use warnc_cli::run::{run, run_with_book};
 
 /// How many octets a device moves a call, and after how many calls it fails.
 #[derive(Clone, Copy)]
-pub struct Pace {
-    pub octets: usize,
-    pub calls: Option<usize>,
+pub(crate) struct Pace {
+    pub(crate) octets: usize,
+    pub(crate) calls: Option<usize>,
 }
 
 /// A device that gives or takes so many octets a call, and doesn't fail.
-pub fn steady(octets: usize) -> Pace {
+pub(crate) fn steady(octets: usize) -> Pace {
     Pace {
         octets,
         calls: None,
@@ -30,22 +32,27 @@ pub struct Bench<'a> {
     pub args: &'a str,
     pub input: Sheet,
     /// How many octets of the input the next run gets at most.
-    pub front: usize,
-    pub book: Sheet,
+    pub(crate) front: usize,
+    pub(crate) book: Sheet,
     /// Whether the next run of `verify` gets no book.
-    pub is_bookless: bool,
-    pub worked: Sheet,
-    pub book_reader: Pace,
-    pub reader: Pace,
-    pub writer: Pace,
-    pub faults_writer: Pace,
+    pub(crate) is_bookless: bool,
+    pub(crate) worked: Sheet,
+    pub(crate) book_reader: Pace,
+    pub(crate) reader: Pace,
+    pub(crate) writer: Pace,
+    pub(crate) faults_writer: Pace,
     pub output: Written,
     pub faults: Written,
 }
 
 impl<'a> Bench<'a> {
     /// A bench with no words and no input.
-    pub fn new(alloc: Global) -> Bench<'a> {
+    pub fn new(alloc: Global) -> Bench<'a>
+        ensures words { result.args.now ≡ [] }
+        ensures input { result.input.octets.items ≡ [] }
+        ensures book { result.book.octets.items ≡ [] }
+        ensures worked { result.worked.octets.items ≡ [] }
+    {
         Bench {
             args: "",
             input: Sheet::new(alloc),
@@ -63,13 +70,13 @@ impl<'a> Bench<'a> {
     }
 
     /// How many octets of the last run weren't looked at.
-    pub fn unseen(&self) -> usize {
+    pub(crate) fn unseen(&self) -> usize {
         let output = self.output.left().len();
         output.saturating_add(self.faults.left().len())
     }
 
     /// The command line.
-    pub fn words(&self, alloc: Global) -> Result<Vec<&'a str>, Fail> {
+    pub(crate) fn words(&self, alloc: Global) -> Result<Vec<&'a str>, Fail> {
         let mut words = Vec::new(alloc);
         words.push("warnc")?;
         for word in self.args.split_whitespace() {
@@ -79,7 +86,7 @@ impl<'a> Bench<'a> {
     }
 
     /// Has steady devices again, and a new book, input and worked octets if lines name some.
-    pub fn renew(&mut self) {
+    pub(crate) fn renew(&mut self) {
         self.front = usize::MAX;
         self.is_bookless = false;
         self.book_reader = steady(7);

@@ -3,10 +3,11 @@
 #![tactic(auto)]
 
 mod attempts;
-pub mod bench;
-pub mod octets;
-pub mod rows;
+mod bench;
+mod octets;
+mod rows;
 mod shortage;
 
 pub use bench::{Bench, runs};
+pub use octets::{Sheet, Written};
 pub use rows::count_rows;

@@ -13,7 +13,7 @@ use test_support::Room;
 
 /// A runtime that counts the steps of a run, and takes all memory but a room at one of them.
 #[derive(Drop)]
-pub struct Shortage<'a, T> {
+pub(crate) struct Shortage<'a, T> {
     rt: &'a T,
     steps: AtomicU64,
     /// The step at which memory ends, from 1; 0 if it doesn't.
@@ -25,7 +25,7 @@ pub struct Shortage<'a, T> {
 
 impl<'a, T: AllocGlobal> Shortage<'a, T> {
     /// A runtime with all memory.
-    pub fn new(rt: &'a T) -> Result<Shortage<'a, T>, Fail> {
+    pub(crate) fn new(rt: &'a T) -> Result<Shortage<'a, T>, Fail> {
         let room = Room::new(rt.alloc())?;
         Ok(Shortage {
             rt,
@@ -37,14 +37,14 @@ impl<'a, T: AllocGlobal> Shortage<'a, T> {
     }
 
     /// Is for a run that has made no step: at the step `end` memory ends, but for so many blocks. It doesn't at 0.
-    pub fn renew(&mut self, end: u64, blocks: u16) {
+    pub(crate) fn renew(&mut self, end: u64, blocks: u16) {
         self.steps = AtomicU64::new(0);
         self.end = end;
         self.blocks = blocks;
     }
 
     /// Gives all memory back, and returns how many steps the run has made.
-    pub fn give_back(&self) -> u64 {
+    pub(crate) fn give_back(&self) -> u64 {
         if let Some(mut room) = self.room.try_lock() {
             room.end();
         }
@@ -72,14 +72,14 @@ impl<T: Wait> Wait for Shortage<'_, T> {}
 
 /// A reader of octets in memory, whose reads are steps of a run.
 #[derive(Drop)]
-pub struct SteppingReader<'a, T> {
+pub(crate) struct SteppingReader<'a, T> {
     rt: &'a T,
     reader: MemoryReader<'a>,
 }
 
 impl<'a, T> SteppingReader<'a, T> {
     /// A reader of these octets, for a run on this runtime.
-    pub fn new(rt: &'a T, octets: &'a [u8]) -> SteppingReader<'a, T> {
+    pub(crate) fn new(rt: &'a T, octets: &'a [u8]) -> SteppingReader<'a, T> {
         SteppingReader {
             rt,
             reader: MemoryReader::new(octets, 1000, None),
@@ -87,7 +87,7 @@ impl<'a, T> SteppingReader<'a, T> {
     }
 
     /// The octets that are left.
-    pub fn rest(&self) -> &'a [u8] {
+    pub(crate) fn rest(&self) -> &'a [u8] {
         self.reader.rest()
     }
 }
