@@ -1,19 +1,22 @@
 #!/usr/bin/env python3
-"""Makes captures of tapes and tapes of captures, as docs/formats.md describes them: a second program against which
-`warnc pcap` and `warnc tape` are compared. It shares nothing with them.
+"""Makes captures of tapes, tapes of captures and tables of their senders, as docs/formats.md describes them: a second
+program against which `warnc pcap`, `warnc tape` and `warnc cells` are compared. It shares nothing with them.
 
 Usage: capture_reference.py [--used] [--channel 51|52] < tapes > air.pcap
        capture_reference.py --back LAC-CI SLOTS [IPV4] < air.pcap > tape
+       capture_reference.py --cells < air.pcap
        capture_reference.py --compare PROGRAM [RUNS]     random tapes there and back, with packets that are put in order
                                                          anew, doubled, dropped, foreign or cut, in the classic format
                                                          and in pcapng; each file is made by both programs
        capture_reference.py --tshark PROGRAM < tapes     what tshark shows of the captures that a built program makes,
                                                          beside what its `read` shows: identifiers, serial numbers and
-                                                         texts of pages
+                                                         texts of pages; and who sends there, beside its `cells`
 """
 import argparse
 import csv
+import os
 import random
+import re
 import shutil
 import struct
 import subprocess
@@ -22,6 +25,7 @@ import sys
 import gsm
 from gsm import Refused
 
+HERE = os.path.dirname(os.path.realpath(__file__))
 # link types of libpcap, tags of virtual networks, and the type of IPv4 in Ethernet
 LINKS = (0, 1, 101, 108, 113, 228, 276)
 TAGS = (b"\x81\x00", b"\x88\xa8")
@@ -32,9 +36,11 @@ ORDERS = {b"\x4D\x3C\x2B\x1A": "<", b"\x1A\x2B\x3C\x4D": ">"}
 INTERFACE, OLD_PACKET, SIMPLE_PACKET, PACKET = 1, 2, 3, 6
 FRAMES = 51 * 26 * 2048
 SLOTS = FRAMES // 51 // 8
+MOST_SLOTS = 65535
 CHANNELS = {51: 15, 52: 12}
 # in a multiframe, by the channel's number in GSMTAP
 FIRST_FRAMES = {15: 32, 12: 8}
+CHOOSE = ": if several send, choose one by --from or --arfcn"
 
 
 def ones_sum(octets):
@@ -144,8 +150,11 @@ def each_in_blocks(octets):
             elif kind == SIMPLE_PACKET:
                 size = struct.unpack_from(order + "I", body)[0]
                 link, _, longest = faces[0]
+                size = min(size, longest or size)
+                if size > len(body) - 4:
+                    raise IndexError
                 number += 1
-                yield number, link, body[4:][:min(size, longest or size)]
+                yield number, link, body[4:4 + size]
         except (struct.error, IndexError):
             raise Refused(f"packet {number + 1}: wrong block") from None
 
@@ -226,6 +235,33 @@ def block_in(link, octets, source, channel, is_sdcch):
     return frame, octets[4 * words:]
 
 
+def sender_in(link, octets):
+    """Returns who sends the block that a packet carries, and how it is marked, or None."""
+    for is_sdcch in (False, True):
+        found = block_in(link, octets, None, None, is_sdcch)
+        if found is not None and found[0] // 51 % 8 < 4:
+            inside = internet_in(link, octets)
+            source, = struct.unpack_from(">I", inside, 12)
+            arfcn, = struct.unpack_from(">H", inside, 4 * (inside[0] & 15) + 8 + 4)
+            return source, arfcn & 0x3FFF, "sdcch" if is_sdcch else "cbch"
+    return None
+
+
+def senders_of(octets):
+    """Returns the table of who sends in a capture."""
+    found = {}
+    for number, link, inside in packets_of(octets):
+        if link not in LINKS:
+            raise Refused(f"packet {number}: {unknown(link)}")
+        sender = sender_in(link, inside)
+        if sender is not None:
+            found.setdefault(sender, [number, number])[1] = number
+    rows = [("source", "arfcn", "channel", "first", "last")]
+    rows += [(".".join(map(str, struct.pack(">I", source))), arfcn, mark, *them)
+             for (source, arfcn, mark), them in found.items()]
+    return "".join(",".join(map(str, it)) + "\n" for it in rows).encode()
+
+
 def tape_of(octets, lac, cell, slots, source=None, channel=None, is_sdcch=False, first_slot=0):
     blocks, first, last = {}, None, None
     for number, link, inside in packets_of(octets):
@@ -245,11 +281,15 @@ def tape_of(octets, lac, cell, slots, source=None, channel=None, is_sdcch=False,
             if step == SLOTS - 1 and last > 0:
                 step = -1
             elif step >= SLOTS // 2:
-                raise Refused(f"packet {number}: steps back")
+                raise Refused(f"packet {number}: steps back{CHOOSE}")
             last += step
         there = first_slot + last
-        if there < slots and blocks.setdefault(4 * there + part, block) != block:
-            raise Refused(f"packet {number}: block differs")
+        if there < (MOST_SLOTS if slots is None else slots) and blocks.setdefault(4 * there + part, block) != block:
+            raise Refused(f"packet {number}: block differs{CHOOSE}")
+    if first is None:
+        raise Refused("no block of the wanted sender: warnc cells lists who sends")
+    if slots is None:
+        slots = max(blocks) // 4 + 1 if blocks else first_slot
     return gsm.tape_of(lac, cell, (blocks.get(it, gsm.IDLE) for it in range(4 * slots)))
 
 
@@ -399,6 +439,20 @@ def made(function, *words):
         return str(why)
 
 
+def compare_senders(program, run, rng, file):
+    """Compares who sends in a capture, and what the tape of one of them is, of which a block was heard."""
+    table = made(senders_of, file)
+    assert ran(program, ["cells"], file) == table, f"run {run}: cells: {table}"
+    rows = list(csv.DictReader(table.decode().splitlines())) if isinstance(table, bytes) else []
+    for row in rng.sample(rows, min(1, len(rows))):
+        source, arfcn, mark = bytes(map(int, row["source"].split("."))), int(row["arfcn"]), row["channel"]
+        mine = made(tape_of, file, 1, 2, None, source, arfcn, mark == "sdcch")
+        assert isinstance(mine, bytes) or not mine.startswith("no block"), f"run {run}: {row}: {mine}"
+        if arfcn < 1024:
+            words = ["tape", "--cell", "1-2", "--from", row["source"], "--arfcn", str(arfcn), "--channel", mark]
+            assert ran(program, words, file) == mine, f"run {run}: {words}"
+
+
 def compare(program, runs):
     rng, counts = random.Random(41), {}
     for run in range(runs):
@@ -419,14 +473,17 @@ def compare(program, runs):
         wanted = rng.choice([slots, slots, max(1, slots - 1), slots + 3])
         source = rng.choice([None, None, tape[:4], b"\x0A\0\0\1"])
         channel = rng.choice([None, None, 0, 1])
-        back += [str(wanted)] + ([] if source is None else ["--from", ".".join(map(str, source))])
+        first = rng.choice([0, 0, 0, 1, wanted - 1, wanted, 65535])
+        wanted = wanted if rng.random() < 0.8 else None
+        back = back[:-1] if wanted is None else [*back, str(wanted)]
+        back += [] if source is None else ["--from", ".".join(map(str, source))]
         back += [] if channel is None else ["--arfcn", str(channel)]
         back += ["--channel", "sdcch"] if is_sdcch else rng.choice([[], [], ["--channel", "cbch"]])
-        first = rng.choice([0, 0, 0, 1, wanted - 1, wanted, 65535])
         back += ["--first-slot", str(first)] if first or rng.random() < 0.2 else []
         mine = made(tape_of, file, lac, cell, wanted, source, channel, is_sdcch, first)
         assert ran(program, back, file) == mine, f"run {run}: {back}: {mine if isinstance(mine, str) else 'a tape'}"
-        kind = "a tape" if isinstance(mine, bytes) else mine.split(": ")[-1]
+        compare_senders(program, run, rng, file)
+        kind = "a tape" if isinstance(mine, bytes) else re.sub(r"^packet \d+: |: .*| \d+(?=:)", "", mine)
         counts[kind] = counts.get(kind, 0) + 1
     print(f"{runs} runs, both programs made the same of each; captures that were disturbed gave {counts}")
 
@@ -446,20 +503,41 @@ def shown_by_tshark(capture):
     return {name: "".join(pages[it] for it in sorted(pages)) for name, pages in messages.items()}
 
 
+def heard_by_tshark(capture):
+    """The rows of `cells` for a capture whose blocks are marked as those of a CBCH, by what tshark says of packets."""
+    asked = ("frame.number", "ip.src", "gsmtap.arfcn", "gsmtap.frame_nr")
+    wanted = "gsmtap.type == 1 && gsmtap.uplink == 0 && gsmtap.chan_type in {12, 15}"
+    fields = [word for name in asked for word in ("-e", name)]
+    done = subprocess.run(["tshark", "-r", "-", "-Y", wanted, "-T", "fields", *fields],
+                          input=capture, stdout=subprocess.PIPE, stderr=subprocess.DEVNULL, check=True)
+    heard = {}
+    for number, source, arfcn, frame in (it.split("\t") for it in done.stdout.decode().splitlines()):
+        if int(frame) // 51 % 8 < 4:
+            heard.setdefault((source, arfcn, "cbch"), [number, number])[1] = number
+    return [[*sender, *them] for sender, them in heard.items()]
+
+
 def beside_tshark(program):
-    """Compares what tshark shows of each tape with what `read` shows."""
+    """Compares what tshark shows of each tape with what `read` shows, and who sends in the capture of all of them,
+    and in that of examples/, with what `cells` names."""
     if shutil.which("tshark") is None:
         print("tshark isn't installed: SKIPPED")
         return
+    tapes = sys.stdin.buffer.read()
+    with open(os.path.join(os.path.dirname(HERE), "examples", "osmo.pcap"), "rb") as it:
+        captures = [ran(program, ["pcap"], tapes), it.read()]
+    for capture in captures:
+        named = list(csv.reader(ran(program, ["cells"], capture).decode().splitlines()))[1:]
+        assert named == heard_by_tshark(capture), f"tshark hears {heard_by_tshark(capture)}, cells {named}"
     count = 0
-    for lac, cell, blocks in gsm.tapes_of(sys.stdin.buffer.read()):
+    for lac, cell, blocks in gsm.tapes_of(tapes):
         tape = gsm.tape_of(lac, cell, blocks)
         table = csv.reader(ran(program, ["read"], tape).decode().splitlines())
         read = {(int(number), int(serial, 16)): text for _, _, number, serial, text in list(table)[1:]}
         shown = shown_by_tshark(ran(program, ["pcap"], tape))
         assert shown == read, f"cell {lac}-{cell}: tshark shows {shown}, read {read}"
         count += len(read)
-    print(f"tshark shows the {count} messages that read shows")
+    print(f"tshark shows the {count} messages that read shows, and hears the senders that cells names")
 
 
 def main():
@@ -467,6 +545,7 @@ def main():
     parser.add_argument("--used", action="store_true")
     parser.add_argument("--channel", type=int, choices=[51, 52], default=51)
     parser.add_argument("--back", nargs="+")
+    parser.add_argument("--cells", action="store_true")
     parser.add_argument("--compare", nargs="+")
     parser.add_argument("--tshark")
     words = parser.parse_args()
@@ -478,7 +557,9 @@ def main():
         return 0
     octets = sys.stdin.buffer.read()
     try:
-        if words.back:
+        if words.cells:
+            sys.stdout.buffer.write(senders_of(octets))
+        elif words.back:
             lac, cell = map(int, words.back[0].split("-"))
             source = bytes(map(int, words.back[2].split("."))) if len(words.back) > 2 else None
             sys.stdout.buffer.write(tape_of(octets, lac, cell, int(words.back[1]), source))

@@ -42,6 +42,7 @@ class Option:
     text: str
     is_required: bool
     excludes: list
+    needs: list
     choices: list
 
 
@@ -103,15 +104,15 @@ def choices_of(text, body):
     if bounds:
         least, most = map(value_of, bounds.groups())
         return [str(it) for it in range(least, most + 1)] if most - least < FEW else []
-    words = re.split(r", | or ", text.partition(": ")[2])
+    words = re.split(r", | or ", without_default(text)[0].partition(": ")[2])
     return words if len(words) > 1 and all(re.fullmatch("[a-z]+", it) for it in words) else []
 
 
 def option_of(body):
     kind, said = only(rf"\b(option|optional|threads|flag)\(\s*alloc,((?:\s*{STRING},?)+)\s*\)", body)[:2]
     name, *value, text = (plain(it) for it in re.findall(STRING, said))
-    excludes = re.findall(rf"\.conflicts_with\({STRING}\)", body)
-    return Option(name, value[0] if value else "", text, kind == "option", excludes, choices_of(text, body))
+    excludes, needs = (re.findall(rf"\.{it}\({STRING}\)", body) for it in ("conflicts_with", "requires_arg"))
+    return Option(name, value[0] if value else "", text, kind == "option", excludes, needs, choices_of(text, body))
 
 
 def of_source():
@@ -218,23 +219,24 @@ def man_page(commands):
 # --- The list of usage.md ---
 
 
-def in_words(option, others):
-    """Returns an option as a line of words has it, with those that can't be given beside it."""
+def in_words(option, others, needing):
+    """Returns an option as a line of words has it, with those that can't be given beside it, and those that need it."""
     def form(one):
         # a choice of two or three is named
         value = "|".join(one.choices) if len(one.choices) <= 3 else one.value
         return f"--{one.name} {value or one.value}".rstrip()
 
-    forms = list(map(form, (option, *others)))
-    return forms[0] if option.is_required else f"[{'|'.join(forms)}]"
+    forms, more = list(map(form, (option, *others))), "".join(f" [{form(it)}]" for it in needing)
+    return forms[0] + more if option.is_required else f"[{'|'.join(forms)}{more}]"
 
 
 def words_of(command):
     """Returns the words of a command: options that have to be given first."""
     excluding = {name: it for it in command.options for name in it.excludes}
-    hidden = {it.name for it in excluding.values()}
+    hidden = {it.name for it in excluding.values()} | {it.name for it in command.options if it.needs}
     ordered = sorted((it for it in command.options if it.name not in hidden), key=lambda it: not it.is_required)
-    return " ".join([command.name, *(in_words(it, [excluding[it.name]] if it.name in excluding else [])
+    return " ".join([command.name, *(in_words(it, [excluding[it.name]] if it.name in excluding else [],
+                                              [one for one in command.options if it.name in one.needs])
                                      for it in ordered)])
 
 
@@ -270,14 +272,14 @@ BASH = """_warnc() {{
     if [ "$COMP_CWORD" -eq 1 ]; then
         words="{commands} -h --help -V --version"
     else
-        case $before in
+        case ${{COMP_WORDS[1]}}$before in
 {values}
         {files})
             mapfile -t COMPREPLY < <(compgen -f -- "$word")
             compopt -o filenames
             return
             ;;
-        --*)
+        *--*)
             # the value of any other option can't be guessed
             ;;
         *)
@@ -300,14 +302,14 @@ def bash(commands):
     names = " ".join(it.name for it in commands)
     options = [f"            {it.name}) words=\"{' '.join(f'--{one.name}' for one in it.options)} -h --help\" ;;"
                .replace('" -h', '"-h') for it in commands]
-    # an option of two commands is completed with the values of both
+    # an option of several commands may have other values with each
     choices = {}
-    for it in (one for command in commands for one in command.options):
-        choices.setdefault(it.name, {}).update(dict.fromkeys(it.choices))
-    values = [f"        --{it.name}) words=\"{' '.join(choices[it.name])}\" ;;" for it in every if choices[it.name]]
+    for command, it in ((command, one) for command in commands for one in command.options if one.choices):
+        choices.setdefault((it.name, " ".join(it.choices)), []).append(f"{command.name}--{it.name}")
+    values = [f"        {' | '.join(them)}) words=\"{words}\" ;;" for (_, words), them in choices.items()]
     return head("bash. To install it, source it in ~/.bashrc.") + BASH.format(
         flags=" | ".join(f"--{it.name}" for it in every if not it.value), commands=f"{names} {HELP[0]}",
-        values="\n".join(values), files=" | ".join(f"--{it.name}" for it in every if it.value == "FILE"),
+        values="\n".join(values), files=" | ".join(f"*--{it.name}" for it in every if it.value == "FILE"),
         options="\n".join(options), helped=names)
 
 

@@ -71,7 +71,8 @@ import gsm
 TOP = os.path.dirname(os.path.dirname(os.path.realpath(__file__)))
 PROGRAM = os.path.join(TOP, "crates", "warnc", "out", "warnc")
 SEEDS = os.path.join(TOP, "tools", "fuzz")
-COMMANDS = ("check", "texts", "page", "read", "whole", "compile", "live", "report", "chart", "verify", "pcap", "tape")
+COMMANDS = ("check", "texts", "page", "read", "whole", "compile", "live", "report", "chart", "verify", "pcap", "cells",
+            "tape")
 OF_BOOKS = ("compile", "live", "report", "chart")
 # an option without which clap refuses a command
 NEEDED = {"page": "--lang", "tape": "--cell", "verify": "--slots", **dict.fromkeys(OF_BOOKS, "--slots")}
@@ -113,7 +114,11 @@ LINK_FAULT = r"unknown link type \d+: known are 0, 1, 101, 108, 113, 228 and 276
 FAULTS = {"page": TEXT_FAULT + "|text is not UTF-8|text is too long", "read": TAPE_FAULT, "pcap": TAPE_FAULT,
           "whole": TAPE_FAULT,
           "tape": rf"not a capture file|{LINK_FAULT}"
-                  rf"|packet [1-9]\d*: (?:{LINK_FAULT}|capture is short|wrong block|block differs|steps back)",
+                  r"|no block of the wanted sender: warnc cells lists who sends"
+                  rf"|packet [1-9]\d*: (?:{LINK_FAULT}|capture is short|wrong block"
+                  r"|(?:block differs|steps back): if several send, choose one by --from or --arfcn)",
+          "cells": rf"not a capture file|{LINK_FAULT}"
+                   rf"|packet [1-9]\d*: (?:{LINK_FAULT}|capture is short|wrong block)",
           "verify": rf"{ROW_FAULT}|{TAPE_FAULT}|differences: [1-9]\d*", **dict.fromkeys(OF_BOOKS, ROW_FAULT),
           "check": r"row 0: too many rows|(?:faults|remarks): [1-9]\d*", "texts": ROW_FAULT}
 DIFFERENCE = re.compile(
@@ -123,6 +128,7 @@ DIFFERENCE = re.compile(
 CHECK_NAMES = ["row", "line", "column", "field", "value", "says"]
 REMARK_NAMES = ["row", "name", "cell", "says"]
 TEXTS_NAMES = ["row", "name", "lang", "coding", "characters", "pages", "room", "first_ucs2", "place"]
+SENDER = re.compile(rb"(?:(?:25[0-5]|2[0-4]\d|1?\d?\d)(?:\.(?!,)|,)){4}\d+,(?:cbch|sdcch),[1-9]\d*,[1-9]\d*")
 REPORT_ROW = re.compile(rb"\d+,\d+,\d+,[0-9a-f]{4},\d+,\d+,\d+,(?:yes|no|refused [0-9a-f]{2})")
 REPORT_MORE = re.compile(rb"(?:\d*,\d+,\d+,\d+|,,,),[A-Za-z ]*")
 
@@ -487,6 +493,13 @@ def is_shown(run, out):
     return out.endswith(last) and are_blocks
 
 
+def is_of_cells(out):
+    """Whether an output is a table of senders, each of which is heard first no later than last."""
+    lines = out.split(b"\n")
+    rows = [it for it in lines[1:-1] if SENDER.fullmatch(it) and int(it.split(b",")[3]) <= int(it.split(b",")[4])]
+    return lines[0] == b"source,arfcn,channel,first,last" and lines[-1] == b"" and len(rows) == len(lines) - 2
+
+
 def is_output(run, out):
     """Whether an output has the form of the command's."""
     if run.wanted == "text":
@@ -494,8 +507,9 @@ def is_output(run, out):
     forms = {"page": lambda: is_shown(run, out), "read": lambda: is_table(out), "report": lambda: is_report(run, out),
              "chart": lambda: is_chart(out), "verify": lambda: differences_in(out) == 0,
              "check": lambda: is_of_check(run, out), "texts": lambda: is_of_texts(run, out),
-             "pcap": lambda: is_capture(out), "whole": lambda: len(out) == len(run.data),
-             "tape": lambda: is_tapes(run, out) or len(out) == gsm.size_of_tape(run.number("--slots", 0))}
+             "pcap": lambda: is_capture(out), "cells": lambda: is_of_cells(out),
+             "whole": lambda: len(out) == len(run.data),
+             "tape": lambda: len(out) == gsm.size_of_tape(run.number("--slots", int.from_bytes(out[4:8])))}
     return forms.get(run.command(), lambda: is_tapes(run, out))()
 
 
@@ -1199,7 +1213,9 @@ def cell_word(chance):
 
 def capture_options(chance):
     """Returns the options of `tape`."""
-    options = {"--cell": cell_word(chance), "--slots": str(chance.choice((1, 2, 7, 40, 300, 65535)))}
+    options = {"--cell": cell_word(chance)}
+    if chance.random() < 0.8:
+        options["--slots"] = str(chance.choice((1, 2, 7, 40, 300, 65535)))
     if chance.random() < 0.3:
         options["--from"] = chance.choice(("0.1.0.1", "0.0.0.0", "255.255.255.255"))
     return options
@@ -1234,6 +1250,8 @@ def good_options(chance, command, data):
         return page_options(chance)
     if command == "tape":
         return capture_options(chance)
+    if command == "cells":
+        return {}
     if command in COMMANDS_OF["rows"]:
         return rows_options(chance, command, data)
     return tape_options(chance, command) if command in COMMANDS_OF["tape"] else book_options(chance, command, data)
@@ -1300,7 +1318,7 @@ SIZES = {"workers": (2, 3, 4, 4, 64), "sessions": (2, 2, 3, 64), "pieces": (1, 2
 # kibioctets over the floor
 SPARES = (0, 1, 4, 16, 64, 256, 1024, 4096, 16384, 98304)
 COMMANDS_OF = {"book": (*OF_BOOKS, "verify"), "rows": ("check", "texts"), "tape": ("read", "whole", "pcap"),
-               "text": ("page",), "capture": ("tape",)}
+               "text": ("page",), "capture": ("tape", "cells")}
 MAKERS = {"book": some_book, "rows": some_book, "tape": some_tapes, "text": some_text, "capture": some_capture}
 
 

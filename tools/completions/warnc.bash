@@ -12,20 +12,21 @@ _warnc() {
     # after an option without a value comes another option
     case $before in --strict | --network | --full | --short | --used) before= ;; esac
     if [ "$COMP_CWORD" -eq 1 ]; then
-        words="check texts compile report chart read verify page live pcap tape whole groups help -h --help -V --version"
+        words="check texts compile report chart read verify page live pcap cells tape whole groups help -h --help -V --version"
     else
-        case $before in
-        --pages) words="1 2 3 4 5 6 7 8 9 10 11 12 13 14 15" ;;
-        --lang) words="de en it fr es nl sv da pt fi no el tr hu pl und cs he ar ru is" ;;
-        --scope) words="0 1 2 3" ;;
-        --update) words="0 1 2 3 4 5 6 7 8 9 10 11 12 13 14 15" ;;
-        --channel) words="51 52 cbch sdcch" ;;
-        --book)
+        case ${COMP_WORDS[1]}$before in
+        texts--pages) words="1 2 3 4 5 6 7 8 9 10 11 12 13 14 15" ;;
+        page--lang) words="de en it fr es nl sv da pt fi no el tr hu pl und cs he ar ru is" ;;
+        page--scope) words="0 1 2 3" ;;
+        page--update) words="0 1 2 3 4 5 6 7 8 9 10 11 12 13 14 15" ;;
+        pcap--channel) words="51 52" ;;
+        tape--channel) words="cbch sdcch" ;;
+        *--book)
             mapfile -t COMPREPLY < <(compgen -f -- "$word")
             compopt -o filenames
             return
             ;;
-        --*)
+        *--*)
             # the value of any other option can't be guessed
             ;;
         *)
@@ -40,10 +41,11 @@ _warnc() {
             page) words="--lang --id --scope --code --update -h --help" ;;
             live) words="--slots --group --network --sessions --workers -h --help" ;;
             pcap) words="--used --channel -h --help" ;;
+            cells) words="-h --help" ;;
             tape) words="--cell --slots --first-slot --from --arfcn --channel -h --help" ;;
             whole) words="-h --help" ;;
             groups) words="-h --help" ;;
-            help) words="check texts compile report chart read verify page live pcap tape whole groups" ;;
+            help) words="check texts compile report chart read verify page live pcap cells tape whole groups" ;;
             esac
             ;;
         esac

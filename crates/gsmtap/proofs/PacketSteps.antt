@@ -1,24 +1,29 @@
 -- Steps over the pieces of a file: one more, and one that is at fault.
-use Rattle.std.proofs.Common.{◌≡◌, ℕ, ◌+◌, ◌≤◌, List, [], ◌∷◌, ◌++◌, length, refl, sym, ap, ◌∙◌, subst, inl, inr}
+use Rattle.std.proofs.Common.{◌≡◌, ℕ, ◌+◌, ◌*◌, ◌≤◌, List, [], ◌∷◌, ◌++◌, length, refl, sym, ap, ◌∙◌, subst, inl, inr}
 use Rattle.std.proofs.Common.{arith, append_assoc, append-nil, Some, None, Result, Ok, Err}
 use Rattle.std.specs.List.{flat_map}
 use Rattle.std.proofs.lemmas.Grind.{flat_map-append}
-use Rattle.std.proofs.lemmas.List.{length-append, length_push}
+use Rattle.std.proofs.lemmas.List.{length-append, length-replicate, length_push}
 use Rattle.gsmtap.specs.File.{Packet}
+use Rattle.gsmtap.specs.Heard.{for_hearing}
+use Rattle.gsmtap.specs.HeardSteps.{IsHearingFault, hearing_of}
 use Rattle.gsmtap.specs.PieceSteps.{BeginsWithPiece, IsFrontFault, meant}
 use Rattle.gsmtap.specs.Pieces.{BringAll, Brings, IsCutPiece, IsWrongPiece, least, meaning, packets_in}
 use Rattle.gsmtap.specs.Section.{Meaning, Section}
-use Rattle.gsmtap.specs.TapeOfCapture.{AreKnown, AreTaken, EndsWith, HasWrongPacket, IsAirFaultOf, IsFileWith, Opens}
-use Rattle.gsmtap.specs.TapeOfCapture.{after_packet, after_packets, nothing_known, slots_taken, taken}
-use Rattle.gsmtap.specs.TapeSteps.{IsBeginFault, IsFoundKind, IsPacketKind, IsPieceFaultOf, after_found, count_of}
+use Rattle.gsmtap.specs.Taken.{AreKnown, AreTaken, EndsWith, HasWrongPacket, IsFileFault, IsFileWith, Opens, Taking}
+use Rattle.gsmtap.specs.Taken.{after_packets, taken}
+use Rattle.gsmtap.specs.TapeOfCapture.{IsAirFaultOf, for_tape, nothing_known}
+use Rattle.gsmtap.specs.TapeSteps.{IsBeginFault, IsFoundKind, IsPacketKind, IsPieceFault, IsPieceFaultOf}
+use Rattle.gsmtap.specs.TapeSteps.{after_found, count_of}
 use Rattle.gsmtap.specs.Track.{Known}
+use Rattle.gsmtap.specs.declared.fault.AirFault.{AirFault}
 use Rattle.gsmtap.specs.declared.fault.AirFaultKind.{AirFaultKind}
+use Rattle.gsmtap.specs.declared.heard.Heard.{Heard}
 use Rattle.gsmtap.specs.declared.fault.AirFaultKind.TheVariants as kind
 use Rattle.gsmtap.specs.declared.pieces.Format.{Format}
 use Rattle.gsmtap.specs.declared.pieces.Format.TheVariants.{Classic, Pcapng}
 use Rattle.gsmtap.specs.declared.pieces.Found.{Found}
 use Rattle.gsmtap.specs.declared.pieces.Found.TheVariants as found
-use Rattle.gsmtap.specs.declared.tape.Sender.{Sender}
 use Rattle.gsmtap.specs.declared.tape.Wanted.{Wanted}
 
 -- a piece has one packet at most
@@ -39,33 +44,32 @@ shorter section octets piece rest begins =
     omega (arith, whole, least_is section.format, begins.is.long)
 
 -- one packet more
-after_more : (from : Sender) (number : ℕ) (state : Result Known AirFaultKind) (packets : List Packet)
-    (packet : Packet) (known : Known) → after_packets from number state packets ≡ Ok known →
-    after_packets from number state (packets ++ packet ∷ [])
-    ≡ after_packets from (number + length packets + 1) (after_packet from known packet) []
-after_more from number (Ok old) [] packet known is =
+after_more : {S : Type 0} (step : S → Packet → Result S AirFaultKind) (number : ℕ) (state : Result S AirFaultKind)
+    (packets : List Packet) (packet : Packet) (known : S) → after_packets step number state packets ≡ Ok known →
+    after_packets step number state (packets ++ packet ∷ [])
+    ≡ after_packets step (number + length packets + 1) (step known packet) []
+after_more step number (Ok old) [] packet known is =
     let same : old ≡ known = cc in
     let here : number + 1 ≡ number + length {A = Packet} [] + 1 = omega arith in
-    ap (λ k. after_packets from (number + 1) (after_packet from k packet) []) same
-    ∙ ap (λ n. after_packets from n (after_packet from known packet) []) here
-after_more from number (Err why) [] packet known is = cc
-after_more from number (Ok old) (first ∷ packets) packet known is =
+    ap (λ k. after_packets step (number + 1) (step k packet) []) same
+    ∙ ap (λ n. after_packets step n (step known packet) []) here
+after_more step number (Err why) [] packet known is = cc
+after_more step number (Ok old) (first ∷ packets) packet known is =
     let next : number + 1 + length packets + 1 ≡ number + length (first ∷ packets) + 1 = omega arith in
-    after_more from (number + 1) (after_packet from old first) packets packet known is
-    ∙ ap (λ n. after_packets from n (after_packet from known packet) []) next
-after_more from number (Err why) (first ∷ packets) packet known is = cc
+    after_more step (number + 1) (step old first) packets packet known is
+    ∙ ap (λ n. after_packets step n (step known packet) []) next
+after_more step number (Err why) (first ∷ packets) packet known is = cc
 
 -- what is known after one packet more
-taken_more : (wanted : Wanted) (packets : List Packet) (packet : Packet) (known : Known)
-    (result : Result Known AirFaultKind) → taken wanted packets ≡ Ok known →
-    after_packet wanted.from known packet ≡ result →
-    taken wanted (packets ++ packet ∷ []) ≡ after_packets wanted.from (length packets + 1) result []
+taken_more : {S : Type 0} (by : Taking S) (packets : List Packet) (packet : Packet) (known : S)
+    (result : Result S AirFaultKind) → taken by packets ≡ Ok known → by.step known packet ≡ result →
+    taken by (packets ++ packet ∷ []) ≡ after_packets by.step (length packets + 1) result []
 unfolding taken
-taken_more wanted packets packet known result is comes =
+taken_more by packets packet known result is comes =
     let here : 0 + length packets + 1 ≡ length packets + 1 = omega arith in
-    after_more wanted.from 0 (Ok (nothing_known (slots_taken wanted))) packets packet known is
-    ∙ ap (λ n. after_packets wanted.from n (after_packet wanted.from known packet) []) here
-    ∙ ap (λ state. after_packets wanted.from (length packets + 1) state []) comes
+    after_more by.step 0 (Ok by.start) packets packet known is
+    ∙ ap (λ n. after_packets by.step n (by.step known packet) []) here
+    ∙ ap (λ state. after_packets by.step (length packets + 1) state []) comes
 
 -- one piece more
 bring_more : (here : Section) (pieces : List (List ℕ)) (there : Section) (packets : List Packet) (piece : List ℕ)
@@ -97,11 +101,12 @@ split_more octets left piece rest pieces split begins =
     ∙ ap (λ front. front ++ rest) (sym (flat_map-append (λ it. it) pieces (piece ∷ [])))
 
 -- a piece more that has no packet
-nothing_more : (wanted : Wanted) (here : Section) (octets : List ℕ) (there : Section) (left : List ℕ) (number : ℕ)
-    (known : Known) (piece rest : List ℕ) (new : Section) → AreTaken wanted here octets there left number known →
+nothing_more : {S : Type 0} (by : Taking S) (here : Section) (octets : List ℕ) (there : Section) (left : List ℕ)
+    (number : ℕ)
+    (known : S) (piece rest : List ℕ) (new : Section) → AreTaken by here octets there left number known →
     BeginsWithPiece there left piece rest → meaning there piece ≡ Some (record { section = new; packet = None }) →
-    AreTaken wanted here octets new rest number known
-nothing_more wanted here octets there left number known piece rest new sofar begins brings = record {
+    AreTaken by here octets new rest number known
+nothing_more by here octets there left number known piece rest new sofar begins brings = record {
   pieces = sofar.pieces ++ piece ∷ [];
   packets = sofar.packets;
   split = split_more octets left piece rest sofar.pieces sofar.split begins.split;
@@ -114,12 +119,13 @@ nothing_more wanted here octets there left number known piece rest new sofar beg
 }
 
 -- a piece more that has a packet, which brings no fault
-packet_more : (wanted : Wanted) (here : Section) (octets : List ℕ) (there : Section) (left : List ℕ) (number : ℕ)
-    (known : Known) (piece rest : List ℕ) (new : Section) (packet : Packet) (next : Known) →
-    AreTaken wanted here octets there left number known → BeginsWithPiece there left piece rest →
+packet_more : {S : Type 0} (by : Taking S) (here : Section) (octets : List ℕ) (there : Section) (left : List ℕ)
+    (number : ℕ)
+    (known : S) (piece rest : List ℕ) (new : Section) (packet : Packet) (next : S) →
+    AreTaken by here octets there left number known → BeginsWithPiece there left piece rest →
     meaning there piece ≡ Some (record { section = new; packet = Some packet }) →
-    after_packet wanted.from known packet ≡ Ok next → AreTaken wanted here octets new rest (number + 1) next
-packet_more wanted here octets there left number known piece rest new packet next sofar begins brings comes = record {
+    by.step known packet ≡ Ok next → AreTaken by here octets new rest (number + 1) next
+packet_more by here octets there left number known piece rest new packet next sofar begins brings comes = record {
   pieces = sofar.pieces ++ piece ∷ [];
   packets = sofar.packets ++ packet ∷ [];
   split = split_more octets left piece rest sofar.pieces sofar.split begins.split;
@@ -127,33 +133,35 @@ packet_more wanted here octets there left number known piece rest new packet nex
       bring_more here sofar.pieces there sofar.packets piece (record { section = new; packet = Some packet })
       sofar.bring (record { is = begins.is; brings = brings });
   many = length_push sofar.packets packet ∙ ap (λ n. n + 1) sofar.many;
-  are_taken = taken_more wanted sofar.packets packet known (Ok next) sofar.are_taken comes;
+  are_taken = taken_more by sofar.packets packet known (Ok next) sofar.are_taken comes;
 }
 
 -- one piece more
-pub one_more : (wanted : Wanted) (here : Section) (octets : List ℕ) (there : Section) (left : List ℕ) (number : ℕ)
-    (known : Known) (piece rest : List ℕ) (new : Section) (what : Found) (next : Known) →
-    AreTaken wanted here octets there left number known → BeginsWithPiece there left piece rest →
-    meant new what ≡ meaning there piece → after_found wanted.from known what ≡ Ok next →
-    AreTaken wanted here octets new rest (number + count_of what) next
-one_more wanted here octets there left number known piece rest new (found.Packet packet) next sofar begins is comes =
-    packet_more wanted here octets there left number known piece rest new
+pub one_more : {S : Type 0} (by : Taking S) (here : Section) (octets : List ℕ) (there : Section) (left : List ℕ)
+    (number : ℕ)
+    (known : S) (piece rest : List ℕ) (new : Section) (what : Found) (next : S) →
+    AreTaken by here octets there left number known → BeginsWithPiece there left piece rest →
+    meant new what ≡ meaning there piece → after_found by.step known what ≡ Ok next →
+    AreTaken by here octets new rest (number + count_of what) next
+one_more by here octets there left number known piece rest new (found.Packet packet) next sofar begins is comes =
+    packet_more by here octets there left number known piece rest new
     (record { link = packet.link; octets = packet.octets.now }) next sofar begins (sym is) comes
-one_more wanted here octets there left number known piece rest new found.Nothing next sofar begins is comes =
+one_more by here octets there left number known piece rest new found.Nothing next sofar begins is comes =
     let same : known ≡ next = cc in
     let many : number ≡ number + 0 = omega arith in
-    subst (λ n. AreTaken wanted here octets new rest n next) many
-    (subst (λ k. AreTaken wanted here octets new rest number k) same
-    (nothing_more wanted here octets there left number known piece rest new sofar begins (sym is)))
-one_more wanted here octets there left number known piece rest new found.Wrong next sofar begins is comes = cc
+    subst (λ n. AreTaken by here octets new rest n next) many
+    (subst (λ k. AreTaken by here octets new rest number k) same
+    (nothing_more by here octets there left number known piece rest new sofar begins (sym is)))
+one_more by here octets there left number known piece rest new found.Wrong next sofar begins is comes = cc
 
-wrong_packet : (wanted : Wanted) (here : Section) (octets : List ℕ) (there : Section) (left : List ℕ) (number : ℕ)
-    (known : Known) (piece rest : List ℕ) (new : Section) (packet : Packet) (why : AirFaultKind) →
-    AreTaken wanted here octets there left number known → BeginsWithPiece there left piece rest →
+wrong_packet : {S : Type 0} (by : Taking S) (here : Section) (octets : List ℕ) (there : Section) (left : List ℕ)
+    (number : ℕ)
+    (known : S) (piece rest : List ℕ) (new : Section) (packet : Packet) (why : AirFaultKind) →
+    AreTaken by here octets there left number known → BeginsWithPiece there left piece rest →
     meaning there piece ≡ Some (record { section = new; packet = Some packet }) →
-    after_packet wanted.from known packet ≡ Err why →
-    HasWrongPacket wanted here octets (record { packet = number + 1; kind = why })
-wrong_packet wanted here octets there left number known piece rest new packet why sofar begins brings comes =
+    by.step known packet ≡ Err why →
+    HasWrongPacket by here octets (record { packet = number + 1; kind = why })
+wrong_packet by here octets there left number known piece rest new packet why sofar begins brings comes =
     let many : length sofar.packets + 1 ≡ number + 1 = ap (λ n. n + 1) sofar.many in
     record {
       pieces = sofar.pieces ++ piece ∷ [];
@@ -165,26 +173,28 @@ wrong_packet wanted here octets there left number known piece rest new packet wh
           bring_more here sofar.pieces there sofar.packets piece (record { section = new; packet = Some packet })
           sofar.bring (record { is = begins.is; brings = brings });
       are_taken =
-          taken_more wanted sofar.packets packet known (Err why) sofar.are_taken comes
+          taken_more by sofar.packets packet known (Err why) sofar.are_taken comes
           ∙ ap (λ n. Err (record { packet = n; kind = why })) many;
       numbered = sym (length_push sofar.packets packet ∙ many);
     }
 
-packet_kind : (wanted : Wanted) (here : Section) (octets : List ℕ) (number : ℕ) (why : AirFaultKind) →
-    HasWrongPacket wanted here octets (record { packet = number; kind = why }) → IsPacketKind why →
-    IsPieceFaultOf wanted here octets number why
-packet_kind wanted here octets number kind.NoCapture wrong is = absurd is
-packet_kind wanted here octets number (kind.OtherLink other) wrong is = wrong
-packet_kind wanted here octets number kind.Short wrong is = absurd is
-packet_kind wanted here octets number kind.WrongBlock wrong is = absurd is
-packet_kind wanted here octets number kind.Differs wrong is = wrong
-packet_kind wanted here octets number kind.StepsBack wrong is = wrong
-packet_kind wanted here octets number kind.Refused wrong is = absurd is
+packet_kind : {S : Type 0} (by : Taking S) (here : Section) (octets : List ℕ) (number : ℕ) (why : AirFaultKind) →
+    HasWrongPacket by here octets (record { packet = number; kind = why }) → IsPacketKind why →
+    IsPieceFaultOf by here octets number why
+packet_kind by here octets number kind.NoCapture wrong is = absurd is
+packet_kind by here octets number (kind.OtherLink other) wrong is = wrong
+packet_kind by here octets number kind.Short wrong is = absurd is
+packet_kind by here octets number kind.WrongBlock wrong is = absurd is
+packet_kind by here octets number kind.Differs wrong is = wrong
+packet_kind by here octets number kind.StepsBack wrong is = wrong
+packet_kind by here octets number kind.NoBlock wrong is = absurd is
+packet_kind by here octets number kind.Refused wrong is = absurd is
 
-ends_with : (wanted : Wanted) (here : Section) (octets : List ℕ) (there : Section) (left : List ℕ) (number : ℕ)
-    (known : Known) (IsSo : Section → List ℕ → Type 0) → AreTaken wanted here octets there left number known →
-    IsSo there left → EndsWith wanted here octets IsSo (number + 1)
-ends_with wanted here octets there left number known IsSo sofar so = record {
+ends_with : {S : Type 0} (by : Taking S) (here : Section) (octets : List ℕ) (there : Section) (left : List ℕ)
+    (number : ℕ)
+    (known : S) (IsSo : Section → List ℕ → Type 0) → AreTaken by here octets there left number known →
+    IsSo there left → EndsWith by here octets IsSo (number + 1)
+ends_with by here octets there left number known IsSo sofar so = record {
   there = there;
   rest = left;
   before = number;
@@ -195,21 +205,22 @@ ends_with wanted here octets there left number known IsSo sofar so = record {
 }
 
 -- what is found in a piece stops a file whose packets were taken up to it
-pub wrong_found : (wanted : Wanted) (here : Section) (octets : List ℕ) (there : Section) (left : List ℕ) (number : ℕ)
-    (known : Known) (piece rest : List ℕ) (new : Section) (what : Found) (why : AirFaultKind) →
-    AreTaken wanted here octets there left number known → BeginsWithPiece there left piece rest →
-    meant new what ≡ meaning there piece → after_found wanted.from known what ≡ Err why → IsFoundKind what why →
-    IsPieceFaultOf wanted here octets (number + 1) why
-wrong_found wanted here octets there left number known piece rest new (found.Packet packet) why sofar begins is comes
+pub wrong_found : {S : Type 0} (by : Taking S) (here : Section) (octets : List ℕ) (there : Section) (left : List ℕ)
+    (number : ℕ)
+    (known : S) (piece rest : List ℕ) (new : Section) (what : Found) (why : AirFaultKind) →
+    AreTaken by here octets there left number known → BeginsWithPiece there left piece rest →
+    meant new what ≡ meaning there piece → after_found by.step known what ≡ Err why → IsFoundKind what why →
+    IsPieceFaultOf by here octets (number + 1) why
+wrong_found by here octets there left number known piece rest new (found.Packet packet) why sofar begins is comes
     of_kind =
-    packet_kind wanted here octets (number + 1) why
-    (wrong_packet wanted here octets there left number known piece rest new
+    packet_kind by here octets (number + 1) why
+    (wrong_packet by here octets there left number known piece rest new
     (record { link = packet.link; octets = packet.octets.now }) why sofar begins (sym is) comes) of_kind
-wrong_found wanted here octets there left number known piece rest new found.Nothing why sofar begins is comes of_kind =
+wrong_found by here octets there left number known piece rest new found.Nothing why sofar begins is comes of_kind =
     absurd of_kind
-wrong_found wanted here octets there left number known piece rest new found.Wrong why sofar begins is comes of_kind =
-    subst (λ it. IsPieceFaultOf wanted here octets (number + 1) it) (sym of_kind)
-    (ends_with wanted here octets there left number known IsWrongPiece sofar (inr (record {
+wrong_found by here octets there left number known piece rest new found.Wrong why sofar begins is comes of_kind =
+    subst (λ it. IsPieceFaultOf by here octets (number + 1) it) (sym of_kind)
+    (ends_with by here octets there left number known IsWrongPiece sofar (inr (record {
       piece = piece;
       rest = rest;
       split = begins.split;
@@ -218,34 +229,37 @@ wrong_found wanted here octets there left number known piece rest new found.Wron
     })))
 
 -- octets that begin with no piece stop a file whose packets were taken up to them
-pub wrong_front : (wanted : Wanted) (here : Section) (octets : List ℕ) (there : Section) (left : List ℕ) (number : ℕ)
-    (known : Known) (why : AirFaultKind) → AreTaken wanted here octets there left number known →
-    IsFrontFault there left why → IsPieceFaultOf wanted here octets (number + 1) why
-wrong_front wanted here octets there left number known kind.NoCapture sofar is = absurd is
-wrong_front wanted here octets there left number known (kind.OtherLink other) sofar is = absurd is
-wrong_front wanted here octets there left number known kind.Short sofar is =
-    ends_with wanted here octets there left number known IsCutPiece sofar is
-wrong_front wanted here octets there left number known kind.WrongBlock sofar is =
-    ends_with wanted here octets there left number known IsWrongPiece sofar is
-wrong_front wanted here octets there left number known kind.Differs sofar is = absurd is
-wrong_front wanted here octets there left number known kind.StepsBack sofar is = absurd is
-wrong_front wanted here octets there left number known kind.Refused sofar is = absurd is
+pub wrong_front : {S : Type 0} (by : Taking S) (here : Section) (octets : List ℕ) (there : Section) (left : List ℕ)
+    (number : ℕ)
+    (known : S) (why : AirFaultKind) → AreTaken by here octets there left number known →
+    IsFrontFault there left why → IsPieceFaultOf by here octets (number + 1) why
+wrong_front by here octets there left number known kind.NoCapture sofar is = absurd is
+wrong_front by here octets there left number known (kind.OtherLink other) sofar is = absurd is
+wrong_front by here octets there left number known kind.Short sofar is =
+    ends_with by here octets there left number known IsCutPiece sofar is
+wrong_front by here octets there left number known kind.WrongBlock sofar is =
+    ends_with by here octets there left number known IsWrongPiece sofar is
+wrong_front by here octets there left number known kind.Differs sofar is = absurd is
+wrong_front by here octets there left number known kind.StepsBack sofar is = absurd is
+wrong_front by here octets there left number known kind.NoBlock sofar is = absurd is
+wrong_front by here octets there left number known kind.Refused sofar is = absurd is
 
 -- nothing is left
-pub all_taken : (wanted : Wanted) (here : Section) (octets : List ℕ) (there : Section) (left : List ℕ) (number : ℕ)
-    (known : Known) → AreTaken wanted here octets there left number known → left ≡ [] →
-    AreKnown wanted here octets known
-all_taken wanted here octets there left number known sofar end = record {
+pub all_taken : {S : Type 0} (by : Taking S) (here : Section) (octets : List ℕ) (there : Section) (left : List ℕ)
+    (number : ℕ)
+    (known : S) → AreTaken by here octets there left number known → left ≡ [] →
+    AreKnown by here octets known
+all_taken by here octets there left number known sofar end = record {
   there = there;
   number = number;
-  are = subst (λ rest. AreTaken wanted here octets there rest number known) end sofar;
+  are = subst (λ rest. AreTaken by here octets there rest number known) end sofar;
 }
 
 -- before the first piece
-pub none_taken : (wanted : Wanted) (here : Section) (octets : List ℕ) (known : Known) →
-    known ≡ nothing_known (slots_taken wanted) → AreTaken wanted here octets here octets 0 known
+pub none_taken : {S : Type 0} (by : Taking S) (here : Section) (octets : List ℕ) (known : S) → known ≡ by.start →
+    AreTaken by here octets here octets 0 known
 unfolding taken
-none_taken wanted here octets known is = record {
+none_taken by here octets known is = record {
   pieces = [];
   packets = [];
   split = refl;
@@ -254,30 +268,74 @@ none_taken wanted here octets known is = record {
   are_taken = ap Ok (sym is);
 }
 
+-- there are four places for each slot
+pub nothing_long : (known : Known) (slots : ℕ) → known ≡ nothing_known slots → length known.blocks ≡ 4 * slots
+nothing_long known slots is = ap (λ (k : Known). length k.blocks) is ∙ length-replicate (4 * slots) None
+
 in_file : (input : List ℕ) (here : Section) (after : List ℕ) (IsSo : Section → List ℕ → Type 0) →
     Opens input here after → IsSo here after → IsFileWith input IsSo
 in_file input here after IsSo opens so = record { here = here; after = after; opens = opens; so = so }
 
 -- a fault of a file's pieces is one of the file
-pub fault_of_pieces : (wanted : Wanted) (input : List ℕ) (here : Section) (after : List ℕ) (number : ℕ)
-    (why : AirFaultKind) → Opens input here after → IsPieceFaultOf wanted here after number why →
-    IsAirFaultOf wanted input number why
-fault_of_pieces wanted input here after number kind.NoCapture opens is = absurd is
-fault_of_pieces wanted input here after number (kind.OtherLink other) opens is =
+pub fault_of_pieces : {S : Type 0} (by : Taking S) (input : List ℕ) (here : Section) (after : List ℕ) (number : ℕ)
+    (why : AirFaultKind) → Opens input here after → IsPieceFaultOf by here after number why →
+    IsFileFault by input number why
+fault_of_pieces by input here after number kind.NoCapture opens is = absurd is
+fault_of_pieces by input here after number (kind.OtherLink other) opens is =
     inr (in_file input here after _ opens is)
-fault_of_pieces wanted input here after number kind.Short opens is = in_file input here after _ opens is
-fault_of_pieces wanted input here after number kind.WrongBlock opens is = in_file input here after _ opens is
-fault_of_pieces wanted input here after number kind.Differs opens is = in_file input here after _ opens is
-fault_of_pieces wanted input here after number kind.StepsBack opens is = in_file input here after _ opens is
-fault_of_pieces wanted input here after number kind.Refused opens is = is
+fault_of_pieces by input here after number kind.Short opens is = in_file input here after _ opens is
+fault_of_pieces by input here after number kind.WrongBlock opens is = in_file input here after _ opens is
+fault_of_pieces by input here after number kind.Differs opens is = in_file input here after _ opens is
+fault_of_pieces by input here after number kind.StepsBack opens is = in_file input here after _ opens is
+fault_of_pieces by input here after number kind.NoBlock opens is = absurd is
+fault_of_pieces by input here after number kind.Refused opens is = is
 
 -- and so is a fault of its begin
-pub fault_of_begin : (wanted : Wanted) (input : List ℕ) (why : AirFaultKind) → IsBeginFault input why →
+pub fault_of_begin : {S : Type 0} (by : Taking S) (input : List ℕ) (why : AirFaultKind) → IsBeginFault input why →
+    IsFileFault by input 0 why
+fault_of_begin by input kind.NoCapture is = (refl, is)
+fault_of_begin by input (kind.OtherLink other) is = inl (refl, is)
+fault_of_begin by input kind.Short is = absurd is
+fault_of_begin by input kind.WrongBlock is = absurd is
+fault_of_begin by input kind.Differs is = absurd is
+fault_of_begin by input kind.StepsBack is = absurd is
+fault_of_begin by input kind.NoBlock is = absurd is
+fault_of_begin by input kind.Refused is = absurd is
+
+-- a fault of a file is one of its tape
+of_tape : (wanted : Wanted) (input : List ℕ) (packet : ℕ) (why : AirFaultKind) →
+    IsFileFault (for_tape wanted) input packet why → IsAirFaultOf wanted input packet why
+of_tape wanted input packet kind.NoCapture is = is
+of_tape wanted input packet (kind.OtherLink other) is = is
+of_tape wanted input packet kind.Short is = is
+of_tape wanted input packet kind.WrongBlock is = is
+of_tape wanted input packet kind.Differs is = is
+of_tape wanted input packet kind.StepsBack is = is
+of_tape wanted input packet kind.NoBlock is = absurd is
+of_tape wanted input packet kind.Refused is = is
+
+-- and so is one of its pieces
+pub tape_fault_of_pieces : (wanted : Wanted) (input : List ℕ) (here : Section) (after : List ℕ) (number : ℕ)
+    (why : AirFaultKind) → Opens input here after → IsPieceFaultOf (for_tape wanted) here after number why →
+    IsAirFaultOf wanted input number why
+tape_fault_of_pieces wanted input here after number why opens is =
+    of_tape wanted input number why (fault_of_pieces (for_tape wanted) input here after number why opens is)
+
+-- and one of its begin
+pub tape_fault_of_begin : (wanted : Wanted) (input : List ℕ) (why : AirFaultKind) → IsBeginFault input why →
     IsAirFaultOf wanted input 0 why
-fault_of_begin wanted input kind.NoCapture is = (refl, is)
-fault_of_begin wanted input (kind.OtherLink other) is = inl (refl, is)
-fault_of_begin wanted input kind.Short is = absurd is
-fault_of_begin wanted input kind.WrongBlock is = absurd is
-fault_of_begin wanted input kind.Differs is = absurd is
-fault_of_begin wanted input kind.StepsBack is = absurd is
-fault_of_begin wanted input kind.Refused is = absurd is
+tape_fault_of_begin wanted input why is = of_tape wanted input 0 why (fault_of_begin (for_tape wanted) input why is)
+
+-- what stops the naming of senders at the packet that was found next stops a file whose packets were taken up to it
+pub stops_hearing : (here : Section) (octets : List ℕ) (there : Section) (left : List ℕ) (number : ℕ)
+    (heard : List Heard) (piece rest : List ℕ) (new : Section) (what : Found) (fault : AirFault) →
+    AreTaken for_hearing here octets there left number (hearing_of number heard) →
+    BeginsWithPiece there left piece rest → meant new what ≡ meaning there piece →
+    IsHearingFault number heard what fault → IsPieceFault for_hearing here octets fault
+stops_hearing here octets there left number heard piece rest new what fault sofar begins is why = elim why [
+  | inl refused ↦ subst (λ k. IsPieceFaultOf for_hearing here octets fault.packet k) (sym refused.0) refused.1
+  | inr wrong ↦
+      subst (λ n. IsPieceFaultOf for_hearing here octets n fault.kind) (sym wrong.0)
+      (wrong_found for_hearing here octets there left number (hearing_of number heard) piece rest new what fault.kind
+      sofar begins is wrong.1 wrong.2)
+]

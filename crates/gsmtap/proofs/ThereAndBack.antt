@@ -1,13 +1,13 @@
 -- The tape of the capture of a tape is the tape.
 use Rattle.std.proofs.Common.{◌≡◌, ℕ, ◌+◌, ◌*◌, ◌%◌, ◌<◌, ◌^◌, List, [], ◌∷◌, ◌++◌, length, map, take, drop, refl}
 use Rattle.std.proofs.Common.{suc, sym, ap, ◌∙◌, arith, append_assoc, append-nil, Option, Some, None, Result, Ok}
-use Rattle.std.proofs.Common.{replicate, Err, lit<, lit≤, inl, subst}
+use Rattle.std.proofs.Common.{replicate, Err, lit<, lit≤, inl, inr, subst}
 use Rattle.std.proofs.Math.Nat.{zero-min}
 use Rattle.std.specs.List.{flat_map, AllByRecursion, slice_get}
-use Rattle.std.specs.Prelude.{slice_set, nat_lt, true}
+use Rattle.std.specs.Prelude.{slice_set, nat_lt, true, is_some, ◌⊎◌}
 use Rattle.cbsp_wire.specs.declared.message.Cell.{Cell}
-use Rattle.gsmtap.specs.TapeOfCapture.{after_packet, after_packets, after_sent, blocks_in, nothing_known}
-use Rattle.gsmtap.specs.TapeOfCapture.{slots_taken, taken}
+use Rattle.gsmtap.specs.Taken.{after_packets, taken}
+use Rattle.gsmtap.specs.TapeOfCapture.{after_packet, after_sent, blocks_in, for_tape, nothing_known, slots_taken}
 use Rattle.gsmtap.specs.declared.track.Track.{Track}
 use Rattle.byteorder.specs.Numbers.{big_number-reads_back}
 use Rattle.gsmtap.specs.File.{Packet, link_number, link_numbered, octet_order_of}
@@ -20,7 +20,6 @@ use Rattle.gsmtap.proofs.Chunks.{chunks_each, chunks_long}
 use Rattle.gsmtap.proofs.TapeSteps.{blocks_joined, blocks_of_slots}
 use Rattle.gsmtap.specs.Laws.{CaptureHasTheTape}
 use Rattle.gsmtap.specs.declared.capture.Settings.{Settings}
-use Rattle.gsmtap.specs.declared.tape.Sender.{Sender}
 use Rattle.gsmtap.specs.declared.tape.Wanted.{Wanted}
 use Rattle.handset.specs.Tape.{cell_in, octets_of_blocks, tape_octets}
 use Rattle.gsmtap.specs.declared.fault.AirFaultKind.{AirFaultKind}
@@ -282,21 +281,21 @@ on_brings channel cell slot (octets ∷ rest) each =
     (on_brings channel cell (slot + 1) rest each.1)
 
 -- packets one after another
-after_append : (from : Sender) (number : ℕ) (state : Result Known AirFaultKind)
-    (front back : List Packet) (known : Known) → after_packets from number state front ≡ Ok known →
-    after_packets from number state (front ++ back)
-    ≡ after_packets from (number + length front) (Ok known) back
-after_append from number (Ok old) [] back known is =
+after_append : (step : Known → Packet → Result Known AirFaultKind) (number : ℕ) (state : Result Known AirFaultKind)
+    (front back : List Packet) (known : Known) → after_packets step number state front ≡ Ok known →
+    after_packets step number state (front ++ back)
+    ≡ after_packets step (number + length front) (Ok known) back
+after_append step number (Ok old) [] back known is =
     let same : old ≡ known = cc in
     let here : number ≡ number + length {A = Packet} [] = omega arith in
-    ap (λ k. after_packets from number (Ok k) back) same
-    ∙ ap (λ n. after_packets from n (Ok known) back) here
-after_append from number (Err why) [] back known is = cc
-after_append from number (Ok old) (first ∷ front) back known is =
+    ap (λ k. after_packets step number (Ok k) back) same
+    ∙ ap (λ n. after_packets step n (Ok known) back) here
+after_append step number (Err why) [] back known is = cc
+after_append step number (Ok old) (first ∷ front) back known is =
     let next : number + 1 + length front ≡ number + length (first ∷ front) = omega arith in
-    after_append from (number + 1) (after_packet from old first) front back known is
-    ∙ ap (λ n. after_packets from n (Ok known) back) next
-after_append from number (Err why) (first ∷ front) back known is = cc
+    after_append step (number + 1) (step old first) front back known is
+    ∙ ap (λ n. after_packets step n (Ok known) back) next
+after_append step number (Err why) (first ∷ front) back known is = cc
 
 -- what is known after a slot
 abbrev pub known_at : (slot : ℕ) → (done : List (List ℕ)) (left : ℕ) → Known
@@ -305,7 +304,7 @@ known_at slot done left = record { track = Some (record { first = 0; slot = slot
 slot_taken : (channel : Channel) (cell : Cell) (slot number : ℕ) (octets : List ℕ) (track : Option Track)
     (done : List (List ℕ)) (left : ℕ) → length octets ≡ 92 → length done ≡ 4 * slot →
     followed track (slot % 6656) ≡ Some (record { first = 0; slot = slot }) →
-    after_packets anyone number (Ok (record {
+    after_packets (after_packet anyone) number (Ok (record {
       track = track;
       blocks = sofar done (suc (suc (suc (suc left))));
     }))
@@ -326,14 +325,17 @@ slot_taken channel cell slot number octets track done left long many leads =
     let many3 : length three ≡ 4 * slot + 3 = length_push two c ∙ omega (arith, many2) in
     let whole : ((((done ++ a ∷ []) ++ b ∷ []) ++ c ∷ []) ++ d ∷ []) ≡ done ++ blocks_in_slot octets =
     simp append_assoc in
-    ap (λ state. after_packets anyone (number + 1) state (packets_in channel cell slot 1 (b ∷ c ∷ d ∷ [])))
+    ap (λ state. after_packets (after_packet anyone) (number + 1) state
+    (packets_in channel cell slot 1 (b ∷ c ∷ d ∷ [])))
     (next_packet channel cell slot 0 a track done (suc (suc (suc left))) each.0 (lit< tt) refl
     (omega (arith, many)) leads)
-    ∙ ap (λ state. after_packets anyone (number + 1 + 1) state (packets_in channel cell slot 2 (c ∷ d ∷ [])))
+    ∙ ap (λ state. after_packets (after_packet anyone) (number + 1 + 1) state
+    (packets_in channel cell slot 2 (c ∷ d ∷ [])))
     (next_packet channel cell slot 1 b track' one (suc (suc left)) each.1.0 (lit< tt) refl many1 (leads_same slot))
-    ∙ ap (λ state. after_packets anyone (number + 1 + 1 + 1) state (packets_in channel cell slot 3 (d ∷ [])))
+    ∙ ap (λ state. after_packets (after_packet anyone) (number + 1 + 1 + 1) state
+    (packets_in channel cell slot 3 (d ∷ [])))
     (next_packet channel cell slot 2 c track' two (suc left) each.1.1.0 (lit< tt) refl many2 (leads_same slot))
-    ∙ ap (λ state. after_packets anyone (number + 1 + 1 + 1 + 1) state [])
+    ∙ ap (λ state. after_packets (after_packet anyone) (number + 1 + 1 + 1 + 1) state [])
     (next_packet channel cell slot 3 d track' three left each.1.1.1.0 (lit< tt) refl many3 (leads_same slot))
     ∙ ap (λ blocks. Ok (known_at slot blocks left)) whole
 
@@ -342,13 +344,19 @@ all_taken : (channel : Channel) (cell : Cell) (slot number : ℕ) (slots : List 
     (done : List (List ℕ)) → AllByRecursion (λ slot. length slot ≡ 92) slots → length done ≡ 4 * slot →
     followed track (slot % 6656) ≡ Some (record { first = 0; slot = slot }) →
     (known : Known)
-    × (after_packets anyone number (Ok (record { track = track; blocks = sofar done (4 * length slots) }))
+    × (after_packets (after_packet anyone) number (Ok (record
+    { track = track; blocks = sofar done (4 * length slots) }))
     (packets_on channel cell slot slots) ≡ Ok known)
     × (known.blocks ≡ map Some (done ++ blocks_of_slots slots))
+    × (is_some track ≡ true ⊎ 0 < length slots → is_some known.track ≡ true)
 all_taken channel cell slot number [] track done each many leads = (
   record { track = track; blocks = sofar done (4 * length {A = List ℕ} []) },
   refl,
   append-nil (map Some done) ∙ ap (map Some) (sym (append-nil done)),
+  λ some. elim some [
+    | inl before ↦ before
+    | inr more ↦ absurd (omega (arith, more))
+  ],
 )
 all_taken channel cell slot number (octets ∷ rest) track done each many leads =
     let blocks : List (List ℕ) = blocks_in_slot octets in
@@ -361,15 +369,16 @@ all_taken channel cell slot number (octets ∷ rest) track done each many leads 
     let others = all_taken channel cell (slot + 1) (number + length front) rest
     (Some (record { first = 0; slot = slot })) (done ++ blocks) each.1 after (leads_next slot) in (
       others.0,
-      ap (λ n. after_packets anyone number (Ok (record { track = track; blocks = sofar done n }))
+      ap (λ n. after_packets (after_packet anyone) number (Ok (record { track = track; blocks = sofar done n }))
           (front ++ back))
           four
-          ∙ after_append anyone number
+          ∙ after_append (after_packet anyone) number
           (Ok (record { track = track; blocks = sofar done (suc (suc (suc (suc left)))) })) front back
           (known_at slot (done ++ blocks) left)
           (slot_taken channel cell slot number octets track done left each.0 many leads)
           ∙ others.1,
       others.2 ∙ ap (map Some) (append_assoc done blocks (blocks_of_slots rest)),
+      λ some. others.3 (inl refl),
     )
 
 all_known : (blocks : List (List ℕ)) → blocks_in (map Some blocks) ≡ blocks
@@ -378,23 +387,25 @@ all_known (block ∷ blocks) = ap (λ rest. block ∷ rest) (all_known blocks)
 
 packets_taken : (wanted : Wanted) (channel : Channel) (cell : Cell) (slots : List (List ℕ)) →
     wanted.from ≡ anyone → slots_taken wanted ≡ length slots → AllByRecursion (λ slot. length slot ≡ 92) slots →
-    (known : Known) × (taken wanted (packets_on channel cell 0 slots) ≡ Ok known)
-    × (known.blocks ≡ map Some (blocks_of_slots slots))
+    (known : Known) × (taken (for_tape wanted) (packets_on channel cell 0 slots) ≡ Ok known)
+    × (known.blocks ≡ map Some (blocks_of_slots slots)) × (0 < length slots → is_some known.track ≡ true)
 unfolding taken
 packets_taken wanted channel cell slots anywhere many each =
     let all = all_taken channel cell 0 0 slots None [] each refl leads_first in (
       all.0,
-      ap (λ from. after_packets from 0 (Ok (nothing_known (slots_taken wanted)))
+      ap (λ from. after_packets (after_packet from) 0 (Ok (nothing_known (slots_taken wanted)))
           (packets_on channel cell 0 slots)) anywhere
-          ∙ ap (λ n. after_packets anyone 0 (Ok (nothing_known n)) (packets_on channel cell 0 slots)) many
+          ∙ ap (λ n. after_packets (after_packet anyone) 0 (Ok (nothing_known n)) (packets_on channel cell 0 slots))
+          many
           ∙ all.1,
       all.2,
+      λ some. all.3 (inr some),
     )
 
 -- the tape of a capture of a tape is that tape
 pub there_and_back : CaptureHasTheTape
-there_and_back cell channel slots few each =
-    let wanted : Wanted = record { cell = cell; slots = length slots; first_slot = 0; from = anyone } in
+there_and_back cell channel slots some few each =
+    let wanted : Wanted = record { cell = cell; slots = Some (length slots); first_slot = 0; from = anyone } in
     let settings : Settings = record { channel = channel; slots = All } in
     let said : Cell = cell_in (tape_octets cell (length slots) []) in
     let pieces : List (List ℕ) = pieces_on channel said 0 slots in
@@ -434,6 +445,7 @@ there_and_back cell channel slots few each =
           };
         };
       };
+      some = taken_all.3 some;
       written =
           rw (zero-min (length slots)) (ap (λ octets. tape_octets cell (length slots) [] ++ octets) (sym blocks));
     }

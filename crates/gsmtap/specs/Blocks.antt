@@ -78,11 +78,16 @@ packet_meaning section kind body =
 abbrev pub kept_of : (length snap_length : ℕ) → ℕ
 kept_of length snap_length = if snap_length == 0 then length else min length snap_length
 
--- a simple packet (section 4.4), of interface 0: how many octets there were, in four octets, and those that were kept
+-- a simple packet (section 4.4), of interface 0: how many octets there were, in four octets, and those that were kept,
+-- all of which are in the body
+abbrev pub simple_with : Section → (link : ℕ) (body : List ℕ) → (kept : ℕ) → Option Meaning
+simple_with section link body kept =
+    if nat_le kept (length body - 4) then brings section link (take kept (drop 4 body)) else None
+
 abbrev pub simple_of : Section → List ℕ → Option Interface → Option Meaning
 simple_of section body None = None
 simple_of section body (Some interface) =
-    brings section interface.link (take (kept_of (number_in section.order body) interface.snap_length) (drop 4 body))
+    simple_with section interface.link body (kept_of (number_in section.order body) interface.snap_length)
 
 unfoldable pub simple_meaning : Section → List ℕ → Option Meaning
 simple_meaning section body =

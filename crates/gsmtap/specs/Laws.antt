@@ -1,5 +1,5 @@
 -- A law of captures (own), over the definitions alone: there and back.
-use Rattle.std.specs.Prelude.{◌≡◌, ℕ, ◌≤◌, List, [], ◌∷◌, length}
+use Rattle.std.specs.Prelude.{◌≡◌, ℕ, ◌<◌, ◌≤◌, List, [], ◌∷◌, length, Some}
 use Rattle.std.specs.List.{AllByRecursion}
 use Rattle.cbsp_wire.specs.declared.message.Cell.{Cell}
 use Rattle.handset.specs.Tape.{max_slots, tape_octets}
@@ -13,11 +13,12 @@ use Rattle.gsmtap.specs.declared.packet.Channel.{Channel}
 abbrev pub tape_with : Cell → List (List ℕ) → Tape
 tape_with cell slots = record { header = tape_octets cell (length slots) []; slots = slots }
 
--- the tape of the capture of a tape with all its slots, for as many slots, is the tape
+-- the tape of the capture of a tape with all its slots, for as many slots, is the tape. Of a tape without a slot the
+-- capture has no block
 abbrev pub CaptureHasTheTape : Type 0
 CaptureHasTheTape =
-    (cell : Cell) (channel : Channel) (slots : List (List ℕ)) → length slots ≤ max_slots →
+    (cell : Cell) (channel : Channel) (slots : List (List ℕ)) → 0 < length slots → length slots ≤ max_slots →
     AllByRecursion (λ slot. length slot ≡ 92) slots →
-    IsTapeOfCapture (record { cell = cell; slots = length slots; first_slot = 0; from = anyone })
+    IsTapeOfCapture (record { cell = cell; slots = Some (length slots); first_slot = 0; from = anyone })
     (capture (record { channel = channel; slots = All }) (tape_with cell slots ∷ []))
     (octets_of_tape (tape_with cell slots))

@@ -8,6 +8,9 @@ pub mod Pieces
 pub mod PieceSteps
 pub mod Tap
 pub mod Track
+pub mod Taken
 pub mod TapeOfCapture
 pub mod TapeSteps
+pub mod Heard
+pub mod HeardSteps
 pub mod Laws

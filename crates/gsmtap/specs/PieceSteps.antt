@@ -32,4 +32,5 @@ IsFrontFault section octets kind.Short = IsCutPiece section octets
 IsFrontFault section octets kind.WrongBlock = IsWrongPiece section octets
 IsFrontFault section octets kind.Differs = ⊥
 IsFrontFault section octets kind.StepsBack = ⊥
+IsFrontFault section octets kind.NoBlock = ⊥
 IsFrontFault section octets kind.Refused = ⊥

@@ -1,16 +1,15 @@
 -- Steps over the packets of a file. Contracts of private functions alone speak of it.
 use Rattle.std.specs.Prelude.{◌≡◌, ℕ, List, Option, Some, None, Result, Ok, Err}
+use Rattle.gsmtap.specs.File.{Packet}
 use Rattle.gsmtap.specs.Pieces.{IsCutPiece, IsWrongPiece}
 use Rattle.gsmtap.specs.Section.{Section}
-use Rattle.gsmtap.specs.TapeOfCapture.{EndsWith, HasWrongPacket, IsNoCapture, IsOtherLink, after_packet}
+use Rattle.gsmtap.specs.Taken.{EndsWith, HasWrongPacket, IsNoCapture, IsOtherLink, Taking}
 use Rattle.gsmtap.specs.Track.{Known}
 use Rattle.gsmtap.specs.declared.fault.AirFault.{AirFault}
 use Rattle.gsmtap.specs.declared.fault.AirFaultKind.{AirFaultKind}
 use Rattle.gsmtap.specs.declared.fault.AirFaultKind.TheVariants as kind
 use Rattle.gsmtap.specs.declared.pieces.Found.{Found}
 use Rattle.gsmtap.specs.declared.pieces.Found.TheVariants as found
-use Rattle.gsmtap.specs.declared.tape.Sender.{Sender}
-use Rattle.gsmtap.specs.declared.tape.Wanted.{Wanted}
 use Rattle.gsmtap.specs.declared.track.Air.{Air}
 use Rattle.gsmtap.specs.declared.track.Track.{Track}
 
@@ -30,27 +29,29 @@ count_of found.Nothing = 0
 count_of found.Wrong = 0
 
 -- what is known after what was found in a piece
-abbrev pub after_found : Sender → Known → Found → Result Known AirFaultKind
-after_found from known (found.Packet packet) =
-    after_packet from known (record { link = packet.link; octets = packet.octets.now })
-after_found from known found.Nothing = Ok known
-after_found from known found.Wrong = Err kind.WrongBlock
+abbrev pub after_found : {S : Type 0} → (step : S → Packet → Result S AirFaultKind) → S → Found →
+    Result S AirFaultKind
+after_found step known (found.Packet packet) =
+    step known (record { link = packet.link; octets = packet.octets.now })
+after_found step known found.Nothing = Ok known
+after_found step known found.Wrong = Err kind.WrongBlock
 
--- why octets are no pieces that make a tape
-abbrev pub IsPieceFaultOf : Wanted → Section → List ℕ → (packet : ℕ) → AirFaultKind → Type 0
-IsPieceFaultOf wanted here octets packet kind.NoCapture = ⊥
-IsPieceFaultOf wanted here octets packet (kind.OtherLink number) =
-    HasWrongPacket wanted here octets (record { packet = packet; kind = kind.OtherLink number })
-IsPieceFaultOf wanted here octets packet kind.Short = EndsWith wanted here octets IsCutPiece packet
-IsPieceFaultOf wanted here octets packet kind.WrongBlock = EndsWith wanted here octets IsWrongPiece packet
-IsPieceFaultOf wanted here octets packet kind.Differs =
-    HasWrongPacket wanted here octets (record { packet = packet; kind = kind.Differs })
-IsPieceFaultOf wanted here octets packet kind.StepsBack =
-    HasWrongPacket wanted here octets (record { packet = packet; kind = kind.StepsBack })
-IsPieceFaultOf wanted here octets packet kind.Refused = packet ≡ 0
+-- why octets are no pieces whose packets are taken
+abbrev pub IsPieceFaultOf : {S : Type 0} → Taking S → Section → List ℕ → (packet : ℕ) → AirFaultKind → Type 0
+IsPieceFaultOf by here octets packet kind.NoCapture = ⊥
+IsPieceFaultOf by here octets packet (kind.OtherLink number) =
+    HasWrongPacket by here octets (record { packet = packet; kind = kind.OtherLink number })
+IsPieceFaultOf by here octets packet kind.Short = EndsWith by here octets IsCutPiece packet
+IsPieceFaultOf by here octets packet kind.WrongBlock = EndsWith by here octets IsWrongPiece packet
+IsPieceFaultOf by here octets packet kind.Differs =
+    HasWrongPacket by here octets (record { packet = packet; kind = kind.Differs })
+IsPieceFaultOf by here octets packet kind.StepsBack =
+    HasWrongPacket by here octets (record { packet = packet; kind = kind.StepsBack })
+IsPieceFaultOf by here octets packet kind.NoBlock = ⊥
+IsPieceFaultOf by here octets packet kind.Refused = packet ≡ 0
 
-abbrev pub IsPieceFault : Wanted → Section → List ℕ → AirFault → Type 0
-IsPieceFault wanted here octets fault = IsPieceFaultOf wanted here octets fault.packet fault.kind
+abbrev pub IsPieceFault : {S : Type 0} → Taking S → Section → List ℕ → AirFault → Type 0
+IsPieceFault by here octets fault = IsPieceFaultOf by here octets fault.packet fault.kind
 
 -- a fault of a block, which is of one of two kinds
 abbrev pub IsBlockKind : AirFaultKind → Type 0
@@ -60,6 +61,7 @@ IsBlockKind kind.Short = ⊥
 IsBlockKind kind.WrongBlock = ⊥
 IsBlockKind kind.Differs = Unit {0}
 IsBlockKind kind.StepsBack = Unit {0}
+IsBlockKind kind.NoBlock = ⊥
 IsBlockKind kind.Refused = ⊥
 
 -- a fault of a packet
@@ -70,6 +72,7 @@ IsPacketKind kind.Short = ⊥
 IsPacketKind kind.WrongBlock = ⊥
 IsPacketKind kind.Differs = Unit {0}
 IsPacketKind kind.StepsBack = Unit {0}
+IsPacketKind kind.NoBlock = ⊥
 IsPacketKind kind.Refused = ⊥
 
 -- a fault of what was found in a piece
@@ -86,4 +89,5 @@ IsBeginFault input kind.Short = ⊥
 IsBeginFault input kind.WrongBlock = ⊥
 IsBeginFault input kind.Differs = ⊥
 IsBeginFault input kind.StepsBack = ⊥
+IsBeginFault input kind.NoBlock = ⊥
 IsBeginFault input kind.Refused = ⊥

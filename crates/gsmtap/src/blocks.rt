@@ -1,6 +1,6 @@
 //! The blocks of pcapng: how long one is, and what it says.
 
-ghost use Rattle.std.specs.Prelude.{◌≡◌, ◌≤◌, length, take, IfOk};
+ghost use Rattle.std.specs.Prelude.{◌≡◌, ◌≤◌, length, IfOk};
 ghost use Rattle.gsmtap.specs.Blocks.{block_length, block_meaning, brings, interface_meaning, interface_number};
 ghost use Rattle.gsmtap.specs.Blocks.{kept_of, magic_order, meaning_by_type, order_in, packet_meaning, section_meaning};
 ghost use Rattle.gsmtap.specs.Blocks.{simple_meaning};
@@ -169,8 +169,11 @@ impl Reader {
         let Some(interface) = self.interfaces.first() else {
             return Found::Wrong;
         };
-        let length = kept_of(number_in(self.order, body), interface.snap_length);
-        found(interface.link, front_of(length, &body[4..]))
+        let length = kept_of(number_in(self.order, body), interface.snap_length) as usize;
+        if length > body.len() - 4 {
+            return Found::Wrong;
+        }
+        found(interface.link, &body[4..4 + length])
     }
 }
 
@@ -204,16 +207,5 @@ fn kept_of(length: u32, snap_length: u32) -> u32
         length
     } else {
         length.min(snap_length)
-    }
-}
-
-/// The first octets, or all if there are fewer.
-fn front_of(length: u32, octets: &[u8]) -> &[u8]
-    ensures { result.now ≡ take length octets.now }
-{
-    if (length as usize) < octets.len() {
-        &octets[..length as usize]
-    } else {
-        octets
     }
 }

@@ -24,19 +24,22 @@ pub enum AirFaultKind {
     #[error("wrong block")]
     WrongBlock,
     /// A block comes twice, with other octets.
-    #[error("block differs")]
+    #[error("block differs: if several send, choose one by --from or --arfcn")]
     Differs,
     /// A block is more than a slot before the one before it, or before the first slot.
-    #[error("steps back")]
+    #[error("steps back: if several send, choose one by --from or --arfcn")]
     StepsBack,
+    /// No packet has a block of the wanted sender's cell broadcast channel.
+    #[error("no block of the wanted sender: warnc cells lists who sends")]
+    NoBlock,
     /// Out of memory.
     #[error("out of memory")]
     Refused,
 }
 
 /// Why a capture file has no tape, and its packet, from 1. The packet is 0 if the file is no capture, the header of a
-/// classic file is at fault, or memory was refused. A block of pcapng that is cut or contradicts itself has the number
-/// of the packet that would be next.
+/// classic file is at fault, no packet has a block, or memory was refused. A block of pcapng that is cut or contradicts
+/// itself has the number of the packet that would be next.
 #[derive(Clone, Copy, Debug, PartialEq, Eq)]
 pub struct AirFault {
     /// The packet, from 1.

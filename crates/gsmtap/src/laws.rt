@@ -4,7 +4,7 @@ ghost use Rattle.gsmtap.specs.Laws.{CaptureHasTheTape};
 
 /// What comes back of a capture. It does nothing: its contract is the statement.
 ///
-/// The tape of the capture of a tape with all its slots is the tape, for each cell, channel and number of slots.
+/// The tape of the capture of a tape with all its slots is the tape, for each cell, channel and number of slots from 1.
 pub fn capture_laws()
     ensures { CaptureHasTheTape }
 {}

@@ -2,13 +2,15 @@
 //! format of libpcap, with IPv4, UDP and GSMTAP around each block.
 //!
 //! [`capture_of`] makes the capture of tapes, whose octets `specs/Capture.antt` says; [`tape_of_capture`] makes a tape
-//! of a capture that others made, in that format or in pcapng, as `specs/TapeOfCapture.antt` says.
+//! of a capture that others made, in that format or in pcapng, as `specs/TapeOfCapture.antt` says, and
+//! [`heard_in_capture`] names who sends in it, as `specs/Heard.antt` says.
 #![tactic(auto)]
 
 mod blocks;
 pub mod capture;
 pub mod fault;
 pub mod file;
+pub mod heard;
 mod laws;
 mod packet;
 mod pieces;
@@ -18,6 +20,8 @@ mod track;
 
 pub use capture::{CaptureFault, Settings, Slots, capture_of};
 pub use fault::{AirFault, AirFaultKind};
+pub use heard::{Heard, heard_in_capture};
 pub use laws::capture_laws;
 pub use packet::{Channel, Place, push_packet};
+pub use tap::Station;
 pub use tape::{ChannelType, Sender, Wanted, tape_of_capture};

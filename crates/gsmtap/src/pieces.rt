@@ -3,7 +3,7 @@
 ghost use Rattle.std.specs.Prelude.{◌≡◌, ◌<◌, ◌≤◌, ◌^◌, length, [], IfOk, MatchResult};
 ghost use Rattle.gsmtap.specs.PieceSteps.{BeginsWithPiece, IsFrontFault, meant, section_of};
 ghost use Rattle.gsmtap.specs.Pieces.{least, meaning, piece_length};
-ghost use Rattle.gsmtap.specs.TapeOfCapture.{no_section};
+ghost use Rattle.gsmtap.specs.Taken.{no_section};
 
 use crate::blocks::block_length;
 use crate::fault::AirFaultKind;

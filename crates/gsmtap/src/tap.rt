@@ -1,11 +1,13 @@
 //! The block that a packet carries in GSMTAP.
 
-ghost use Rattle.std.specs.Prelude.{◌≡◌, ◌≤◌, length, option_copied, option_map};
+ghost use Rattle.std.specs.Prelude.{◌≡◌, ◌≤◌, length, option_copied, option_map, true, IfSome};
+ghost use Rattle.gsmtap.specs.Heard.{channel_of, is_heard, station_in};
 ghost use Rattle.gsmtap.specs.Tap.{after_cooked_two, after_family, after_header, after_type, block_of, datagram_of};
 ghost use Rattle.gsmtap.specs.Tap.{internet_of, is_from, is_marked, is_on, is_tag, payload_of, sent_in, without_tag};
 
 use crate::file::Link;
 use crate::tape::{ChannelType, Sender};
+use crate::track::place_in;
 use byteorder::{BigEndian, ByteOrder, LittleEndian};
 
 /// The port of GSMTAP.
@@ -24,6 +26,17 @@ pub struct Sent {
     pub frame: u32,
     /// Its octets.
     pub block: [u8; 23],
+}
+
+/// A sender of blocks of a cell broadcast channel, as its packets name it.
+#[derive(Clone, Copy, Debug, PartialEq, Eq)]
+pub struct Station {
+    /// The IPv4 address that they come from.
+    pub address: u32,
+    /// The number of the radio channel (ARFCN), in 14 bits.
+    pub arfcn: u16,
+    /// How they mark a block of a cell broadcast channel.
+    pub channel: ChannelType,
 }
 
 /// The block that a packet carries: one of a cell broadcast channel, from the wanted sender.
@@ -123,7 +136,8 @@ fn after_family(octets: &[u8]) -> Option<&[u8]>
 /// The UDP datagram in an IPv4 packet.
 #[tactic(auto, unfolding(crate::specs::Tap::datagram_of))]
 fn datagram_of(from: Option<u32>, octets: &[u8]) -> Option<&[u8]>
-    ensures { option_copied result ≡ datagram_of from octets.now }
+    ensures datagram { option_copied result ≡ datagram_of from octets.now }
+    ensures long { IfSome result (λ datagram. 20 ≤ length octets.now) }
 {
     if octets.len() < 20 {
         return None;
@@ -195,7 +209,8 @@ fn is_marked(channel: ChannelType, octets: &[u8]) -> bool
 /// The block in GSMTAP.
 #[tactic(auto, unfolding(crate::specs::Tap::block_of))]
 fn block_of(from: Sender, octets: &[u8]) -> Option<Sent>
-    ensures { result ≡ block_of from octets.now }
+    ensures block { result ≡ block_of from octets.now }
+    ensures long { IfSome result (λ sent. 16 ≤ length octets.now) }
 {
     if octets.len() < 16 {
         return None;
@@ -218,4 +233,50 @@ fn block_of(from: Sender, octets: &[u8]) -> Option<Sent>
     } else {
         None
     }
+}
+
+/// Whether GSMTAP has a block of the basic channel that is marked so.
+fn is_heard(channel: ChannelType, octets: &[u8]) -> bool
+    ensures heard { result ≡ is_heard channel octets.now }
+    ensures long { result ≡ true → 16 ≤ length octets.now }
+{
+    let from = Sender {
+        address: None,
+        arfcn: None,
+        channel,
+    };
+    match block_of(from, octets) {
+        Some(sent) => place_in(sent.frame) < 4,
+        None => false,
+    }
+}
+
+/// How the block of the basic channel in GSMTAP is marked, if it has one.
+fn channel_of(octets: &[u8]) -> Option<ChannelType>
+    ensures channel { result ≡ channel_of octets.now }
+    ensures long { IfSome result (λ channel. 16 ≤ length octets.now) }
+{
+    if is_heard(ChannelType::Cbch, octets) {
+        Some(ChannelType::Cbch)
+    } else if is_heard(ChannelType::Sdcch, octets) {
+        Some(ChannelType::Sdcch)
+    } else {
+        None
+    }
+}
+
+/// The sender of the block that a packet carries, if it carries one of the basic channel, marked in either way.
+#[tactic(auto, unfolding(crate::specs::Heard::station_in))]
+pub fn station_in(link: Link, octets: &[u8]) -> Option<Station>
+    ensures { result ≡ station_in link octets.now }
+{
+    let internet = internet_of(link, octets)?;
+    let datagram = datagram_of(None, internet)?;
+    let payload = payload_of(datagram)?;
+    let channel = channel_of(payload)?;
+    Some(Station {
+        address: BigEndian::read_u32(&internet[12..]),
+        arfcn: BigEndian::read_u16(&payload[4..]) % 0x4000,
+        channel,
+    })
 }

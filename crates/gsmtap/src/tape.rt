@@ -4,8 +4,9 @@ ghost use Rattle.std.specs.Prelude.{◌≡◌, ◌+◌, ◌*◌, ◌<◌, ◌≤
 ghost use Rattle.std.specs.Prelude.{Err, []};
 ghost use Rattle.handset.specs.Tape.{octets_of_blocks, tape_octets};
 ghost use Rattle.gsmtap.specs.PieceSteps.{section_of};
-ghost use Rattle.gsmtap.specs.TapeOfCapture.{AreKnown, IsAirFault, IsTapeOfCapture, Opens, after_packet};
-ghost use Rattle.gsmtap.specs.TapeOfCapture.{blocks_before, blocks_in};
+ghost use Rattle.gsmtap.specs.Taken.{AreKnown, Opens};
+ghost use Rattle.gsmtap.specs.TapeOfCapture.{IsAirFault, IsTapeOfCapture, after_packet, blocks_in, for_tape};
+ghost use Rattle.gsmtap.specs.TapeOfCapture.{most_slots, slots_filled, slots_taken, tape_of_known};
 ghost use Rattle.gsmtap.specs.TapeSteps.{IsBeginFault, IsFoundKind, IsPacketKind, IsPieceFault, after_found};
 ghost use Rattle.gsmtap.specs.TapeSteps.{count_of, known_of, last_slot};
 
@@ -16,6 +17,7 @@ use crate::tap::sent_in;
 use crate::track::Air;
 use cbch_blocks::idle;
 use cbsp_wire::Cell;
+use handset::MAX_SLOTS;
 use std::alloc::{AllocError, Global};
 
 /// How many octets the header of a capture file has in the classic format.
@@ -48,8 +50,8 @@ pub struct Sender {
 pub struct Wanted {
     /// The cell that the tape names.
     pub cell: Cell,
-    /// How many slots it has.
-    pub slots: u16,
+    /// How many slots it has; if no number is wanted, as many as there are up to the last block, at most 65,535.
+    pub slots: Option<u16>,
     /// In which of them the first block stands: a receiver may begin after the run whose slots they are.
     pub first_slot: u16,
     /// Whose packets are taken.
@@ -62,8 +64,8 @@ pub struct Wanted {
 ///
 /// # Errors
 ///
-/// Returns the fault of the first packet or block that has one, or of the file's begin, which is packet 0, and out of
-/// memory.
+/// Returns the fault of the first packet or block that has one, or of the file's begin, which is packet 0; else
+/// [`AirFaultKind::NoBlock`] if no packet has a block of the wanted sender's; and out of memory.
 pub fn tape_of_capture(alloc: Global, input: &[u8], wanted: &Wanted) -> Result<Vec<u8>, AirFault>
     requires { length input.now < 2 ^ 48 }
     ensures tape { IfOk result (λ output. IsTapeOfCapture wanted.now input.now output.items) }
@@ -73,14 +75,18 @@ pub fn tape_of_capture(alloc: Global, input: &[u8], wanted: &Wanted) -> Result<V
         Ok(opened) => opened,
         Err(kind) => return Err(fault_at(0, kind)),
     };
-    match read_pieces(alloc, wanted, reader, octets) {
-        Ok(air) => Ok(tape_of(alloc, wanted, &air)?),
-        Err(fault) => Err(fault),
+    let air = match read_pieces(alloc, wanted, reader, octets) {
+        Ok(air) => air,
+        Err(fault) => return Err(fault),
+    };
+    if air.track.is_none() {
+        return Err(fault_at(0, AirFaultKind::NoBlock));
     }
+    Ok(tape_of(alloc, wanted, &air)?)
 }
 
 /// What is known of a capture file at its first packet or block, and the octets from there on.
-fn opened(alloc: Global, input: &[u8]) -> Result<(Reader, &[u8]), AirFaultKind>
+pub fn opened(alloc: Global, input: &[u8]) -> Result<(Reader, &[u8]), AirFaultKind>
     ensures { MatchResult result (λ it. Opens input.now (section_of it.0) it.1.now) (IsBeginFault input.now) }
 {
     if is_pcapng(input) {
@@ -101,7 +107,7 @@ fn opened(alloc: Global, input: &[u8]) -> Result<(Reader, &[u8]), AirFaultKind>
 }
 
 /// A fault of a packet.
-fn fault_at(packet: u64, kind: AirFaultKind) -> AirFault
+pub fn fault_at(packet: u64, kind: AirFaultKind) -> AirFault
     ensures { result ≡ record { packet = packet; kind = kind } }
 {
     AirFault { packet, kind }
@@ -115,10 +121,14 @@ fn read_pieces(
     octets: &[u8],
 ) -> Result<Air, AirFault>
     requires { length octets.now < 2 ^ 48 }
-    ensures known { IfOk result (λ air. AreKnown wanted.now (section_of reader) octets.now (known_of air)) }
-    ensures fault { IfErr result (IsPieceFault wanted.now (section_of reader) octets.now) }
+    ensures known { IfOk result (λ air. AreKnown (for_tape wanted.now) (section_of reader) octets.now (known_of air)) }
+    ensures long { IfOk result (λ air. length air.blocks.items ≡ 4 * slots_taken wanted.now) }
+    ensures fault { IfErr result (IsPieceFault (for_tape wanted.now) (section_of reader) octets.now) }
 {
-    let mut air = Air::new(alloc, wanted.slots.saturating_sub(wanted.first_slot))?;
+    let mut air = Air::new(
+        alloc,
+        most_slots(wanted.slots).saturating_sub(wanted.first_slot),
+    )?;
     let mut left = octets;
     let mut number = 0;
     'pieces: while !left.is_empty() {
@@ -137,14 +147,26 @@ fn read_pieces(
     Ok(air)
 }
 
+/// How many slots a tape may have: as many as are wanted, or as many as a tape can have.
+fn most_slots(wanted: Option<u16>) -> u16
+    ensures { result ≡ most_slots wanted }
+{
+    match wanted {
+        Some(slots) => slots,
+        None => MAX_SLOTS as u16,
+    }
+}
+
 /// Places the block that a packet carries, if one was found and it does, and returns how many packets there were.
 fn take(air: &mut Air, from: Sender, found: &Found) -> Result<u64, AirFaultKind>
     requires { last_slot air.old.track < 2 ^ 60 }
-    ensures placed { OnOk result (after_found from (known_of air.old) found.now ≡ Ok (known_of air.new)) }
+    ensures placed { OnOk result (after_found (after_packet from) (known_of air.old) found.now
+        ≡ Ok (known_of air.new)) }
     ensures many { IfOk result (λ packets. packets ≡ count_of found.now) }
+    ensures long { length air.new.blocks.items ≡ length air.old.blocks.items }
     ensures bound { OnOk result (last_slot air.new.track
         ≤ last_slot air.old.track + 3328 * count_of found.now) }
-    ensures fault { IfErr result (λ kind. after_found from (known_of air.old) found.now ≡ Err kind) }
+    ensures fault { IfErr result (λ kind. after_found (after_packet from) (known_of air.old) found.now ≡ Err kind) }
     ensures kinds { IfErr result (IsFoundKind found.now) }
 {
     match found {
@@ -163,6 +185,7 @@ fn take_packet(air: &mut Air, from: Sender, packet: &Captured) -> Result<(), Air
     requires { last_slot air.old.track < 2 ^ 60 }
     ensures placed { OnOk result (after_packet from (known_of air.old)
         (record { link = packet.now.link; octets = packet.now.octets.now }) ≡ Ok (known_of air.new)) }
+    ensures long { length air.new.blocks.items ≡ length air.old.blocks.items }
     ensures bound { OnOk result (last_slot air.new.track ≤ last_slot air.old.track + 3328) }
     ensures fault { IfErr result (λ kind. after_packet from (known_of air.old)
         (record { link = packet.now.link; octets = packet.now.octets.now }) ≡ Err kind) }
@@ -179,15 +202,30 @@ fn take_packet(air: &mut Air, from: Sender, packet: &Captured) -> Result<(), Air
 
 /// The octets of the tape of which this is known.
 fn tape_of(alloc: Global, wanted: &Wanted, air: &Air) -> Result<Vec<u8>, AllocError>
-    ensures { IfOk result (λ output. output.items ≡ tape_octets wanted.now.cell wanted.now.slots
-        (blocks_in (blocks_before wanted.now ++ air.now.blocks.items))) }
+    requires { length air.now.blocks.items ≡ 4 * slots_taken wanted.now }
+    ensures { IfOk result (λ output. output.items ≡ tape_of_known wanted.now air.now.blocks.items) }
 {
-    let before = wanted.first_slot.min(wanted.slots);
+    let before = wanted.first_slot.min(most_slots(wanted.slots));
+    let filled = slots_filled(&air.blocks);
+    let (slots, known) = match wanted.slots {
+        Some(slots) => (slots, air.blocks.len()),
+        None => (wanted.first_slot + filled as u16, 4 * filled),
+    };
     let mut output = Vec::new(alloc);
-    output.extend_from_slice(&header_of(wanted.cell, wanted.slots))?;
+    output.extend_from_slice(&header_of(wanted.cell, slots))?;
     push_blocks(&mut output, &vec![in alloc; None; 4 * usize::from(before)]?)?;
-    push_blocks(&mut output, &air.blocks)?;
+    push_blocks(&mut output, &air.blocks[..known])?;
     Ok(output)
+}
+
+/// How many slots the blocks fill up to the last one that is known.
+fn slots_filled(blocks: &[Option<[u8; 23]>]) -> usize
+    ensures { result ≡ slots_filled blocks.now }
+{
+    match blocks.iter().rposition(|block| block.is_some()) {
+        Some(last) => last / 4 + 1,
+        None => 0,
+    }
 }
 
 /// The header of a tape.

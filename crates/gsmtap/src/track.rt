@@ -51,6 +51,7 @@ impl Air {
     pub fn place(&mut self, sent: &Sent) -> Result<(), AirFaultKind>
         requires { last_slot self.old.track < 2 ^ 60 }
         ensures placed { OnOk result (with_block (known_of self.old) sent.now ≡ Ok (known_of self.new)) }
+        ensures long { length self.new.blocks.items ≡ length self.old.blocks.items }
         ensures bound { OnOk result (last_slot self.new.track ≤ last_slot self.old.track + 3328) }
         ensures fault { IfErr result (λ kind. with_block (known_of self.old) sent.now ≡ Err kind) }
         ensures kinds { IfErr result IsBlockKind }
@@ -83,7 +84,7 @@ fn slot_in(frame: u32) -> u32
 }
 
 /// The 51-multiframe of a frame within its slot.
-fn place_in(frame: u32) -> u32
+pub fn place_in(frame: u32) -> u32
     ensures { result ≡ place_in frame }
 {
     frame / 51 % MULTIFRAMES % 8
@@ -142,8 +143,9 @@ fn ahead(here: u32, there: u32) -> u32
 /// Puts a block at a place of a tape, and returns whether it may stand there.
 #[tactic(auto, unfolding(crate::specs::Track::put))]
 fn put(blocks: &mut Vec<Option<[u8; 23]>>, place: u64, block: &[u8; 23]) -> bool
-    ensures { MatchBool result (put blocks.old.items place block.now ≡ Some blocks.new.items)
+    ensures put { MatchBool result (put blocks.old.items place block.now ≡ Some blocks.new.items)
         (put blocks.old.items place block.now ≡ None) }
+    ensures long { length blocks.new.items ≡ length blocks.old.items }
 {
     if place >= blocks.len() as u64 {
         return true;

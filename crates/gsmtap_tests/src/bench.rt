@@ -4,14 +4,18 @@
 //! times, and `new` begins anew. `want DIGITS ..` adds octets with which an output is compared.
 //!
 //! `capture SLOTS CHANNEL` makes the capture of the octets, of `all` slots or the `used` ones, for channel 51 or 52;
-//! `tape LAC CI N` their tape of N slots, and `tape LAC CI N ADDRESS ARFCN sdcch` that of the packets from the address
-//! of these eight digits, on this radio channel, and marked as SDCCH; `-` is any. The answer is `as wanted`, or how
-//! many octets come out, or the fault. An output that is as wanted becomes the octets, and nothing more is wanted.
-//! After `scarce` hardly any memory is left to either, and more and more until that is enough: the answer is then
-//! `refused; ` and what came in the end. `fronts N M LAC CI SLOTS` makes tapes of each front of N to M octets, and the
-//! answer is that of all of them.
+//! `tape LAC CI N` their tape of N slots (`-` for as many as there are), and `tape LAC CI N ADDRESS ARFCN sdcch` that
+//! of the packets from the address of these eight digits, on this radio channel, and marked as SDCCH; `-` is any. The
+//! answer is `as wanted`, or how many octets come out, or the fault. An output that is as wanted becomes the octets,
+//! and nothing more is wanted. After `scarce` hardly any memory is left to either, and more and more until that is
+//! enough: the answer is then `refused; ` and what came in the end. `fronts N M LAC CI SLOTS` makes tapes of each front
+//! of N to M octets, and the answer is that of all of them. `senders` names who sends in the octets: each one's
+//! address, radio channel, mark, and first and last packet, and a semicolon.
 
-use gsmtap::{Channel, ChannelType, Sender, Settings, Slots, Wanted, capture_of, tape_of_capture};
+use gsmtap::{
+    Channel, ChannelType, Heard, Sender, Settings, Slots, Wanted, capture_of, heard_in_capture,
+    tape_of_capture,
+};
 use std::alloc::Global;
 use std::process::Abort;
 use std::test::Fail;
@@ -88,7 +92,10 @@ fn wanted_in(words: &mut Words) -> Result<Wanted, Fail> {
         lac: words.number16()?,
         ci: words.number16()?,
     };
-    let slots = words.number16()?;
+    let slots = match words.word() {
+        "-" => None,
+        slots => Some(slots.parse::<u16>()?),
+    };
     Ok(Wanted {
         cell,
         slots,
@@ -150,6 +157,35 @@ fn tape(alloc: Global, bench: &mut Bench, words: &mut Words) -> Result<String, F
     }
 }
 
+/// Names the senders of octets, as `7f000001 0 cbch 1-2` each.
+fn senders(alloc: Global, bench: &mut Bench) -> Result<String, Fail> {
+    if bench.octets.len() > 1_000_000 {
+        return Err(Fail::new("too many octets for a test"));
+    }
+    bench.drought.begin(alloc);
+    let outcome = heard_in_capture(alloc, &bench.octets);
+    bench.drought.end();
+    let heard = match outcome {
+        Ok(heard) => heard,
+        Err(fault) => return Ok(fault.to_string(alloc)?),
+    };
+    let mut all = String::new(alloc);
+    for one in &heard {
+        let Heard {
+            station,
+            first,
+            last,
+        } = *one;
+        let mark = match station.channel {
+            ChannelType::Cbch => "cbch",
+            ChannelType::Sdcch => "sdcch",
+        };
+        let (address, arfcn) = (station.address, station.arfcn);
+        all.push_str(&format!(in alloc; "{address:08x} {arfcn} {mark} {first}-{last};")?)?;
+    }
+    Ok(all)
+}
+
 /// Makes the tape of each front of so many octets, both ends included, and returns what all of them give.
 fn fronts(alloc: Global, bench: &mut Bench, words: &mut Words) -> Result<String, Fail> {
     let (first, last) = (words.number16()?, words.number16()?);
@@ -180,6 +216,7 @@ fn done(alloc: Global, bench: &mut Bench, verb: &str, words: &mut Words) -> Resu
         "repeat" => repeat(alloc, &mut bench.octets, words.number16()?)?,
         "capture" => return capture(alloc, bench, words),
         "tape" => return tape(alloc, bench, words),
+        "senders" => return senders(alloc, bench),
         "fronts" => return fronts(alloc, bench, words),
         _ => return Ok(String::from_str(alloc, "no such action")?),
     }

@@ -1,11 +1,18 @@
--- What `warnc tape` makes of the octets that it reads: the tape of the capture file that they are. Own.
-use Rattle.std.specs.Prelude.{◌≡◌, ◌≢◌, ℕ, ◌<◌, ◌≤◌, List, length, Option}
+-- What `warnc tape` and `warnc cells` make of the octets that they read: of the capture file that they are, its tape,
+-- and a table of who sends in it. Own.
+use Rattle.std.specs.Prelude.{◌≡◌, ◌≢◌, ℕ, ◌/◌, ◌%◌, ◌<◌, ◌≤◌, List, ◌++◌, length, Option, codes}
+use Rattle.std.specs.Fmt.{decimal}
 use Rattle.std.specs.Io.KnownBytes.{Keeps}
+use Rattle.std.specs.List.{flat_map}
 use Rattle.device_ends.specs.Moves.{AppendsFront}
+use Rattle.gsmtap.specs.Heard.{AreHeard, IsHeardFault}
 use Rattle.gsmtap.specs.TapeOfCapture.{IsAirFault, IsTapeOfCapture}
 use Rattle.gsmtap.specs.declared.fault.AirFault.{AirFault}
 use Rattle.gsmtap.specs.declared.fault.AirFaultKind.{AirFaultKind}
 use Rattle.gsmtap.specs.declared.fault.AirFaultKind.TheVariants as kind
+use Rattle.gsmtap.specs.declared.heard.Heard.{Heard}
+use Rattle.gsmtap.specs.declared.tape.ChannelType.{ChannelType}
+use Rattle.gsmtap.specs.declared.tape.ChannelType.TheVariants.{Cbch, Sdcch}
 use Rattle.gsmtap.specs.declared.tape.Wanted.{Wanted}
 use Rattle.warnc_air.specs.declared.tape.TapeCommandFault.{TapeCommandFault}
 use Rattle.warnc_air.specs.declared.tape.TapeCommandFault.TheVariants as fault
@@ -14,16 +21,21 @@ use Rattle.warnc_air.specs.declared.tape.TapeCommandFault.TheVariants as fault
 abbrev pub max_capture : ℕ
 max_capture = 1073741824
 
--- why no tape is written, out of memory and devices aside; after a fault of the writer a front of the tape is out, and
--- after any other fault nothing is
+-- why nothing is written of a capture file that has such faults and such outputs, out of memory and devices aside;
+-- after a fault of the writer a front of the output is out, and after any other fault nothing is
+abbrev pub IsCaptureFaultBy : (IsAir : List ℕ → AirFault → Type 0) (IsOutput : List ℕ → List ℕ → Type 0) →
+    (input : List ℕ) (old new : Option (List ℕ)) → TapeCommandFault → Type 0
+IsCaptureFaultBy IsAir IsOutput input old new fault.ReadFailed = Keeps old new
+IsCaptureFaultBy IsAir IsOutput input old new fault.TooLong = (max_capture < length input) × Keeps old new
+IsCaptureFaultBy IsAir IsOutput input old new (fault.Air why) =
+    (length input ≤ max_capture) × IsAir input why × (why.kind ≢ kind.Refused) × Keeps old new
+IsCaptureFaultBy IsAir IsOutput input old new fault.Refused = Keeps old new
+IsCaptureFaultBy IsAir IsOutput input old new fault.WriteFailed =
+    (output : List ℕ) × IsOutput input output × AppendsFront old new output
+
+-- why no tape is written
 abbrev pub IsTapeCommandFault : Wanted → (input : List ℕ) (old new : Option (List ℕ)) → TapeCommandFault → Type 0
-IsTapeCommandFault wanted input old new fault.ReadFailed = Keeps old new
-IsTapeCommandFault wanted input old new fault.TooLong = (max_capture < length input) × Keeps old new
-IsTapeCommandFault wanted input old new (fault.Air why) =
-    (length input ≤ max_capture) × IsAirFault wanted input why × (why.kind ≢ kind.Refused) × Keeps old new
-IsTapeCommandFault wanted input old new fault.Refused = Keeps old new
-IsTapeCommandFault wanted input old new fault.WriteFailed =
-    (output : List ℕ) × IsTapeOfCapture wanted input output × AppendsFront old new output
+IsTapeCommandFault wanted = IsCaptureFaultBy (IsAirFault wanted) (IsTapeOfCapture wanted)
 
 -- the fault that a fault of a file is reported as
 abbrev pub fault_of_kind : AirFault → AirFaultKind → TapeCommandFault
@@ -36,3 +48,35 @@ fault_of_air why = fault_of_kind why why.kind
 -- the fault of a failed writer
 abbrev pub IsTapeWriteFault : TapeCommandFault → Type 0
 IsTapeWriteFault f = f ≡ fault.WriteFailed
+
+-- the table of senders: no field has a comma, a quotation mark or a line end, so none is quoted
+abbrev pub columns_text : List ℕ
+columns_text = codes "source,arfcn,channel,first,last\n"
+
+-- the word by which `tape` is asked for it
+abbrev pub channel_text : ChannelType → List ℕ
+channel_text Cbch = codes "cbch"
+channel_text Sdcch = codes "sdcch"
+
+-- the four octets of an address, the highest first, with dots between them
+abbrev pub address_text : (address : ℕ) → List ℕ
+address_text address =
+    decimal (address / 16777216) ++ (codes "." ++ (decimal (address / 65536 % 256) ++ (codes "."
+    ++ (decimal (address / 256 % 256) ++ (codes "." ++ decimal (address % 256))))))
+
+abbrev pub sender_text : Heard → List ℕ
+sender_text one =
+    address_text one.station.address ++ (codes "," ++ (decimal one.station.arfcn ++ (codes ","
+    ++ (channel_text one.station.channel ++ (codes "," ++ (decimal one.first ++ (codes ","
+    ++ (decimal one.last ++ codes "\n"))))))))
+
+abbrev pub senders_text : List Heard → List ℕ
+senders_text heard = columns_text ++ flat_map sender_text heard
+
+-- the output is the table of who sends in the capture file that the input is
+abbrev pub IsCellsOutput : (input output : List ℕ) → Type 0
+IsCellsOutput input output = (heard : List Heard) × AreHeard input heard × (output ≡ senders_text heard)
+
+-- why no table of senders is written
+abbrev pub IsCellsFault : (input : List ℕ) (old new : Option (List ℕ)) → TapeCommandFault → Type 0
+IsCellsFault = IsCaptureFaultBy IsHeardFault IsCellsOutput

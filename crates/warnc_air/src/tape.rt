@@ -16,7 +16,7 @@ use thiserror::Error;
 /// The most octets that are read: 1 GiB.
 pub const MAX_INPUT: usize = 0x4000_0000;
 
-/// Why `tape` writes no tape. If several of the first three apply, it is the first of them.
+/// Why `tape` writes no tape, and `cells` no table. If several of the first three apply, it is the first of them.
 #[derive(Clone, Copy, Debug, PartialEq, Eq, Error)]
 pub enum TapeCommandFault {
     /// The reader failed.
@@ -76,7 +76,7 @@ pub fn tape_stream<R: Read, W: Write>(
 }
 
 /// The fault that a fault of a file is.
-fn fault_of_air(fault: AirFault) -> TapeCommandFault
+pub(crate) fn fault_of_air(fault: AirFault) -> TapeCommandFault
     ensures { result ≡ fault_of_air fault }
 {
     match fault.kind {

@@ -1,6 +1,6 @@
 -- What `verify` writes and refuses, and what its statuses say of the ends.
 use Rattle.std.proofs.Common.{◌≡◌, ◌≢◌, ◌⊎◌, ◌↔◌, ℕ, ◌≤◌, List, [], Option, None, Some, IfSome}
-use Rattle.std.proofs.Common.{refl, zero, suc, ap}
+use Rattle.std.proofs.Common.{refl, ap}
 use Rattle.std.proofs.Common.{true, false, Ok, Err, Result, IsErrOf, IsTrue}
 use Rattle.std.proofs.Common.{sym, subst, arith, inl, inr, rules}
 use Rattle.std.specs.Io.KnownBytes.{Keeps}

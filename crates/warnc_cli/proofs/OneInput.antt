@@ -1,13 +1,13 @@
 -- What is said of a task of one input, which writes no table with status 1, is so of any task, whatever book there is
 -- beside it.
-use Rattle.std.proofs.Common.{◌≡◌, ◌≢◌, ◌⊎◌, ℕ, List, Option, IfSome, None, arith, false, true, inl, inr, refl, rules}
+use Rattle.std.proofs.Common.{◌≡◌, ◌⊎◌, ℕ, List, Option, IfSome, None, false, inl, inr, refl, rules}
 use Rattle.std.specs.Io.KnownBytes.{Keeps}
 use Rattle.device_ends.specs.Moves.{WritesOutput}
 use Rattle.device_ends.specs.Sink.{sink_failed, writer_of}
 use Rattle.device_ends.specs.Source.{reader_of, source_failed}
 use Rattle.device_ends.specs.declared.reading.Source.{Source}
 use Rattle.device_ends.specs.declared.writing.Sink.{Sink}
-use Rattle.warnc_cli.specs.Run.{AnyHasFailed, OneHasFailed}
+use Rattle.warnc_cli.specs.Run.{AnyHasFailed}
 use Rattle.warnc_cli.specs.RunSteps.{HasRun, IsDoneBy, IsRefusedBy, IsRunBetween, IsSilent, WroteFaultsBy}
 use Rattle.warnc_cli.specs.RunSteps.{WroteFrontBy, WroteSomeBy}
 use Rattle.warnc_cli.specs.Tasks.{KeepsUnseen, Means, Refuses, RefusesOne, WritesAll, WritesDifferences}
@@ -23,6 +23,7 @@ writes (task.Page language id serial) book input old new one wrote = wrote
 writes (task.Read wanted) book input old new one wrote = wrote
 writes task.Whole book input old new one wrote = wrote
 writes (task.Pcap settings) book input old new one wrote = wrote
+writes task.Cells book input old new one wrote = wrote
 writes (task.Tape wanted) book input old new one wrote = wrote
 writes task.Groups book input old new one wrote = wrote
 writes task.Check book input old new one wrote = absurd one
@@ -38,6 +39,7 @@ refuses (task.Page language id serial) book input one refused = refused
 refuses (task.Read wanted) book input one refused = refused
 refuses task.Whole book input one refused = refused
 refuses (task.Pcap settings) book input one refused = refused
+refuses task.Cells book input one refused = refused
 refuses (task.Tape wanted) book input one refused = refused
 refuses task.Groups book input one refused = refused
 refuses task.Check book input one refused = absurd one
@@ -53,6 +55,7 @@ groups (task.Page language id serial) book input old new wrote = wrote
 groups (task.Read wanted) book input old new wrote = wrote
 groups task.Whole book input old new wrote = wrote
 groups (task.Pcap settings) book input old new wrote = wrote
+groups task.Cells book input old new wrote = wrote
 groups (task.Tape wanted) book input old new wrote = wrote
 groups task.Groups book input old new wrote = wrote
 groups task.Check book input old new wrote = wrote
@@ -75,6 +78,7 @@ unseen (task.Page language id serial) book input old new one kept = (tt, kept)
 unseen (task.Read wanted) book input old new one kept = (tt, kept)
 unseen task.Whole book input old new one kept = (tt, kept)
 unseen (task.Pcap settings) book input old new one kept = (tt, kept)
+unseen task.Cells book input old new one kept = (tt, kept)
 unseen (task.Tape wanted) book input old new one kept = (tt, kept)
 unseen task.Groups book input old new one kept = (tt, kept)
 unseen task.Check book input old new one kept = absurd one

@@ -1,6 +1,6 @@
 -- What the engine of all commands over a book writes, and what its statuses say of the ends.
 use Rattle.std.proofs.Common.{◌≡◌, ◌≢◌, ◌⊎◌, ◌∙◌, ℕ, ◌+◌, ◌/◌, ◌<◌, ◌≤◌, List, [], ◌∷◌, length}
-use Rattle.std.proofs.Common.{Err, IfErr, Ok, Result, ap, arith, false, inl, inr, refl, rules, subst, sym, true}
+use Rattle.std.proofs.Common.{Err, Ok, Result, ap, arith, false, inl, inr, refl, rules, subst, sym, true}
 use Rattle.std.proofs.Common.{None, Option, Some}
 use Rattle.std.proofs.Math.Nat.{le-max_left}
 use Rattle.std.proofs.lemmas.List.{length-append}
@@ -26,7 +26,7 @@ use Rattle.warnc_run.specs.Engine.{MayBeWritten}
 use Rattle.warnc_run.specs.Faults.{IsWriteFault}
 use Rattle.warnc_run.specs.Made.{Makes}
 use Rattle.warnc_run.specs.Network.{joined_parts, octets_of_group, AreFirstParts, ArePartsFrom, HasNoPart}
-use Rattle.warnc_run.specs.Products.{octets_of, own_rows}
+use Rattle.warnc_run.specs.Products.{own_rows}
 use Rattle.warnc_run.specs.declared.fault.RunFault.{RunFault}
 use Rattle.warnc_run.specs.declared.fault.RunFault.TheVariants as run
 use Rattle.warnc_run.specs.declared.run.Books.{Books}

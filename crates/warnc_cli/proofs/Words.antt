@@ -1,10 +1,9 @@
 -- What the words say of the task that they ask for.
-use Rattle.std.proofs.Common.{◌≡◌, ◌≢◌, ◌⊎◌, ℕ, List, Some, codes, false, true, inl, inr, refl, rules, subst, sym, ◌∙◌}
+use Rattle.std.proofs.Common.{◌≡◌, ◌≢◌, ℕ, List, Some, codes, false, inl, inr, rules, subst}
 use Rattle.std.specs.Prelude.{slice_get}
 use Rattle.alert_book.specs.declared.network.Origin.TheVariants as origin
 use Rattle.warnc_run.specs.declared.run.Books.{Books}
 use Rattle.warnc_run.specs.declared.run.Books.TheVariants as books
-use Rattle.warnc_run.specs.declared.product.Product.{Product}
 use Rattle.warnc_run.specs.declared.product.Product.TheVariants as product
 use Rattle.warnc_cli.specs.CommandLine.{is_given, GivesBooks, GivesProduct}
 use Rattle.warnc_cli.specs.Run.{MayWrite}
@@ -22,6 +21,7 @@ of_one_input words (task.Page language id serial) asked other = tt
 of_one_input words (task.Read wanted) asked other = tt
 of_one_input words task.Whole asked other = tt
 of_one_input words (task.Pcap settings) asked other = tt
+of_one_input words task.Cells asked other = tt
 of_one_input words (task.Tape wanted) asked other = tt
 of_one_input words task.Groups asked other = tt
 of_one_input words task.Check asked other = tt
@@ -55,6 +55,8 @@ may_write words task.Whole status asked (inl done) = inl done
 may_write words task.Whole status asked (inr device) = inr (inl device)
 may_write words (task.Pcap settings) status asked (inl done) = inl done
 may_write words (task.Pcap settings) status asked (inr device) = inr (inl device)
+may_write words task.Cells status asked (inl done) = inl done
+may_write words task.Cells status asked (inr device) = inr (inl device)
 may_write words (task.Tape wanted) status asked (inl done) = inl done
 may_write words (task.Tape wanted) status asked (inr device) = inr (inl device)
 may_write words task.Groups status asked (inl done) = inl done
@@ -97,6 +99,7 @@ writes_some words (task.Page language id serial) asked compile live whole report
 writes_some words (task.Read wanted) asked compile live whole report = tt
 writes_some words task.Whole asked compile live whole report = absurd (whole asked)
 writes_some words (task.Pcap settings) asked compile live whole report = tt
+writes_some words task.Cells asked compile live whole report = tt
 writes_some words (task.Tape wanted) asked compile live whole report = tt
 writes_some words task.Groups asked compile live whole report = tt
 writes_some words task.Check asked compile live whole report = tt

@@ -88,6 +88,10 @@ pub record AsksForTexts (words : List (List ℕ)) (pages : Option ℕ) : Type 0 
   pub command : slice_get words 1 ≡ Some (codes "texts")
   pub pages_given : GivesPages words pages
 
+-- the words ask for `cells`
+abbrev pub AsksForCells : (words : List (List ℕ)) → Type 0
+AsksForCells words = slice_get words 1 ≡ Some (codes "cells")
+
 -- the words ask for `groups`
 abbrev pub AsksForGroups : (words : List (List ℕ)) → Type 0
 AsksForGroups words = slice_get words 1 ≡ Some (codes "groups")
@@ -201,11 +205,16 @@ abbrev pub GivesFirstSlot : (words : List (List ℕ)) → ℕ → Type 0
 GivesFirstSlot words slot =
     GivesNumber words (codes "--first-slot") slot ⊎ ((is_given words (codes "--first-slot") ≡ false) × (slot ≡ 0))
 
+-- the words give the number of a tape's slots, or none
+abbrev pub GivesTapeSlots : (words : List (List ℕ)) → Option ℕ → Type 0
+GivesTapeSlots words None = is_given words (codes "--slots") ≡ false
+GivesTapeSlots words (Some slots) = GivesSlots words slots
+
 -- the words ask for `tape`
 pub record AsksForTape (words : List (List ℕ)) (wanted : Wanted) : Type 0 where
   pub command : slice_get words 1 ≡ Some (codes "tape")
   pub cell_given : GivesCell words wanted.cell
-  pub slots_given : GivesSlots words wanted.slots
+  pub slots_given : GivesTapeSlots words wanted.slots
   pub first_given : GivesFirstSlot words wanted.first_slot
   pub from_given : GivesFrom words wanted.from.address
   pub arfcn_given : GivesArfcn words wanted.from.arfcn

@@ -2,7 +2,6 @@
 use Rattle.std.specs.Prelude.{◌≡◌, ⊤, ℕ, ◌<◌, ◌≤◌, ◌⊎◌, Bool, true, List, length, Option, IfSome}
 use Rattle.std.specs.Io.KnownBytes.{Appends, Keeps}
 use Rattle.alert_book.specs.declared.fault.BookFault.{BookFault}
-use Rattle.alert_book.specs.declared.fault.BookFaultKind.{BookFaultKind}
 use Rattle.alert_book.specs.declared.network.Origin.{Origin}
 use Rattle.alert_book.specs.declared.network.Origin.TheVariants as origin
 use Rattle.alert_book.specs.Book.{Contents, IsRowFault, IsWrong, max_book}
@@ -13,12 +12,13 @@ use Rattle.book_remarks.specs.Remarked.{HasRemarks, IsRemarkedFor, IsStopped}
 use Rattle.book_texts.specs.TextsOutput.{IsTextsOutput}
 use Rattle.device_ends.specs.Moves.{WritesOutput}
 use Rattle.gsmtap.specs.Capture.{IsCapture}
+use Rattle.gsmtap.specs.Heard.{IsHeardFault}
 use Rattle.gsmtap.specs.TapeOfCapture.{IsAirFault, IsTapeOfCapture}
 use Rattle.gsmtap.specs.declared.fault.AirFault.{AirFault}
 use Rattle.gsmtap.specs.declared.tape.Wanted.{Wanted}
 use Rattle.handset.specs.Tape.{IsShort, IsLong}
 use Rattle.short_pages.specs.declared.pages.Pages.{Pages}
-use Rattle.warnc_air.specs.TapeOutput.{max_capture}
+use Rattle.warnc_air.specs.TapeOutput.{IsCellsOutput, max_capture}
 use Rattle.warnc_inspect.specs.PageOutput.{IsPageFault, IsPageOutput}
 use Rattle.warnc_inspect.specs.ReadOutput.{IsReadOutput}
 use Rattle.warnc_inspect.specs.WholeOutput.{IsWholeOutput}
@@ -32,6 +32,7 @@ use Rattle.warnc_run.specs.Faults.{StopsRun}
 use Rattle.warnc_run.specs.Groups.{IsGroupCount}
 use Rattle.warnc_run.specs.Network.{AreFirstParts}
 use Rattle.warnc_verify.specs.Verified.{Differs, HasDifferences, HasRun, IsVerified}
+use Rattle.warnc_cli.specs.CommandLine.{AsksForCells}
 use Rattle.warnc_cli.specs.CommandLine.{AsksForGroups, AsksForPage, AsksForPcap, AsksForRead, AsksForRun, AsksForTape}
 use Rattle.warnc_cli.specs.CommandLine.{AsksForCheck, AsksForRemarks, AsksForTexts, AsksForVerify, AsksForWhole}
 use Rattle.warnc_cli.specs.Status.{status_of_book_fault, status_of_page_fault}
@@ -44,6 +45,7 @@ IsTaskOf words (task.Page language id serial) = AsksForPage words language.now i
 IsTaskOf words (task.Read wanted) = AsksForRead words wanted
 IsTaskOf words task.Whole = AsksForWhole words
 IsTaskOf words (task.Pcap settings) = AsksForPcap words settings
+IsTaskOf words task.Cells = AsksForCells words
 IsTaskOf words (task.Tape wanted) = AsksForTape words wanted
 IsTaskOf words task.Groups = AsksForGroups words
 IsTaskOf words task.Check = AsksForCheck words
@@ -61,6 +63,7 @@ Means (task.Page language id serial) = IsPageOutput language.now id serial
 Means (task.Read wanted) = IsReadOutput wanted
 Means task.Whole = IsWholeOutput
 Means (task.Pcap settings) = IsCapture settings
+Means task.Cells = IsCellsOutput
 Means (task.Tape wanted) = IsTapeOfCapture wanted
 Means task.Groups = IsGroupCount
 Means task.Check = IsClean
@@ -114,6 +117,10 @@ IsNoTapes input = IsShort input ⊎ IsLong input
 -- the input is refused: it is too long for a capture, or no capture file that has a tape
 abbrev pub IsNoAir : Wanted → (input : List ℕ) → Type 0
 IsNoAir wanted input = (max_capture < length input) ⊎ ((why : AirFault) × IsAirFault wanted input why)
+
+-- the input is refused: it is too long for a capture, or no capture file
+abbrev pub IsNoHeard : (input : List ℕ) → Type 0
+IsNoHeard input = (max_capture < length input) ⊎ ((why : AirFault) × IsHeardFault input why)
 
 -- the input is refused: it has more octets than a book may have, or a row or a text of it has a fault of status 1
 abbrev pub IsNoBook : (input : List ℕ) → Type 0
@@ -177,6 +184,7 @@ RefusesOne (task.Page language id serial) = IsRefused language.now
 RefusesOne (task.Read wanted) = IsNoTapes
 RefusesOne task.Whole = IsNoTapes
 RefusesOne (task.Pcap settings) = IsNoTapes
+RefusesOne task.Cells = IsNoHeard
 RefusesOne (task.Tape wanted) = IsNoAir wanted
 RefusesOne task.Groups = IsNoNetwork 0
 RefusesOne task.Check = IsNotClean

@@ -7,7 +7,7 @@ ghost use Rattle.warnc_cli.specs.CommandLine.{GivesChannel, GivesChannelType, Gi
 ghost use Rattle.warnc_cli.specs.CommandLine.{GivesArfcn, GivesCell, GivesFirstSlot, GivesFrom, GivesWanted};
 ghost use Rattle.warnc_cli.specs.CommandLine.{IsAddress, IsCell};
 ghost use Rattle.warnc_cli.specs.CommandLine.{columns_given, slots_given, GivesBooks, GivesOrigin, GivesPages};
-ghost use Rattle.warnc_cli.specs.CommandLine.{pages_given, GivesProduct, IsNumber};
+ghost use Rattle.warnc_cli.specs.CommandLine.{pages_given, GivesProduct, GivesTapeSlots, IsNumber};
 ghost use Rattle.warnc_cli.specs.Tasks.{IsTaskOf};
 
 use alert_book::Origin;
@@ -24,7 +24,7 @@ use std::convert::AsStr;
 use warnc_run::{Books, Product, Run, Sessions, Workers};
 
 /// The version of the program, and on a line of its own what `rt version` says of the toolchain that proved it.
-const VERSION: &str = "1.7.0\nrattle-kit-13f logic dac8208d650f15bf";
+const VERSION: &str = "1.8.0\nrattle-kit-13f logic dac8208d650f15bf";
 
 /// The words for the channel that packets name.
 const CHANNEL_TYPES: &[&str] = &["cbch", "sdcch"];
@@ -47,6 +47,8 @@ pub enum Task<'a> {
     Whole,
     /// `pcap`.
     Pcap(Settings),
+    /// `cells`.
+    Cells,
     /// `tape`.
     Tape(Wanted),
     /// `groups`.
@@ -115,9 +117,10 @@ fn task_in<'a, S: AsStr>(words: &'a [S]) -> Option<Task<'a>>
             channel: channel_in(words)?,
             slots: captured_slots(words),
         })),
+        "cells" => Some(Task::Cells),
         "tape" => Some(Task::Tape(Wanted {
             cell: cell_in(words)?,
-            slots: slots_in(words)?,
+            slots: tape_slots_in(words)?,
             first_slot: first_slot_in(words)?,
             from: Sender {
                 address: from_in(words)?,
@@ -304,6 +307,18 @@ fn arfcn_in<S: AsStr>(words: &[S]) -> Option<Option<u16>>
     }
     let arfcn = number_of(words, "--arfcn")?;
     Some(Some(arfcn))
+}
+
+/// The number of a tape's slots, if the words give one.
+fn tape_slots_in<S: AsStr>(words: &[S]) -> Option<Option<u16>>
+    ensures { IfSome result (GivesTapeSlots (map S.text words.now)) }
+{
+    if is_given(words, "--slots") {
+        let slots = slots_in(words)?;
+        Some(Some(slots))
+    } else {
+        Some(None)
+    }
 }
 
 /// The slot in which the first block stands, by the words: 0 if they give none.
@@ -539,6 +554,7 @@ fn warnc<'a>(alloc: Global) -> Result<Command<'a>, AllocError> {
         .subcommand(page(alloc)?)?
         .subcommand(live(alloc)?)?
         .subcommand(pcap(alloc)?)?
+        .subcommand(cells(alloc))?
         .subcommand(tape(alloc)?)?
         .subcommand(whole(alloc))?
         .subcommand(groups(alloc))
@@ -669,13 +685,22 @@ fn pcap<'a>(alloc: Global) -> Result<Command<'a>, AllocError> {
         .arg(channel(alloc))
 }
 
+/// The command line of `cells`.
+fn cells<'a>(alloc: Global) -> Command<'a> {
+    Command::new(alloc, "cells")
+        .about(
+            "Reads a capture file of GSMTAP packets, and writes a table of who\nsends cell broadcasts in it, as CSV",
+        )
+        .after_help("Example: warnc cells < air.pcap")
+}
+
 /// The command line of `tape`.
 fn tape<'a>(alloc: Global) -> Result<Command<'a>, AllocError> {
     Command::new(alloc, "tape")
         .about(
             "Reads a capture file of GSMTAP packets, also of another program's\nmaking, and writes a tape of it",
         )
-        .after_help("Example: warnc tape --cell 1-1 --slots 4096 < air.pcap > tape")
+        .after_help("Example: warnc tape --cell 1-1 < air.pcap > tape")
         .arg(cell(alloc))?
         .arg(tape_slots(alloc))?
         .arg(first_slot(alloc))?
@@ -688,7 +713,7 @@ fn tape<'a>(alloc: Global) -> Result<Command<'a>, AllocError> {
 fn whole<'a>(alloc: Global) -> Command<'a> {
     Command::new(alloc, "whole")
         .about(
-            "Reads tapes, and writes them with four blocks of each page, also of\none that was sent in fewer, so that verify can judge it",
+            "Reads tapes, and writes them with four blocks of each page, also of\none that was sent in fewer, for programs that read no shorter ones",
         )
         .after_help("Example: warnc whole < air > tapes")
 }
@@ -717,7 +742,7 @@ fn group<'a>(alloc: Global) -> Arg<'a> {
         alloc,
         "group",
         "GROUP",
-        "Takes the book for a network book, and of it the\ngroup of this number, from 0",
+        "Takes the book for a network book, and of it the\ngroup of this number, 0 to 65535",
     )
     .value_parser(value_parser!(u16))
 }
@@ -886,11 +911,11 @@ fn cell<'a>(alloc: Global) -> Arg<'a> {
 
 /// The option of the number of a tape's slots.
 fn tape_slots<'a>(alloc: Global) -> Arg<'a> {
-    option(
+    optional(
         alloc,
         "slots",
         "SLOTS",
-        "How many slots the tape has, 1 to 65535, each 1.883 s",
+        "How many slots the tape has, 1 to 65535, of 1.883 s;\nup to the last block if it isn't given",
     )
     .value_parser(value_parser!(u16).range(1..=65535))
 }
@@ -933,7 +958,7 @@ fn channel_type<'a>(alloc: Global) -> Arg<'a> {
         alloc,
         "channel",
         "CHANNEL",
-        "The channel that packets name, by its own type or, as\nreceivers do that know none, SDCCH: cbch or sdcch",
+        "The channel that packets name, by its own type or,\nas receivers do that know none, SDCCH: cbch or\nsdcch [cbch]",
     )
     .value_parser(ValueParser::Names(CHANNEL_TYPES))
     .hide_possible_values(true)

@@ -32,6 +32,7 @@ use std::convert::AsStr;
 use std::io::{Read, Write};
 use std::sync::Wait;
 use std::thread::Threads;
+use warnc_air::cells::cells_stream;
 use warnc_air::pcap::pcap_stream;
 use warnc_air::tape::tape_stream;
 use warnc_inspect::page::page_stream;
@@ -157,6 +158,7 @@ fn run_task<T: AllocGlobal + Threads + Wait + Sync, B: Read, R: Read, W: Write, 
         Task::Read(wanted) => run_read(alloc, wanted, source, sink, faults),
         Task::Whole => run_whole(alloc, source, sink, faults),
         Task::Pcap(settings) => run_pcap(alloc, settings, source, sink, faults),
+        Task::Cells => run_cells(alloc, source, sink, faults),
         Task::Tape(wanted) => run_tape(alloc, wanted, source, sink, faults),
         Task::Groups => run_groups(rt, source, sink, faults),
         Task::Check => run_check(alloc, source, sink, faults),
@@ -253,6 +255,25 @@ fn run_pcap<R: Read, W: Write, F: Write>(
     ensures ends { IsRunBetween (Task.Pcap settings) result W.contents source.new sink.old sink.new }
 {
     match pcap_stream(alloc, source, sink, settings) {
+        Ok(()) => DONE,
+        Err(fault) => failed(&fault, faults),
+    }
+}
+
+/// Runs `cells`, and returns the status.
+fn run_cells<R: Read, W: Write, F: Write>(
+    alloc: Global,
+    source: &mut Source<R>,
+    sink: &mut Sink<W>,
+    faults: &mut F,
+) -> u8
+    ensures done { IsDoneBy Task.Cells result R.remaining W.contents source.old sink.old sink.new }
+    ensures wrote { WroteSomeBy Task.Cells result W.contents sink.old sink.new }
+    ensures refused { IsRefusedBy Task.Cells result R.remaining source.old }
+    ensures front { WroteFrontBy Task.Cells result R.remaining W.contents source.old sink.old sink.new }
+    ensures ends { IsRunBetween Task.Cells result W.contents source.new sink.old sink.new }
+{
+    match cells_stream(alloc, source, sink) {
         Ok(()) => DONE,
         Err(fault) => failed(&fault, faults),
     }

@@ -129,35 +129,56 @@ args tape --from=0.1.0.1 --slots=2 --cell=1-1
 run -> 0
 all -> worked
 
-# from another address there is nothing; the last slots of a tape are idle; and another cell
+# another cell, and no number of slots: the tape ends with the last block
+args cells
+worked source,arfcn,channel,first,last
+worked 0.1.0.1,0,cbch,1,4
+run -> 0
+all -> worked
+reads 0 356 -> 3 warnc: read failed
+reader 1 357
+run -> 0
+all -> worked
+writer 10 4
+run -> 3
+err -> warnc: write failed
+all -> 40 of 51
+fronts 0 23 -> 1 warnc: not a capture file
+fronts 25 106 -> 1 warnc: packet 1: capture is short
+args cells --slots 2
+usage -> 2 error:
+args cells --help
+run -> 0
+says who -> yes
+args tape --cell 65535-65534
+worked-hex ffff fffe 00000001
+worked-hex 200010111201118046a3d168341a8d46a3d168341a8d46
+worked-hex 21a3d168341a8d46a3d168341a8d46a3d168341a8d46a3
+worked-hex 22d168341a8d46a3d168341a8d46a3d168341a8d46a3d1
+worked-hex 3368341a8d46a3d168341a8d46a3d168341a8d46a3d100
+run -> 0
+all -> worked
+args tape --first-slot 1 --cell 1-1
+worked-hex 0001 0001 00000002
+worked-hex 2f2b2b2b2b2b2b2b2b2b2b2b2b2b2b2b2b2b2b2b2b2b2b
+worked-hex 2f2b2b2b2b2b2b2b2b2b2b2b2b2b2b2b2b2b2b2b2b2b2b
+worked-hex 2f2b2b2b2b2b2b2b2b2b2b2b2b2b2b2b2b2b2b2b2b2b2b
+worked-hex 2f2b2b2b2b2b2b2b2b2b2b2b2b2b2b2b2b2b2b2b2b2b2b
+worked-hex 200010111201118046a3d168341a8d46a3d168341a8d46
+worked-hex 21a3d168341a8d46a3d168341a8d46a3d168341a8d46a3
+worked-hex 22d168341a8d46a3d168341a8d46a3d168341a8d46a3d1
+worked-hex 3368341a8d46a3d168341a8d46a3d168341a8d46a3d100
+run -> 0
+all -> worked
+
+# there is no block from another address, on another radio channel, and marked as SDCCH; and a block that is marked so,
+# in pcapng
 args tape --from 0.1.0.2 --slots 1 --cell 65535-65534
-worked-hex ffff fffe 00000001
-worked-hex 2f2b2b2b2b2b2b2b2b2b2b2b2b2b2b2b2b2b2b2b2b2b2b
-worked-hex 2f2b2b2b2b2b2b2b2b2b2b2b2b2b2b2b2b2b2b2b2b2b2b
-worked-hex 2f2b2b2b2b2b2b2b2b2b2b2b2b2b2b2b2b2b2b2b2b2b2b
-worked-hex 2f2b2b2b2b2b2b2b2b2b2b2b2b2b2b2b2b2b2b2b2b2b2b
-run -> 0
-all -> worked
-
-# on another radio channel there is nothing either
+fails -> 1 warnc: no block of the wanted sender: warnc cells lists who sends
 args tape --arfcn 1 --slots 1 --cell 65535-65534
-worked-hex ffff fffe 00000001
-worked-hex 2f2b2b2b2b2b2b2b2b2b2b2b2b2b2b2b2b2b2b2b2b2b2b
-worked-hex 2f2b2b2b2b2b2b2b2b2b2b2b2b2b2b2b2b2b2b2b2b2b2b
-worked-hex 2f2b2b2b2b2b2b2b2b2b2b2b2b2b2b2b2b2b2b2b2b2b2b
-worked-hex 2f2b2b2b2b2b2b2b2b2b2b2b2b2b2b2b2b2b2b2b2b2b2b
-run -> 0
-all -> worked
-
-# marked as SDCCH there is nothing; and a block that is marked so, in pcapng
+fails -> 1 warnc: no block of the wanted sender: warnc cells lists who sends
 args tape --channel sdcch --slots 1 --cell 65535-65534
-worked-hex ffff fffe 00000001
-worked-hex 2f2b2b2b2b2b2b2b2b2b2b2b2b2b2b2b2b2b2b2b2b2b2b
-worked-hex 2f2b2b2b2b2b2b2b2b2b2b2b2b2b2b2b2b2b2b2b2b2b2b
-worked-hex 2f2b2b2b2b2b2b2b2b2b2b2b2b2b2b2b2b2b2b2b2b2b2b
-worked-hex 2f2b2b2b2b2b2b2b2b2b2b2b2b2b2b2b2b2b2b2b2b2b2b
-run -> 0
-all -> worked
+fails -> 1 warnc: no block of the wanted sender: warnc cells lists who sends
 args tape --cell 1-1 --slots 1 --channel=sdcch
 in-hex 0a0d0d0a1c000000 4d3c2b1a01000000ffffffffffffffff 1c000000
 in-hex 0100000014000000 6500000000000000 14000000
@@ -199,13 +220,7 @@ worked-hex 2f2b2b2b2b2b2b2b2b2b2b2b2b2b2b2b2b2b2b2b2b2b2b
 run -> 0
 all -> worked
 args tape --cell 1-1 --slots 1 --channel cbch
-worked-hex 0001 0001 00000001
-worked-hex 2f2b2b2b2b2b2b2b2b2b2b2b2b2b2b2b2b2b2b2b2b2b2b
-worked-hex 2f2b2b2b2b2b2b2b2b2b2b2b2b2b2b2b2b2b2b2b2b2b2b
-worked-hex 2f2b2b2b2b2b2b2b2b2b2b2b2b2b2b2b2b2b2b2b2b2b2b
-worked-hex 2f2b2b2b2b2b2b2b2b2b2b2b2b2b2b2b2b2b2b2b2b2b2b
-run -> 0
-all -> worked
+fails -> 1 warnc: no block of the wanted sender: warnc cells lists who sends
 
 # the first block again with another octet, two slots back, another link type, and no capture at all
 args tape --cell 1-1 --slots 2
@@ -214,13 +229,13 @@ in-hex 00000000000000004300000043000000 4500004300000000401170a9000100010a000000
 in-hex 12791279002f0000 0204010000000000000000200f000200 200010111201118046a3d168341a8d46a3d168341a8d46
 in-hex 00000000000000004300000043000000 4500004300000000401170a9000100010a000000
 in-hex 12791279002f0000 0204010000000000000000200f000200 200010121201118046a3d168341a8d46a3d168341a8d46
-fails -> 1 warnc: packet 2: block differs
+fails -> 1 warnc: packet 2: block differs: if several send, choose one by --from or --arfcn
 in-hex d4c3b2a1020004000000000000000000ffff0000e4000000
 in-hex 00000000000000004300000043000000 4500004300000000401170a9000100010a000000
 in-hex 12791279002f0000 0204010000000000000009980f000200 200010111201118046a3d168341a8d46a3d168341a8d46
 in-hex 00000000000000004300000043000000 4500004300000000401170a9000100010a000000
 in-hex 12791279002f0000 0204010000000000000000200f000200 200010111201118046a3d168341a8d46a3d168341a8d46
-fails -> 1 warnc: packet 2: steps back
+fails -> 1 warnc: packet 2: steps back: if several send, choose one by --from or --arfcn
 in-hex d4c3b2a1020004000000000000000000ffff000093000000
 fails -> 1 warnc: unknown link type 147: known are 0, 1, 101, 108, 113, 228 and 276
 in cell,1,1
@@ -228,7 +243,7 @@ fails -> 1 warnc: not a capture file
 
 args tape --slots 2
 usage -> 2 error:
-args tape --cell 1-1
+args tape
 usage -> 2 error:
 args tape --cell 1-1 --slots 0
 usage -> 2 error:
@@ -260,5 +275,5 @@ fn tapes_give_captures(rt: HostRuntime) -> Result<(), Fail> {
 
 #[test]
 fn captures_give_tapes(rt: HostRuntime) -> Result<(), Fail> {
-    expect_rows(&rt, TAPE, 148)
+    expect_rows(&rt, TAPE, 164)
 }

@@ -1,0 +1,139 @@
+//! Who sends in a capture file.
+
+ghost use Rattle.std.specs.Prelude.{◌≡◌, ◌+◌, ◌-◌, ◌<◌, ◌^◌, ℕ, length, IfErr, IfOk, Ok, OnOk};
+ghost use Rattle.gsmtap.specs.Heard.{AreHeard, IsHeardFault, Hearing, for_hearing, hear, is_station, place_of};
+ghost use Rattle.gsmtap.specs.Heard.{with_station};
+ghost use Rattle.gsmtap.specs.HeardSteps.{IsHearingFault, hearing_of};
+ghost use Rattle.gsmtap.specs.PieceSteps.{section_of};
+ghost use Rattle.gsmtap.specs.Taken.{AreKnown};
+ghost use Rattle.gsmtap.specs.TapeSteps.{IsPieceFault, after_found, count_of};
+
+use crate::fault::{AirFault, AirFaultKind};
+use crate::file::link_numbered;
+use crate::pieces::{Captured, Found, Reader};
+use crate::tap::{Station, station_in};
+use crate::tape::{fault_at, opened};
+use std::alloc::{AllocError, Global};
+
+/// A sender of blocks of a cell broadcast channel, and where a capture file has them.
+#[derive(Clone, Copy, Debug, PartialEq, Eq)]
+pub struct Heard {
+    /// The sender.
+    pub station: Station,
+    /// The first packet with a block of it, from 1.
+    pub first: u64,
+    /// The last one.
+    pub last: u64,
+}
+
+/// Who sends blocks of a cell broadcast channel in a capture file, in the order of their first ones. Blocks are marked
+/// as such, or as those of the SDCCH in whose place the channel stands; those of the extended channel are passed over.
+///
+/// # Errors
+///
+/// Returns the fault of the first packet or block that has one, or of the file's begin, which is packet 0, and out of
+/// memory.
+pub fn heard_in_capture(alloc: Global, input: &[u8]) -> Result<Vec<Heard>, AirFault>
+    requires { length input.now < 2 ^ 48 }
+    ensures heard { IfOk result (λ heard. AreHeard input.now heard.items) }
+    ensures fault { IfErr result (IsHeardFault input.now) }
+{
+    let (reader, octets) = match opened(alloc, input) {
+        Ok(opened) => opened,
+        Err(kind) => return Err(fault_at(0, kind)),
+    };
+    hear_pieces(alloc, reader, octets)
+}
+
+/// Who sends in all pieces of a file, from its first one on.
+fn hear_pieces(alloc: Global, mut reader: Reader, octets: &[u8]) -> Result<Vec<Heard>, AirFault>
+    requires { length octets.now < 2 ^ 48 }
+    ensures heard { IfOk result (λ heard. (packets : ℕ) × AreKnown for_hearing (section_of reader) octets.now
+        (hearing_of packets heard.items)) }
+    ensures fault { IfErr result (IsPieceFault for_hearing (section_of reader) octets.now) }
+{
+    let mut heard = Vec::new(alloc);
+    let mut left = octets;
+    let mut number = 0;
+    'pieces: while !left.is_empty() {
+        let (piece, rest) = match reader.split(left) {
+            Ok(split) => split,
+            Err(kind) => return Err(fault_at(number + 1, kind)),
+        };
+        let found = reader.enter(piece)?;
+        match hear_found(&mut heard, number, &found) {
+            Ok(packets) => number += packets,
+            Err(fault) => return Err(fault),
+        }
+        left = rest;
+    }
+    Ok(heard)
+}
+
+/// Counts the block that a packet carries, if one was found and it does, and returns how many packets there were.
+fn hear_found(heard: &mut Vec<Heard>, number: u64, found: &Found) -> Result<u64, AirFault>
+    requires { number < 2 ^ 60 }
+    ensures heard { OnOk result (after_found hear (hearing_of number heard.old.items) found.now
+        ≡ Ok (hearing_of (number + count_of found.now) heard.new.items)) }
+    ensures many { IfOk result (λ packets. packets ≡ count_of found.now) }
+    ensures fault { IfErr result (IsHearingFault number heard.old.items found.now) }
+{
+    match found {
+        Found::Packet(packet) => match hear_packet(heard, number + 1, packet) {
+            Ok(()) => Ok(1),
+            Err(fault) => Err(fault),
+        },
+        Found::Nothing => Ok(0),
+        Found::Wrong => Err(fault_at(number + 1, AirFaultKind::WrongBlock)),
+    }
+}
+
+/// Counts the block that the packet of this number carries, if it does.
+#[tactic(auto, unfolding(crate::specs::Heard::hear))]
+fn hear_packet(heard: &mut Vec<Heard>, number: u64, packet: &Captured) -> Result<(), AirFault>
+    requires { 0 < number }
+    ensures heard { OnOk result (hear (hearing_of (number - 1) heard.old.items)
+        (record { link = packet.now.link; octets = packet.now.octets.now })
+        ≡ Ok (hearing_of number heard.new.items)) }
+    ensures fault { IfErr result (IsHearingFault (number - 1) heard.old.items
+        (Found.Packet packet.now)) }
+{
+    let Some(link) = link_numbered(packet.link) else {
+        return Err(fault_at(number, AirFaultKind::OtherLink(packet.link)));
+    };
+    if let Some(station) = station_in(link, packet.octets) {
+        count(heard, number, station)?;
+    }
+    Ok(())
+}
+
+/// Whether two senders are one.
+fn is_station(a: Station, b: Station) -> bool
+    ensures { result ≡ is_station a b }
+{
+    a == b
+}
+
+/// The place of a sender, if it is there.
+fn place_of(heard: &[Heard], station: Station) -> Option<usize>
+    ensures { result ≡ place_of station heard.now }
+{
+    heard
+        .iter()
+        .position(|one| is_station(one.station, station))
+}
+
+/// Counts a block of a sender in the packet of this number.
+fn count(heard: &mut Vec<Heard>, number: u64, station: Station) -> Result<(), AllocError>
+    ensures { OnOk result (heard.new.items ≡ with_station number heard.old.items station) }
+{
+    match place_of(heard, station) {
+        Some(place) => heard[place].last = number,
+        None => heard.push(Heard {
+            station,
+            first: number,
+            last: number,
+        })?,
+    }
+    Ok(())
+}
