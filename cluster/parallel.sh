@@ -7,6 +7,7 @@
 # to see the same files under the same names. The job log is OUTPUT.parts/log; WARNC names the program, if it isn't this
 # one.
 
+needed=parallel
 . "$(dirname "$(readlink -f "$0")")/start.sh"
 seq 0 $((groups - 1)) | parallel --quote --keep-order --joblog "$folder/log" --resume-failed --env WARNC "$@" \
     "$here/group.sh" "$command" "$slots" "$network" "$folder" {} {} || true

@@ -7,6 +7,7 @@
 # times at most. All nodes have to see the same files under the same names. WARNC names the program, if it isn't this
 # one.
 
+needed=sbatch
 . "$(dirname "$(readlink -f "$0")")/start.sh"
 each=${GROUPS_A_TASK:-8}
 

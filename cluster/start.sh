@@ -1,7 +1,8 @@
 # Read by parallel.sh and slurm.sh: what they are given, the folder of the groups' parts, and how these are joined.
 #
 # OUTPUT.parts keeps the part of each group, written whole or not at all. After a failure the same line goes on where it
-# stopped; if it asks for something else, it is refused until the folder is removed.
+# stopped; if it asks for something else, it is refused until the folder is removed. `needed` names the program that
+# shares the groups out.
 set -eu
 here=$(dirname "$(readlink -f "$0")")
 document() {
@@ -17,6 +18,10 @@ case ${1:-} in
     exit 0 ;;
 esac
 [ $# -ge 4 ] || usage
+command -v "$needed" > /dev/null || {
+    echo "$(basename "$0"): $needed isn't installed" >&2
+    exit 2
+}
 command=$1 slots=$2 network=$(readlink -f "$3") output=$4
 shift 4
 case $command in report | compile) ;; *) usage ;; esac

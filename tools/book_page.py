@@ -17,7 +17,7 @@ import release
 TOP = os.path.dirname(os.path.dirname(os.path.realpath(__file__)))
 PAGE = "docs/warnc-book.5"
 HEAD = """.\\" tools/book_page.py writes this page by what docs/planning.md and docs/formats.md say.
-.TH WARNC-BOOK 5 "" "warnc {version}" "File Formats"
+.TH WARNC-BOOK 5 {day} "warnc {version}" "File Formats"
 .SH NAME
 warnc-book \\- the orders that warnc compiles: cells, warnings, updates and stops, as CSV
 .SH DESCRIPTION
@@ -41,7 +41,7 @@ stop,16,fire,*
 .PP
 The flood of the examples below is the book
 .I examples/flood.csv
-of the repository, which the Debian package has in
+of the repository, which the Debian package has below
 .IR /usr/share/doc/warnc .
 """
 TAIL = """.SH SEE ALSO
@@ -56,7 +56,7 @@ SECTIONS = (
     ("docs/planning.md", "Seconds, slots and room"),
     ("docs/planning.md", "Pages"),
     ("docs/planning.md", "Export from a spreadsheet"),
-    ("docs/planning.md", "Ten mistakes without a fault line"),
+    ("docs/planning.md", "Eleven mistakes without a fault line"),
 )
 RENAMED = {"Data coding": "Languages"}
 WIDTH = 120
@@ -139,7 +139,9 @@ def of_paragraph(lines):
 
 
 def page():
-    made = HEAD.format(version=release.version_of(TOP)[0].split()[-1])
+    with open(os.path.join(TOP, "docs", "warnc.1"), encoding="utf-8") as it:
+        day = re.search(r"^\.TH WARNC 1 (\S+)", it.read(), re.M)[1]
+    made = HEAD.format(day=day, version=release.version_of(TOP)[0].split()[-1])
     for path, heading in SECTIONS:
         made += f".SH {escaped(RENAMED.get(heading, heading)).upper()}\n"
         paragraphs = re.split(r"\n\n+", "\n".join(section(path, heading)))

@@ -94,9 +94,9 @@ def debian_files():
     files[f"{LIBRARIES}/pkgconfig/warnc.pc"] = (0o644, said.encode())
     files.update({f"{docs}/{it}": (0o644, read(it)) for it in DOCUMENTS if it != "LICENSE"})
     pages = [it for it in listed("docs") if not it.endswith((".1", ".5"))]
-    files.update({f"{docs}/{it.removeprefix('docs/')}": (0o644, read(it)) for it in pages})
+    files.update({f"{docs}/{it}": (0o644, read(it)) for it in pages})
     files.update({f"{docs}/{it}": (0o644, read(it)) for it in listed("examples")})
-    files[f"{docs}/copyright"] = (0o644, read("LICENSE"))
+    files[f"{docs}/copyright"] = (0o644, read("LICENSE") + b"\n" + read("THIRD-PARTY.md"))
     return files
 
 

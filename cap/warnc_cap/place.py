@@ -52,9 +52,9 @@ def rows_of(path, columns):
         raise TableFault(f"{path}: {fault}") from None
 
 
-def whole(path, line, name, words, most):
-    if not (words.isascii() and words.isdigit() and len(words) <= 5 and int(words) <= most):
-        raise TableFault(f"{path}: line {line}: {name} isn't a number from 0 to {most}")
+def whole(path, line, name, words, most, least=0):
+    if not (words.isascii() and words.isdigit() and len(words) <= 5 and least <= int(words) <= most):
+        raise TableFault(f"{path}: line {line}: {name} isn't a number from {least} to {most}")
     return int(words)
 
 

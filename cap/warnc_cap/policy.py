@@ -31,9 +31,9 @@ def policy_of(path):
     found = {}
     for line, row in rows_of(path, COLUMNS):
         identifier = whole(path, line, "id", row["id"], 65535)
-        category, period, pages = (whole(path, line, it, row[it], most)
-                                   for it, most in (("category", 2), ("period", 1024), ("pages", 15)))
-        if identifier in found or period == 0 or pages == 0:
-            raise TableFault(f"{path}: line {line}: an earlier line has this id, or period or pages is 0")
+        category, period, pages = (whole(path, line, it, row[it], most, least)
+                                   for it, least, most in (("category", 0, 2), ("period", 1, 1024), ("pages", 1, 15)))
+        if identifier in found:
+            raise TableFault(f"{path}: line {line}: an earlier line has this id")
         found[identifier] = Policy(category, period, pages)
     return DEFAULT | found
