@@ -255,9 +255,9 @@ def senders_of(octets):
             raise Refused(f"packet {number}: {unknown(link)}")
         sender = sender_in(link, inside)
         if sender is not None:
-            found.setdefault(sender, [number, number])[1] = number
-    rows = [("source", "arfcn", "channel", "first", "last")]
-    rows += [(".".join(map(str, struct.pack(">I", source))), arfcn, mark, *them)
+            found.setdefault(sender, []).append(number)
+    rows = [("source", "arfcn", "channel", "blocks", "first", "last")]
+    rows += [(".".join(map(str, struct.pack(">I", source))), arfcn, mark, len(them), them[0], them[-1])
              for (source, arfcn, mark), them in found.items()]
     return "".join(",".join(map(str, it)) + "\n" for it in rows).encode()
 
@@ -513,8 +513,8 @@ def heard_by_tshark(capture):
     heard = {}
     for number, source, arfcn, frame in (it.split("\t") for it in done.stdout.decode().splitlines()):
         if int(frame) // 51 % 8 < 4:
-            heard.setdefault((source, arfcn, "cbch"), [number, number])[1] = number
-    return [[*sender, *them] for sender, them in heard.items()]
+            heard.setdefault((source, arfcn, "cbch"), []).append(number)
+    return [[*sender, str(len(them)), them[0], them[-1]] for sender, them in heard.items()]
 
 
 def beside_tshark(program):

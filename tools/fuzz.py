@@ -128,7 +128,7 @@ DIFFERENCE = re.compile(
 CHECK_NAMES = ["row", "line", "column", "field", "value", "says"]
 REMARK_NAMES = ["row", "name", "cell", "says"]
 TEXTS_NAMES = ["row", "name", "lang", "coding", "characters", "pages", "room", "first_ucs2", "place"]
-SENDER = re.compile(rb"(?:(?:25[0-5]|2[0-4]\d|1?\d?\d)(?:\.(?!,)|,)){4}\d+,(?:cbch|sdcch),[1-9]\d*,[1-9]\d*")
+SENDER = re.compile(rb"(?:(?:25[0-5]|2[0-4]\d|1?\d?\d)(?:\.(?!,)|,)){4}\d+,(?:cbch|sdcch)(?:,[1-9]\d*){3}")
 REPORT_ROW = re.compile(rb"\d+,\d+,\d+,[0-9a-f]{4},\d+,\d+,\d+,(?:yes|no|refused [0-9a-f]{2})")
 REPORT_MORE = re.compile(rb"(?:\d*,\d+,\d+,\d+|,,,),[A-Za-z ]*")
 
@@ -493,11 +493,16 @@ def is_shown(run, out):
     return out.endswith(last) and are_blocks
 
 
+def are_in_packets(blocks, first, last):
+    """Whether there can be so many blocks from one packet to another."""
+    return 0 < blocks <= last - first + 1
+
+
 def is_of_cells(out):
-    """Whether an output is a table of senders, each of which is heard first no later than last."""
+    """Whether an output is a table of senders, each with no more blocks than packets from its first to its last."""
     lines = out.split(b"\n")
-    rows = [it for it in lines[1:-1] if SENDER.fullmatch(it) and int(it.split(b",")[3]) <= int(it.split(b",")[4])]
-    return lines[0] == b"source,arfcn,channel,first,last" and lines[-1] == b"" and len(rows) == len(lines) - 2
+    rows = [it for it in lines[1:-1] if SENDER.fullmatch(it) and are_in_packets(*map(int, it.split(b",")[3:]))]
+    return lines[0] == b"source,arfcn,channel,blocks,first,last" and lines[-1] == b"" and len(rows) == len(lines) - 2
 
 
 def is_output(run, out):

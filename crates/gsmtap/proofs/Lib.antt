@@ -4,3 +4,5 @@ pub mod SomeOutput
 pub mod PieceSteps
 pub mod PacketSteps
 pub mod ThereAndBack
+pub mod Senders
+pub mod Hearing

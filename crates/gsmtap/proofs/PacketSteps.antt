@@ -5,8 +5,7 @@ use Rattle.std.specs.List.{flat_map}
 use Rattle.std.proofs.lemmas.Grind.{flat_map-append}
 use Rattle.std.proofs.lemmas.List.{length-append, length-replicate, length_push}
 use Rattle.gsmtap.specs.File.{Packet}
-use Rattle.gsmtap.specs.Heard.{for_hearing}
-use Rattle.gsmtap.specs.HeardSteps.{IsHearingFault, hearing_of}
+use Rattle.gsmtap.specs.HeardSteps.{IsHearingFault, for_counting, hearing_of}
 use Rattle.gsmtap.specs.PieceSteps.{BeginsWithPiece, IsFrontFault, meant}
 use Rattle.gsmtap.specs.Pieces.{BringAll, Brings, IsCutPiece, IsWrongPiece, least, meaning, packets_in}
 use Rattle.gsmtap.specs.Section.{Meaning, Section}
@@ -329,13 +328,13 @@ tape_fault_of_begin wanted input why is = of_tape wanted input 0 why (fault_of_b
 -- what stops the naming of senders at the packet that was found next stops a file whose packets were taken up to it
 pub stops_hearing : (here : Section) (octets : List ℕ) (there : Section) (left : List ℕ) (number : ℕ)
     (heard : List Heard) (piece rest : List ℕ) (new : Section) (what : Found) (fault : AirFault) →
-    AreTaken for_hearing here octets there left number (hearing_of number heard) →
+    AreTaken for_counting here octets there left number (hearing_of number heard) →
     BeginsWithPiece there left piece rest → meant new what ≡ meaning there piece →
-    IsHearingFault number heard what fault → IsPieceFault for_hearing here octets fault
+    IsHearingFault number heard what fault → IsPieceFault for_counting here octets fault
 stops_hearing here octets there left number heard piece rest new what fault sofar begins is why = elim why [
-  | inl refused ↦ subst (λ k. IsPieceFaultOf for_hearing here octets fault.packet k) (sym refused.0) refused.1
+  | inl refused ↦ subst (λ k. IsPieceFaultOf for_counting here octets fault.packet k) (sym refused.0) refused.1
   | inr wrong ↦
-      subst (λ n. IsPieceFaultOf for_hearing here octets n fault.kind) (sym wrong.0)
-      (wrong_found for_hearing here octets there left number (hearing_of number heard) piece rest new what fault.kind
+      subst (λ n. IsPieceFaultOf for_counting here octets n fault.kind) (sym wrong.0)
+      (wrong_found for_counting here octets there left number (hearing_of number heard) piece rest new what fault.kind
       sofar begins is wrong.1 wrong.2)
 ]

@@ -6,7 +6,7 @@ use Rattle.std.proofs.Math.Nat.{zero-min}
 use Rattle.std.specs.List.{flat_map, AllByRecursion, slice_get}
 use Rattle.std.specs.Prelude.{slice_set, nat_lt, true, is_some, ◌⊎◌}
 use Rattle.cbsp_wire.specs.declared.message.Cell.{Cell}
-use Rattle.gsmtap.specs.Taken.{after_packets, taken}
+use Rattle.gsmtap.specs.Taken.{Opens, after_packets, taken}
 use Rattle.gsmtap.specs.TapeOfCapture.{after_packet, after_sent, blocks_in, for_tape, nothing_known, slots_taken}
 use Rattle.gsmtap.specs.declared.track.Track.{Track}
 use Rattle.byteorder.specs.Numbers.{big_number-reads_back}
@@ -14,11 +14,12 @@ use Rattle.gsmtap.specs.File.{Packet, link_number, link_numbered, octet_order_of
 use Rattle.gsmtap.specs.Pieces.{BringAll, Brings, packets_in as brought_in}
 use Rattle.gsmtap.specs.Section.{Section}
 use Rattle.std.proofs.lemmas.Grind.{flat_map-append}
-use Rattle.gsmtap.specs.Capture.{blocks_in_slot, file_header, packets_of_blocks, packets_of_slot, packets_of_slots}
+use Rattle.gsmtap.specs.Capture.{blocks_in_slot, capture, file_header, packets_of_blocks, packets_of_slot}
+use Rattle.gsmtap.specs.Capture.{packets_of_slots}
 use Rattle.gsmtap.specs.declared.capture.Slots.TheVariants.{All}
 use Rattle.gsmtap.proofs.Chunks.{chunks_each, chunks_long}
 use Rattle.gsmtap.proofs.TapeSteps.{blocks_joined, blocks_of_slots}
-use Rattle.gsmtap.specs.Laws.{CaptureHasTheTape}
+use Rattle.gsmtap.specs.Laws.{CaptureHasTheTape, CaptureOfNoSlotHasNoBlock, tape_with}
 use Rattle.gsmtap.specs.declared.capture.Settings.{Settings}
 use Rattle.gsmtap.specs.declared.tape.Wanted.{Wanted}
 use Rattle.handset.specs.Tape.{cell_in, octets_of_blocks, tape_octets}
@@ -402,6 +403,44 @@ packets_taken wanted channel cell slots anywhere many each =
       λ some. all.3 (inr some),
     )
 
+-- the file begins with the header, and goes on with these octets
+opens_whole : (input after : List ℕ) → input ≡ file_header ++ after → Opens input whole_file after
+opens_whole input after split = inl (record {
+  header = file_header;
+  split = split;
+  long = header_long;
+  order = LowFirst;
+  order_is = header_order;
+  link = Internet;
+  link_is = ap link_numbered header_link;
+  section_is = ap (λ link. record { format = Classic link; order = LowFirst; interfaces = [] }) (sym header_link);
+})
+
+-- the capture of a tape without a slot has no packet
+pub nothing_there : CaptureOfNoSlotHasNoBlock
+unfolding taken
+nothing_there settings cell wanted = record {
+  known = nothing_known (slots_taken wanted);
+  file = record {
+    here = whole_file;
+    after = [];
+    opens = opens_whole (capture settings (tape_with cell [] ∷ [])) [] refl;
+    so = record {
+      there = whole_file;
+      number = 0;
+      are = record {
+        pieces = [];
+        packets = [];
+        split = refl;
+        bring = (refl, refl);
+        many = refl;
+        are_taken = refl;
+      };
+    };
+  };
+  none = refl;
+}
+
 -- the tape of a capture of a tape is that tape
 pub there_and_back : CaptureHasTheTape
 there_and_back cell channel slots some few each =
@@ -419,19 +458,10 @@ there_and_back cell channel slots some few each =
       file = record {
         here = whole_file;
         after = flat_map (λ piece. piece) pieces;
-        opens = inl (record {
-          header = file_header;
-          split =
-              ap (λ octets. file_header ++ octets)
-              (append-nil (packets_of_slots settings 0 said 0 slots) ∙ sym (on_joined channel said 0 slots));
-          long = header_long;
-          order = LowFirst;
-          order_is = header_order;
-          link = Internet;
-          link_is = ap link_numbered header_link;
-          section_is =
-              ap (λ link. record { format = Classic link; order = LowFirst; interfaces = [] }) (sym header_link);
-        });
+        opens =
+            opens_whole (capture settings (tape_with cell slots ∷ [])) (flat_map (λ piece. piece) pieces)
+            (ap (λ octets. file_header ++ octets)
+            (append-nil (packets_of_slots settings 0 said 0 slots) ∙ sym (on_joined channel said 0 slots)));
         so = record {
           there = whole_file;
           number = length packets;

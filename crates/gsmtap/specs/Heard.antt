@@ -1,6 +1,7 @@
 -- Who sends in a capture file: the senders of blocks of a cell broadcast channel, in the order of their first blocks.
-use Rattle.std.specs.Prelude.{ℕ, ◌+◌, ◌%◌, ◌==◌, ◌&&◌, nat_lt, Bool, false, if◌then◌else◌, List, [], ◌∷◌}
-use Rattle.std.specs.Prelude.{◌++◌, drop, position, slice_index_or, slice_set, Option, Some, None, Result, Ok, Err}
+use Rattle.std.specs.Prelude.{◌≡◌, ℕ, ◌-◌, ◌%◌, ◌==◌, ◌&&◌, not, nat_lt, Bool, false, if◌then◌else◌, List, []}
+use Rattle.std.specs.Prelude.{◌∷◌, ◌++◌, drop, length, map, unwrap_or, Option, Some, None, Result, Ok, Err}
+use Rattle.std.specs.List.{filter, position_from, suffix_len}
 use Rattle.std.specs.Option.{option_and_then, option_map, option_map_or}
 use Rattle.byteorder.specs.Endian.{big_number}
 use Rattle.gsmtap.specs.File.{Packet, link_numbered}
@@ -47,50 +48,46 @@ mark_number Sdcch = 1
 abbrev pub is_station : Station → Station → Bool
 is_station a b = a.address == b.address && a.arfcn == b.arfcn && mark_number a.channel == mark_number b.channel
 
--- a sender of whom the packet of this number is the first; and one more packet, if there was one before
-abbrev pub newly_heard : (number : ℕ) → Station → Heard
-newly_heard number station = record { station = station; first = number; last = number }
+-- whether a packet carries a block of a sender
+abbrev pub is_sent_by : Station → Option Station → Bool
+is_sent_by station sent = option_map_or (is_station station) sent false
 
-abbrev pub heard_at : (number : ℕ) → List Heard → Station → (place : Option ℕ) → List Heard
-heard_at number heard station None = heard ++ newly_heard number station ∷ []
-heard_at number heard station (Some place) =
-    slice_set heard place (record (slice_index_or heard place (newly_heard number station)) { last = number })
+-- the senders of packets' blocks, each once, in the order of their first blocks
+abbrev pub senders : List (Option Station) → List Station
+senders [] = []
+senders (None ∷ rest) = senders rest
+senders (Some station ∷ rest) = station ∷ filter (λ one. not (is_station station one)) (senders rest)
 
-abbrev pub place_of : Station → List Heard → Option ℕ
-place_of station heard = position (λ one. is_station one.station station) heard
+-- a sender: how many of the packets carry a block of it, and the numbers of the first and the last of these, from 1
+abbrev pub heard_of : List (Option Station) → Station → Heard
+heard_of packets station = record {
+  station = station;
+  blocks = length (filter (is_sent_by station) packets);
+  first = unwrap_or (position_from (is_sent_by station) 1 packets) 0;
+  last = length packets - suffix_len (λ sent. not (is_sent_by station sent)) packets;
+}
 
--- senders after the packet of this number, which carries a block of this one
-abbrev pub with_station : (number : ℕ) → List Heard → Station → List Heard
-with_station number heard station = heard_at number heard station (place_of station heard)
-
-abbrev pub with_packet : (number : ℕ) → List Heard → Option Station → List Heard
-with_packet number heard None = heard
-with_packet number heard (Some station) = with_station number heard station
-
--- what is known after some packets: how many these are, and who sends
-pub record Hearing : Type 0 where
-  pub packets : ℕ
-  pub heard : List Heard
+-- who sends in packets, of each of which this is the sender of its block
+abbrev pub heard_in : List (Option Station) → List Heard
+heard_in packets = map (heard_of packets) (senders packets)
 
 -- a packet of a link type that isn't known is at fault
-abbrev pub heard_by : Hearing → Packet → Option Link → Result Hearing AirFaultKind
-heard_by hearing packet None = Err (kind.OtherLink packet.link)
-heard_by hearing packet (Some link) = Ok (record {
-  packets = hearing.packets + 1;
-  heard = with_packet (hearing.packets + 1) hearing.heard (station_in link packet.octets);
-})
+abbrev pub with_packet : List (Option Station) → Packet → Option Link → Result (List (Option Station)) AirFaultKind
+with_packet before packet None = Err (kind.OtherLink packet.link)
+with_packet before packet (Some link) = Ok (before ++ station_in link packet.octets ∷ [])
 
-unfoldable pub hear : Hearing → Packet → Result Hearing AirFaultKind
-hear hearing packet = heard_by hearing packet (link_numbered packet.link)
+unfoldable pub hear : List (Option Station) → Packet → Result (List (Option Station)) AirFaultKind
+hear before packet = with_packet before packet (link_numbered packet.link)
 
--- how packets are taken for the senders
-abbrev pub for_hearing : Taking Hearing
-for_hearing = record { start = record { packets = 0; heard = [] }; step = hear }
+-- how packets are taken for the senders: of each it is known whose block it carries
+abbrev pub for_hearing : Taking (List (Option Station))
+for_hearing = record { start = []; step = hear }
 
--- the input is a capture file of whole pieces, and these send in it
+-- the input is a capture file of whole pieces, and these send in its packets
 pub record AreHeard (input : List ℕ) (heard : List Heard) : Type 0 where
-  pub packets : ℕ
-  pub file : ComesTo for_hearing input (record { packets = packets; heard = heard })
+  pub packets : List (Option Station)
+  pub file : ComesTo for_hearing input packets
+  pub senders_are : heard ≡ heard_in packets
 
 -- why nobody can be named, but for out of memory
 abbrev pub IsHeardFault : List ℕ → AirFault → Type 0

@@ -1,9 +1,9 @@
 //! Who sends in a capture file.
 
 ghost use Rattle.std.specs.Prelude.{◌≡◌, ◌+◌, ◌-◌, ◌<◌, ◌^◌, ℕ, length, IfErr, IfOk, Ok, OnOk};
-ghost use Rattle.gsmtap.specs.Heard.{AreHeard, IsHeardFault, Hearing, for_hearing, hear, is_station, place_of};
-ghost use Rattle.gsmtap.specs.Heard.{with_station};
-ghost use Rattle.gsmtap.specs.HeardSteps.{IsHearingFault, hearing_of};
+ghost use Rattle.gsmtap.specs.Heard.{AreHeard, IsHeardFault, is_station};
+ghost use Rattle.gsmtap.specs.HeardSteps.{IsHearingFault, count, for_counting, heard_again, hearing_of, place_of};
+ghost use Rattle.gsmtap.specs.HeardSteps.{with_station};
 ghost use Rattle.gsmtap.specs.PieceSteps.{section_of};
 ghost use Rattle.gsmtap.specs.Taken.{AreKnown};
 ghost use Rattle.gsmtap.specs.TapeSteps.{IsPieceFault, after_found, count_of};
@@ -20,6 +20,8 @@ use std::alloc::{AllocError, Global};
 pub struct Heard {
     /// The sender.
     pub station: Station,
+    /// How many blocks of it there are.
+    pub blocks: u64,
     /// The first packet with a block of it, from 1.
     pub first: u64,
     /// The last one.
@@ -48,9 +50,9 @@ pub fn heard_in_capture(alloc: Global, input: &[u8]) -> Result<Vec<Heard>, AirFa
 /// Who sends in all pieces of a file, from its first one on.
 fn hear_pieces(alloc: Global, mut reader: Reader, octets: &[u8]) -> Result<Vec<Heard>, AirFault>
     requires { length octets.now < 2 ^ 48 }
-    ensures heard { IfOk result (λ heard. (packets : ℕ) × AreKnown for_hearing (section_of reader) octets.now
-        (hearing_of packets heard.items)) }
-    ensures fault { IfErr result (IsPieceFault for_hearing (section_of reader) octets.now) }
+    ensures heard { IfOk result (λ heard. (packets : ℕ) × (packets < 2 ^ 60)
+        × AreKnown for_counting (section_of reader) octets.now (hearing_of packets heard.items)) }
+    ensures fault { IfErr result (IsPieceFault for_counting (section_of reader) octets.now) }
 {
     let mut heard = Vec::new(alloc);
     let mut left = octets;
@@ -73,7 +75,7 @@ fn hear_pieces(alloc: Global, mut reader: Reader, octets: &[u8]) -> Result<Vec<H
 /// Counts the block that a packet carries, if one was found and it does, and returns how many packets there were.
 fn hear_found(heard: &mut Vec<Heard>, number: u64, found: &Found) -> Result<u64, AirFault>
     requires { number < 2 ^ 60 }
-    ensures heard { OnOk result (after_found hear (hearing_of number heard.old.items) found.now
+    ensures heard { OnOk result (after_found count (hearing_of number heard.old.items) found.now
         ≡ Ok (hearing_of (number + count_of found.now) heard.new.items)) }
     ensures many { IfOk result (λ packets. packets ≡ count_of found.now) }
     ensures fault { IfErr result (IsHearingFault number heard.old.items found.now) }
@@ -89,10 +91,10 @@ fn hear_found(heard: &mut Vec<Heard>, number: u64, found: &Found) -> Result<u64,
 }
 
 /// Counts the block that the packet of this number carries, if it does.
-#[tactic(auto, unfolding(crate::specs::Heard::hear))]
+#[tactic(auto, unfolding(crate::specs::HeardSteps::count))]
 fn hear_packet(heard: &mut Vec<Heard>, number: u64, packet: &Captured) -> Result<(), AirFault>
     requires { 0 < number }
-    ensures heard { OnOk result (hear (hearing_of (number - 1) heard.old.items)
+    ensures heard { OnOk result (count (hearing_of (number - 1) heard.old.items)
         (record { link = packet.now.link; octets = packet.now.octets.now })
         ≡ Ok (hearing_of number heard.new.items)) }
     ensures fault { IfErr result (IsHearingFault (number - 1) heard.old.items
@@ -102,7 +104,7 @@ fn hear_packet(heard: &mut Vec<Heard>, number: u64, packet: &Captured) -> Result
         return Err(fault_at(number, AirFaultKind::OtherLink(packet.link)));
     };
     if let Some(station) = station_in(link, packet.octets) {
-        count(heard, number, station)?;
+        count_block(heard, number, station)?;
     }
     Ok(())
 }
@@ -120,20 +122,29 @@ fn place_of(heard: &[Heard], station: Station) -> Option<usize>
 {
     heard
         .iter()
-        .position(|one| is_station(one.station, station))
+        .position(|one| is_station(station, one.station))
 }
 
 /// Counts a block of a sender in the packet of this number.
-fn count(heard: &mut Vec<Heard>, number: u64, station: Station) -> Result<(), AllocError>
+fn count_block(heard: &mut Vec<Heard>, number: u64, station: Station) -> Result<(), AllocError>
     ensures { OnOk result (heard.new.items ≡ with_station number heard.old.items station) }
 {
     match place_of(heard, station) {
-        Some(place) => heard[place].last = number,
+        Some(place) => count_again(&mut heard[place], number),
         None => heard.push(Heard {
             station,
+            blocks: 1,
             first: number,
             last: number,
         })?,
     }
     Ok(())
+}
+
+/// Counts one more block of a sender, in the packet of this number.
+fn count_again(one: &mut Heard, number: u64)
+    ensures { one.new ≡ heard_again number one.old }
+{
+    one.blocks = one.blocks.saturating_add(1);
+    one.last = number;
 }

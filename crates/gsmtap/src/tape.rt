@@ -52,7 +52,7 @@ pub struct Wanted {
     pub cell: Cell,
     /// How many slots it has; if no number is wanted, as many as there are up to the last block, at most 65,535.
     pub slots: Option<u16>,
-    /// In which of them the first block stands: a receiver may begin after the run whose slots they are.
+    /// In which of them the first block is, as a receiver may begin to listen when the run is under way.
     pub first_slot: u16,
     /// Whose packets are taken.
     pub from: Sender,

@@ -157,7 +157,7 @@ fn tape(alloc: Global, bench: &mut Bench, words: &mut Words) -> Result<String, F
     }
 }
 
-/// Names the senders of octets, as `7f000001 0 cbch 1-2` each.
+/// Names the senders of octets, as `7f000001 0 cbch 2 1-2` each: how many blocks, in which packets.
 fn senders(alloc: Global, bench: &mut Bench) -> Result<String, Fail> {
     if bench.octets.len() > 1_000_000 {
         return Err(Fail::new("too many octets for a test"));
@@ -173,6 +173,7 @@ fn senders(alloc: Global, bench: &mut Bench) -> Result<String, Fail> {
     for one in &heard {
         let Heard {
             station,
+            blocks,
             first,
             last,
         } = *one;
@@ -181,7 +182,7 @@ fn senders(alloc: Global, bench: &mut Bench) -> Result<String, Fail> {
             ChannelType::Sdcch => "sdcch",
         };
         let (address, arfcn) = (station.address, station.arfcn);
-        all.push_str(&format!(in alloc; "{address:08x} {arfcn} {mark} {first}-{last};")?)?;
+        all.push_str(&format!(in alloc; "{address:08x} {arfcn} {mark} {blocks} {first}-{last};")?)?;
     }
     Ok(all)
 }

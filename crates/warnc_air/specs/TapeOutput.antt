@@ -51,7 +51,7 @@ IsTapeWriteFault f = f ≡ fault.WriteFailed
 
 -- the table of senders: no field has a comma, a quotation mark or a line end, so none is quoted
 abbrev pub columns_text : List ℕ
-columns_text = codes "source,arfcn,channel,first,last\n"
+columns_text = codes "source,arfcn,channel,blocks,first,last\n"
 
 -- the word by which `tape` is asked for it
 abbrev pub channel_text : ChannelType → List ℕ
@@ -67,8 +67,8 @@ address_text address =
 abbrev pub sender_text : Heard → List ℕ
 sender_text one =
     address_text one.station.address ++ (codes "," ++ (decimal one.station.arfcn ++ (codes ","
-    ++ (channel_text one.station.channel ++ (codes "," ++ (decimal one.first ++ (codes ","
-    ++ (decimal one.last ++ codes "\n"))))))))
+    ++ (channel_text one.station.channel ++ (codes "," ++ (decimal one.blocks ++ (codes ","
+    ++ (decimal one.first ++ (codes "," ++ (decimal one.last ++ codes "\n"))))))))))
 
 abbrev pub senders_text : List Heard → List ℕ
 senders_text heard = columns_text ++ flat_map sender_text heard

@@ -14,11 +14,11 @@ use std::alloc::{AllocError, Global};
 use std::io::{Read, Write};
 
 /// The names of the columns.
-const COLUMNS: &str = "source,arfcn,channel,first,last\n";
+const COLUMNS: &str = "source,arfcn,channel,blocks,first,last\n";
 
 /// Reads a capture file, and writes a table of who sends blocks of a cell broadcast channel in it, as CSV: the source
-/// address, the radio channel, the word of the channel that the packets name, and the numbers of the first and the last
-/// packet with a block. Nothing is written before all of the table is made.
+/// address, the radio channel, the word of the channel that the packets name, how many packets have a block, and the
+/// numbers of the first and the last of them. Nothing is written before all of the table is made.
 pub fn cells_stream<R: Read, W: Write>(
     alloc: Global,
     source: &mut Source<R>,
@@ -74,8 +74,9 @@ fn sender_text(alloc: Global, one: &Heard) -> Result<String, AllocError>
 {
     let address = address_text(alloc, one.station.address)?;
     let channel = channel_text(one.station.channel);
-    let (arfcn, first, last) = (one.station.arfcn, one.first, one.last);
-    format!(in alloc; "{address},{arfcn},{channel},{first},{last}\n")
+    let (arfcn, blocks) = (one.station.arfcn, one.blocks);
+    let (first, last) = (one.first, one.last);
+    format!(in alloc; "{address},{arfcn},{channel},{blocks},{first},{last}\n")
 }
 
 /// An IPv4 address, with dots between its octets.

@@ -33,7 +33,7 @@ some_tape wanted input output is =
 pub some_senders : (input output : List ℕ) → IsCellsOutput input output → 0 < length output
 some_senders input output is =
     subst (λ (octets : List ℕ). 0 < length octets) (sym is.2)
-    (longer 115 (codes "ource,arfcn,channel,first,last\n" ++ flat_map sender_text is.0))
+    (longer 115 (codes "ource,arfcn,channel,blocks,first,last\n" ++ flat_map sender_text is.0))
 
 refused_here : (wanted : Wanted) (input : List ℕ) (old new : Option (List ℕ)) (why : TapeCommandFault) →
     IsTapeCommandFault wanted input old new why → status_of_tape_fault why ≡ 1 → IsNoAir wanted input

@@ -131,8 +131,8 @@ all -> worked
 
 # another cell, and no number of slots: the tape ends with the last block
 args cells
-worked source,arfcn,channel,first,last
-worked 0.1.0.1,0,cbch,1,4
+worked source,arfcn,channel,blocks,first,last
+worked 0.1.0.1,0,cbch,4,1,4
 run -> 0
 all -> worked
 reads 0 356 -> 3 warnc: read failed
@@ -142,7 +142,7 @@ all -> worked
 writer 10 4
 run -> 3
 err -> warnc: write failed
-all -> 40 of 51
+all -> 40 of 60
 fronts 0 23 -> 1 warnc: not a capture file
 fronts 25 106 -> 1 warnc: packet 1: capture is short
 args cells --slots 2

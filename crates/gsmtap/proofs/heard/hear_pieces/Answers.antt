@@ -1,6 +1,5 @@
 use Rattle.std.proofs.Common.{◌≡◌, ◌+◌, ◌≤◌, length, ap, arith, rules, subst, sym}
-use Rattle.gsmtap.specs.Heard.{for_hearing}
-use Rattle.gsmtap.specs.HeardSteps.{hearing_of}
+use Rattle.gsmtap.specs.HeardSteps.{for_counting, hearing_of}
 use Rattle.gsmtap.specs.PieceSteps.{section_of}
 use Rattle.gsmtap.specs.Taken.{AreTaken}
 use Rattle.gsmtap.specs.TapeSteps.{count_of}
@@ -10,7 +9,7 @@ use Rattle.gsmtap.proofs.heard.hear_pieces.Goals as goal
 pub pieces-init : goal.pieces-init
 pieces-init c = record {
   taken =
-      none_taken for_hearing (section_of c.args.reader) c.args.octets.now (hearing_of 0 c.new-heard.result.items)
+      none_taken for_counting (section_of c.args.reader) c.args.octets.now (hearing_of 0 c.new-heard.result.items)
       (ap (hearing_of 0) (search rules));
   few = omega arith;
 }
@@ -29,10 +28,10 @@ pieces-preserved c =
     shorter (section_of c.pieces.reader) c.pieces.left.now c.in-Ok.split.0.now c.in-Ok.split.1.now c.in-Ok.ensures in
     record {
       taken =
-          subst (λ n. AreTaken for_hearing (section_of c.args.reader) c.args.octets.now (section_of c.enter.new.self)
+          subst (λ n. AreTaken for_counting (section_of c.args.reader) c.args.octets.now (section_of c.enter.new.self)
           c.in-Ok.split.1.now (c.pieces.number + n) (hearing_of (c.pieces.number + n) c.hear_found.new.heard.items))
           (sym many)
-          (one_more for_hearing (section_of c.args.reader) c.args.octets.now (section_of c.pieces.reader)
+          (one_more for_counting (section_of c.args.reader) c.args.octets.now (section_of c.pieces.reader)
           c.pieces.left.now c.pieces.number (hearing_of c.pieces.number c.pieces.heard.items) c.in-Ok.split.0.now
           c.in-Ok.split.1.now (section_of c.enter.new.self) c.in_ok-found.found
           (hearing_of (c.pieces.number + count_of c.in_ok-found.found) c.hear_found.new.heard.items)

@@ -1,6 +1,5 @@
 use Rattle.std.proofs.Common.{◌+◌, ◌*◌, ◌≤◌, length}
-use Rattle.gsmtap.specs.Heard.{for_hearing}
-use Rattle.gsmtap.specs.HeardSteps.{hearing_of}
+use Rattle.gsmtap.specs.HeardSteps.{for_counting, hearing_of}
 use Rattle.gsmtap.specs.PieceSteps.{section_of}
 use Rattle.gsmtap.specs.Taken.{AreTaken}
 use Rattle.gsmtap.proofs.heard.hear_pieces.Given as goal
@@ -8,7 +7,7 @@ use Rattle.gsmtap.proofs.heard.hear_pieces.Given as goal
 abbrev pub invariant-pieces : goal.invariant-pieces
 invariant-pieces l = record {
   taken :
-      AreTaken for_hearing (section_of l.fn.reader) l.octets (section_of l.reader) l.left l.number
+      AreTaken for_counting (section_of l.fn.reader) l.octets (section_of l.reader) l.left l.number
       (hearing_of l.number l.heard.items);
   few : 12 * l.number + length l.left ≤ length l.octets;
 }
