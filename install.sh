@@ -51,6 +51,7 @@ list() {
 644 cap/warnc_cap/text.py share/warnc/warnc_cap/text.py
 644 cap/warnc_cap/whole.py share/warnc/warnc_cap/whole.py
 644 docs/warnc.1 share/man/man1/warnc.1
+644 docs/warnc-cap.1 share/man/man1/warnc-cap.1
 644 docs/warnc-book.5 share/man/man5/warnc-book.5
 644 tools/completions/warnc.bash share/bash-completion/completions/warnc
 644 tools/completions/_warnc share/zsh/site-functions/_warnc

@@ -94,9 +94,9 @@ def by_reference(file, asked):
 
 
 def without_numbers(answers):
-    """Returns tapes and who sends, without the numbers of packets."""
+    """Returns tapes and who sends, without how many packets there are and where."""
     tapes, table = answers
-    return tapes, table if isinstance(table, str) else sorted(it.rsplit(b",", 2)[0] for it in table.splitlines())
+    return tapes, table if isinstance(table, str) else sorted(it.rsplit(b",", 3)[0] for it in table.splitlines())
 
 
 def wrote(words, octets=b""):

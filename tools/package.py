@@ -86,7 +86,7 @@ def debian_files():
     files["usr/share/warnc/warnc.html"] = (0o644, read("dist/warnc.html"))
     files["usr/bin/warnc-cap"] = (0o755, read("cap/warnc-cap"))
     files.update({f"usr/share/warnc/{it.removeprefix('cap/')}": (0o644, read(it)) for it in listed("cap/warnc_cap")})
-    for name in ("warnc.1", "warnc-book.5"):
+    for name in ("warnc.1", "warnc-cap.1", "warnc-book.5"):
         pressed = gzip.compress(read(f"docs/{name}"), 9, mtime=0)
         files[f"usr/share/man/man{name[-1]}/{name}.gz"] = (0o644, pressed)
     files.update({place: (0o644, read(it)) for it, place in {**COMPLETIONS, **LIBRARY}.items()})

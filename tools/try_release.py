@@ -138,7 +138,8 @@ def installs(folder):
     put = ran(words)
     there = {os.path.relpath(os.path.join(place, it), folder) for place, _, files in os.walk(folder) for it in files}
     wanted = {"bin/warnc", "bin/warnc-cap", "share/warnc/warnc.html", "share/warnc/warnc_cap/command.py",
-              "share/man/man1/warnc.1", "share/man/man5/warnc-book.5", "share/bash-completion/completions/warnc",
+              "share/man/man1/warnc.1", "share/man/man1/warnc-cap.1", "share/man/man5/warnc-book.5",
+              "share/bash-completion/completions/warnc",
               "share/zsh/site-functions/_warnc", "share/fish/vendor_completions.d/warnc.fish", "include/warnc.h",
               "lib/libwarnc.a", "lib/libwarnc.so.1", "lib/libwarnc.so", "lib/pkgconfig/warnc.pc",
               "share/warnc/python/warnc.py"}

@@ -1,1 +1,3 @@
 """Messages of the Common Alerting Protocol to books of alerts."""
+
+VERSION = "1.8.0"

@@ -6,7 +6,7 @@ import shutil
 import sys
 from collections import Counter
 
-from . import message, place, policy, receipt, rounds, state, text
+from . import VERSION, message, place, policy, receipt, rounds, state, text
 from .plan import Plan
 from .run import CAUSES, Runner
 from .whole import Whole
@@ -39,6 +39,7 @@ def words_of(words, document):
                         help="with --state: writes only the rows that are new since the call before. Where one updates "
                              "or stops a name of an earlier call, they are no book by themselves")
     parser.add_argument("--receipt", metavar="FILE", help="writes what became of each info, as CSV")
+    parser.add_argument("--version", action="version", version=f"warnc-cap {VERSION}", help="prints the version")
     parser.add_argument("messages", nargs="*", metavar="MESSAGE")
     options = parser.parse_args(words)
     if not options.messages and not options.state:

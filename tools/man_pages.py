@@ -1,12 +1,14 @@
 #!/usr/bin/env python3
-"""Writes the man page of a book, docs/warnc-book.5, by what docs/planning.md and docs/formats.md say of books.
+"""Writes man pages by what documents say: docs/warnc-book.5, of a book, by docs/planning.md and docs/formats.md, and
+docs/warnc-cap.1, of cap/warnc-cap, by docs/cap.md.
 
-Usage: book_page.py            says if the page is stale, and fails then
-       book_page.py --write    writes it
-       book_page.py --help     prints this
+Usage: man_pages.py            says if a page is stale, and fails then
+       man_pages.py --write    writes them
+       man_pages.py --help     prints this
 
 Of the documents it reads paragraphs, lists of one line or several, tables, and blocks that are indented by four.
 """
+import collections
 import os
 import re
 import sys
@@ -15,8 +17,7 @@ import textwrap
 import release
 
 TOP = os.path.dirname(os.path.dirname(os.path.realpath(__file__)))
-PAGE = "docs/warnc-book.5"
-HEAD = """.\\" tools/book_page.py writes this page by what docs/planning.md and docs/formats.md say.
+BOOK_HEAD = """.\\" tools/man_pages.py writes this page by what docs/planning.md and docs/formats.md say.
 .TH WARNC-BOOK 5 {day} "warnc {version}" "File Formats"
 .SH NAME
 warnc-book \\- the orders that warnc compiles: cells, warnings, updates and stops, as CSV
@@ -44,11 +45,45 @@ The flood of the examples below is the book
 of the repository, which the Debian package has below
 .IR /usr/share/doc/warnc .
 """
-TAIL = """.SH SEE ALSO
-.BR warnc (1)
+CAP_HEAD = """.\\" tools/man_pages.py writes this page by what docs/cap.md says.
+.TH WARNC-CAP 1 {day} "warnc {version}" "User Commands"
+.SH NAME
+warnc-cap \\- makes a book of alerts of messages of the Common Alerting Protocol (CAP 1.2)
+.SH SYNOPSIS
+.B warnc-cap
+.BI \\-\\-cells " FILE " \\-\\-start " TIME " \\-\\-slots " N"
+.RI [ OPTION ]...
+.RI [ MESSAGE ]...
+.SH DESCRIPTION
+A
+.I MESSAGE
+is a file, or a folder whose files are taken, in any order.
+The book that they make, or of over 64 cells the network book, is written to standard output.
+On standard error a line
+.I FILE: element: what
+says of each message that is wrong why it is passed over, and lines that begin with
+.I note:
+say what a planner may want to know.
 """
-# A section of the page: its document, and its heading there.
-SECTIONS = (
+CAP_TAIL = """.SH EXIT STATUS
+.TP
+0
+All messages made the book.
+.TP
+1
+A message is wrong and was passed over, a cell refuses an order for 4370 to 4379, or with
+.B \\-\\-strict
+an info has no cell. The book is written.
+.TP
+2
+The words or a table are wrong, or the book can't be written. Nothing is kept.
+.SH SEE ALSO
+.BR warnc (1),
+.BR warnc-book (5)
+"""
+# A page: its file, what it begins and ends with, and between them sections of documents by their headings there.
+Page = collections.namedtuple("Page", "path head sections tail")
+BOOK = (
     ("docs/planning.md", "The columns"),
     ("docs/formats.md", "Data coding"),
     ("docs/planning.md", "Message identifiers"),
@@ -58,7 +93,13 @@ SECTIONS = (
     ("docs/planning.md", "Export from a spreadsheet"),
     ("docs/planning.md", "Eleven mistakes without a fault line"),
 )
-RENAMED = {"Data coding": "Languages"}
+CAP = ("The words", "From CAP to columns", "Which messages", "When", "What", "The text", "Where", "Updates and cancels",
+       "Day by day", "What it doesn't do")
+PAGES = (
+    Page("docs/warnc-book.5", BOOK_HEAD, BOOK, ".SH SEE ALSO\n.BR warnc (1)\n"),
+    Page("docs/warnc-cap.1", CAP_HEAD, tuple(("docs/cap.md", it) for it in CAP), CAP_TAIL),
+)
+RENAMED = {"Data coding": "Languages", "The words": "Options", "What": "Identifiers and policy"}
 WIDTH = 120
 # How roff writes characters that it would take otherwise.
 ROFF = {"\\": "\\e", "-": "\\-", "'": "\\(aq", "^": "\\(ha", "~": "\\(ti", "`": "\\(ga"}
@@ -100,7 +141,7 @@ def section(path, heading):
     """Returns the lines of a section."""
     found = re.search(rf"^#+ {re.escape(heading)}\n+(.*?)(?=^#|\Z)", read(path), re.M | re.S)
     if not found:
-        sys.exit(f"tools/book_page.py: {path} has no section '{heading}'")
+        sys.exit(f"tools/man_pages.py: {path} has no section '{heading}'")
     return found[1].rstrip("\n").split("\n")
 
 
@@ -138,35 +179,34 @@ def of_paragraph(lines):
     return [".PP", *words(" ".join(lines))]
 
 
-def page():
-    with open(os.path.join(TOP, "docs", "warnc.1"), encoding="utf-8") as it:
-        day = re.search(r"^\.TH WARNC 1 (\S+)", it.read(), re.M)[1]
-    made = HEAD.format(day=day, version=release.version_of(TOP)[0].split()[-1])
-    for path, heading in SECTIONS:
+def made_of(page):
+    """Returns what a page has to be."""
+    day = re.search(r"^\.TH WARNC 1 (\S+)", read("docs/warnc.1"), re.M)[1]
+    made = page.head.format(day=day, version=release.version_of(TOP)[0].split()[-1])
+    for path, heading in page.sections:
         made += f".SH {escaped(RENAMED.get(heading, heading)).upper()}\n"
         paragraphs = re.split(r"\n\n+", "\n".join(section(path, heading)))
         lines = [it for one in paragraphs for it in of_paragraph(one.split("\n"))]
         made += "\n".join(lines[1:] if lines[0] == ".PP" else lines) + "\n"
-    return made + TAIL
+    return made + page.tail
 
 
-def main(words):
-    if words in (["-h"], ["--help"]):
+def main(given):
+    if given in (["-h"], ["--help"]):
         print(__doc__)
         return 0
-    if words not in ([], ["--write"]):
-        print(f"tools/book_page.py: unknown words: {' '.join(words)}\n\n{__doc__}", file=sys.stderr)
+    if given not in ([], ["--write"]):
+        print(f"tools/man_pages.py: unknown words: {' '.join(given)}\n\n{__doc__}", file=sys.stderr)
         return 2
-    made, path = page(), os.path.join(TOP, PAGE)
-    if os.path.exists(path) and read(PAGE) == made:
-        return 0
-    if words != ["--write"]:
-        print(f"{PAGE} isn't what 'tools/book_page.py --write' writes")
-        return 1
-    with open(path, "w", encoding="utf-8") as it:
-        it.write(made)
-    print(f"tools/book_page.py: {PAGE} is written")
-    return 0
+    stale = [it for it in PAGES if not os.path.exists(os.path.join(TOP, it.path)) or read(it.path) != made_of(it)]
+    for page in stale:
+        if given != ["--write"]:
+            print(f"{page.path} isn't what 'tools/man_pages.py --write' writes")
+            continue
+        with open(os.path.join(TOP, page.path), "w", encoding="utf-8") as it:
+            it.write(made_of(page))
+        print(f"tools/man_pages.py: {page.path} is written")
+    return 1 if stale and given != ["--write"] else 0
 
 
 if __name__ == "__main__":
