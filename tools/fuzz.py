@@ -532,7 +532,8 @@ def statuses_of(run):
 def line_fault(run, ran):
     """Returns what is wrong with standard error, or None."""
     if ran.status == 2:
-        fronts = b"error: ", b"warnc: words are not UTF-8\n", b"warnc: no such cell or address: "
+        fronts = (b"error: ", b"warnc: words are not UTF-8\n", b"warnc: no such cell: ",
+                  b"warnc: no such cell or address: ")
         right = ran.err.startswith(fronts) or not run.words and ran.err
     else:
         reader = "read failed" if run.reader in ("folder", "shut") else "write failed"

@@ -458,7 +458,7 @@ fn number_or_one<S: AsStr>(words: &[S], name: &str) -> Option<u16>
 }
 
 /// Whether a word begins with the name of an option.
-fn is_given<S: AsStr>(words: &[S], name: &str) -> bool
+pub(crate) fn is_given<S: AsStr>(words: &[S], name: &str) -> bool
     ensures { result ≡ is_given (map S.text words.now) name.now }
 {
     for word in words {

@@ -13,7 +13,7 @@ ghost use Rattle.warnc_cli.specs.RunSteps.{WroteSomeBy};
 ghost use Rattle.warnc_cli.specs.Tasks.{IsNotVerified, IsUnverified, WritesOutputOfBoth};
 ghost use Rattle.warnc_verify.specs.Verified.{HasDifferences, IsVerified};
 
-use crate::command::{Task, asks_for_text, task_of};
+use crate::command::{Task, asks_for_text, is_given, task_of};
 use crate::status::{DEVICE, DONE, MEMORY, REFUSED_INPUT, USAGE, failed, failed_with_book};
 use crate::unreadable::Unreadable;
 use alert_book::Origin;
@@ -126,13 +126,19 @@ pub fn run_between<
     match task_of(alloc, words) {
         Ok(Some(task)) => run_task(rt, &task, book, source, sink, faults),
         Ok(None) => {
-            let _ = writeln!(
-                faults,
-                "warnc: no such cell or address: --cell is as 1-2, --from as 127.0.0.1"
-            );
+            let _ = writeln!(faults, "warnc: {}", wrong_value(words));
             USAGE
         }
         Err(error) => run_text(alloc, &error, asks_for_text(words), sink, faults),
+    }
+}
+
+/// What is wrong with words that the parser takes and that are no task: the cell, or the address if one is given.
+fn wrong_value<S: AsStr>(words: &[S]) -> &'static str {
+    if is_given(words, "--from") {
+        "no such cell or address: --cell is as 1-2, --from as 127.0.0.1"
+    } else {
+        "no such cell: --cell is as 1-2"
     }
 }
 

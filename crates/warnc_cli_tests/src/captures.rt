@@ -248,11 +248,11 @@ usage -> 2 error:
 args tape --cell 1-1 --slots 0
 usage -> 2 error:
 args tape --cell 1-65536 --slots 2
-fails -> 2 warnc: no such cell or address: --cell is as 1-2, --from as 127.0.0.1
+fails -> 2 warnc: no such cell: --cell is as 1-2
 args tape --cell 1 --slots 2
-fails -> 2 warnc: no such cell or address: --cell is as 1-2, --from as 127.0.0.1
+fails -> 2 warnc: no such cell: --cell is as 1-2
 args tape --cell 1-2-3 --slots 2
-fails -> 2 warnc: no such cell or address: --cell is as 1-2, --from as 127.0.0.1
+fails -> 2 warnc: no such cell: --cell is as 1-2
 args tape --cell 1-1 --slots 2 --arfcn 1024
 usage -> 2 error:
 args tape --cell 1-1 --slots 2 --channel 51

@@ -238,11 +238,11 @@ run -> 3
 err -> warnc: write failed
 out -> <!DOCTYPE html>
 args chart --slots 4 --cell 1
-fails -> 2 warnc: no such cell or address: --cell is as 1-2, --from as 127.0.0.1
+fails -> 2 warnc: no such cell: --cell is as 1-2
 args chart --slots 4 --cell 1-2-3
-fails -> 2 warnc: no such cell or address: --cell is as 1-2, --from as 127.0.0.1
+fails -> 2 warnc: no such cell: --cell is as 1-2
 args chart --slots 4 --cell 1-65536
-fails -> 2 warnc: no such cell or address: --cell is as 1-2, --from as 127.0.0.1
+fails -> 2 warnc: no such cell: --cell is as 1-2
 args chart --cell 1-2
 usage -> 2 error:
 ";
