@@ -123,7 +123,11 @@ def plan_of(options, known_codes):
 
 def since(plan, book, rows):
     """Returns the octets of the rows of a book that are not among earlier ones, behind the cells, and tells of earlier
-    ones that the book hasn't any more."""
+    ones that the book hasn't any more.
+
+    Rows are compared as they are written, with the book that the kept messages come to by the same words and the same
+    start: yesterday's book had other slots. A row with another slot counts as gone and as new. Nothing takes it back
+    where it was sent: a book has no verb for that."""
     lines = [plan.line(it) for it in book.rows]
     had = Counter(plan.line(it) for it in rows)
     new = []

@@ -1,4 +1,5 @@
-"""The receipt: of each info of a message what became of it."""
+"""The receipt: of each info of a message what became of it. It is of the whole book also with --since, as the rows of
+an earlier call are still on the air."""
 from .run import key_of
 from .text import csv_row
 

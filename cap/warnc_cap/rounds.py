@@ -1,5 +1,9 @@
 """Makes a book of messages. What the program refuses changes what later messages come to, so the book is made anew
-until nothing new is refused."""
+until nothing new is refused.
+
+Of the writes that are to wait only the earliest are moved, since a moved write can't be asked again. A run of all
+cells, after those that refused most, may refuse something new and earlier: then later ones are moved back.
+"""
 from dataclasses import dataclass
 
 from . import text

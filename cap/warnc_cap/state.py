@@ -1,4 +1,5 @@
-"""What is kept from one call to the next: the messages, the codes of their names, and which rows were in a book."""
+"""What is kept from one call to the next: the messages, the codes of their names, and which rows were in a book, as one
+that lay past the end of a run is new in the run that has it."""
 import json
 import os
 

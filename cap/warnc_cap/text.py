@@ -127,6 +127,8 @@ def with_instructions(program, pages, pairs):
     """Returns a text of each pair of a headline and an instruction that are too long together: the longest front of the
     headline, between words, with which the instruction is whole; or if that is too long alone, its own front.
 
+    The end of an instruction is what people need most, so the headline gives way to it. The headline isn't left out, as
+    people should know what the instruction is about.
     The program costs the headline after the instruction first. The other way round they take almost as many septets.
     """
     costs = costs_of(program, pages, [f"{instruction}\n{headline}" for headline, instruction in pairs])
