@@ -88,6 +88,13 @@ class Edit:
         ((file, name),) = self.functions
         return name is not None and len(re.findall(rf"\bfn {name}\b", read(crate, file))) == 1
 
+    def function_path(self, crate):
+        """Returns its one function, as `rt check --only` takes it, or None if it is of none or of several."""
+        if len(self.functions) != 1:
+            return None
+        ((file, name),) = self.functions
+        return name and "::".join(it for it in (crate, module_of(file), name) if it)
+
     def put_into(self, texts, crate):
         """Puts the edit into the texts of a crate's files,
         or returns False where one of its own texts isn't there once."""
@@ -129,6 +136,12 @@ class Room:
         return ran.stdout
 
 
+def module_of(file):
+    """Returns the module that a file is, as the prover names it; nothing for that of the crate."""
+    module = file.removeprefix("src/").removesuffix(".rt").replace("/", "::")
+    return "" if module in ("lib", "main") else module
+
+
 def is_of_function(verdict, name):
     """Whether a verdict refuses a function for itself: for a goal of its own,
     or for a proof of its own that doesn't fit any more."""
@@ -141,9 +154,7 @@ def is_of_function(verdict, name):
 def has_open_goal(said, edit):
     """Whether the prover says that the edit's own function has a goal that is open."""
     ((file, name),) = edit.functions
-    module = file.removeprefix("src/").removesuffix(".rt").replace("/", "::")
-    if module in ("lib", "main"):
-        module = ""
+    module = module_of(file)
     for line in said.split("\n"):
         found = re.match(r"fn (\S+): (.*)", line)
         if found and found[1].endswith(f"::{name}") and module in found[1]:
@@ -170,15 +181,23 @@ def batches(crate, edits, size):
     return [it for it in shared if len(it[0]) > 1], alone + [it[0][0] for it in shared if len(it[0]) == 1]
 
 
+def has_refusal(said):
+    """Whether the prover says of a function that it isn't proved. A check that broke off, as of another checkout's
+    changed library, says nothing."""
+    return "holes=" in said and bool(re.search(r"^fn \S+: (no proof|not proved)", said, re.M))
+
+
 def is_refused_alone(room, edit):
-    """Whether an edit alone is refused. A check that broke off, as of another checkout's changed library,
-    says nothing."""
+    """Whether an edit alone is refused: in its own function, whose check is quicker, or in any of the crate."""
     texts = {}
     edit.put_into(texts, room.original)
+    path = edit.function_path(os.path.basename(room.crate))
+    if path and has_refusal(room.check(texts, "--allow-holes", "--only", path)):
+        return True
     said = room.check(texts, "--allow-holes")
     if "holes=" not in said:
         print(f"{edit.name}: the check broke off, and says nothing: {said[-400:]}")
-    return bool(re.search(r"^fn \S+: (no proof|not proved)", said, re.M))
+    return has_refusal(said)
 
 
 def try_crate(name, size):
