@@ -5,8 +5,8 @@ Usage: limits.py      fails if a constant has another value, if a file that has 
                       of 15, 64 and 65 stands bare in a crate that doesn't name it
 
 A bullet of the page begins with its number in bold. `NAME` in PATH is a constant of .rt, or an equation of .antt, that
-has this value; after "Bare:" come files that have the number without a name. The last section has the files in which
-one of these numbers is no limit.
+has this value, or a text that has it; after "Bare:" come files that have the number without a name. The last section
+has the files in which one of these numbers is no limit.
 """
 import os
 import re
@@ -39,7 +39,7 @@ def values_in(line):
 
 def is_given(name, value, lines, path):
     """Whether a source gives a name a value, in one line."""
-    form = rf"(?:pub(?:\(crate\))? )?const {name}: \w+ = (\S+);" if path.endswith(".rt") else rf"{name} = (\S+)"
+    form = rf"(?:pub(?:\(crate\))? )?const {name}: &?\w+ = (.+);" if path.endswith(".rt") else rf"{name} = (\S+)"
     found = [re.fullmatch(form, it.strip()) for it in lines]
     return any(it and values_in(it[1]) == {value} for it in found)
 

@@ -7,5 +7,5 @@ mod front;
 mod slot;
 pub mod tape;
 
-pub use blocks::{cut, idle};
+pub use blocks::{BLOCK_OCTETS, cut, idle};
 pub use tape::{Refused, Tape, WriteFailed, tape_of};

@@ -8,14 +8,14 @@ ghost use Rattle.cbch_blocks.specs.Blocks.{idle_blocks};
 ghost use Rattle.cbch_blocks.specs.RecordBlocks.{blocks_of_slot, octets_of_blocks, page_aired, pages_of_command};
 ghost use Rattle.cbch_blocks.specs.TapeSteps.{CanAir, CanSendPage, HasRoom, octets_of_slot};
 
-use crate::blocks::{cut, idle};
+use crate::blocks::{BLOCK_OCTETS, cut, idle};
 use crate::front::strip_front;
 use crate::tape::Refused;
 use bsc_table::{Aired, Command, Entry};
 use cbs_page::page_bytes;
 
 /// The four blocks of a page of a command.
-fn page_blocks(command: &Command, page: u8) -> [[u8; 23]; 4]
+fn page_blocks(command: &Command, page: u8) -> [[u8; BLOCK_OCTETS]; 4]
     requires { CanSendPage page command.now }
     ensures { result ≡ blocks_of_slot (slice_get (pages_of_command command.now) (page - 1)) }
 {
@@ -38,7 +38,7 @@ fn page_blocks(command: &Command, page: u8) -> [[u8; 23]; 4]
 }
 
 /// The four blocks of a slot that airs a page.
-fn aired_blocks(log: &[Entry], aired: Aired) -> [[u8; 23]; 4]
+fn aired_blocks(log: &[Entry], aired: Aired) -> [[u8; BLOCK_OCTETS]; 4]
     requires { CanAir log.now (aired_pair (Some aired)) }
     ensures { result ≡ blocks_of_slot (page_aired log.now (aired_pair (Some aired))) }
 {

@@ -14,6 +14,7 @@ use crate::blocks::{cut, idle};
 use crate::front::strip_front;
 use crate::slot::{put_page, strip_slot};
 use bsc_table::CellRecord;
+use cbs_page::PAGE_OCTETS;
 use cbsp_wire::Cell;
 use device_ends::{Sink, write_front};
 use std::alloc::Global;
@@ -76,7 +77,7 @@ impl Tape {
 
     /// Has a slot of the tape air a page: the blocks of the slot become those of the page, and no other octet changes.
     /// Takes no memory.
-    pub fn set(&mut self, slot: u16, page: &[u8; 88])
+    pub fn set(&mut self, slot: u16, page: &[u8; PAGE_OCTETS])
         requires { 8 + 92 * (slot + 1) ≤ length self.old }
         ensures set { self.new ≡ with_slot slot (blocks_of_page page.now) self.old }
         ensures long { length self.new ≡ length self.old }

@@ -18,7 +18,7 @@ pub mod text;
 pub use coding::{Alphabet, Dcs, language_dcs};
 pub use content::Content;
 pub use laws::{paging_laws, text_laws};
-pub use octets::{PageView, page_bytes, read_page};
+pub use octets::{PAGE_OCTETS, PageView, page_bytes, read_page};
 pub use paging::{MAX_PAGES, Paged, TextFault, paginate};
 pub use serial::Serial;
 pub use text::{Refused, page_text, push_page_text};

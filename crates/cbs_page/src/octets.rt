@@ -7,6 +7,9 @@ ghost use Rattle.cbs_page.specs.Text.{max_pages};
 use crate::coding::Dcs;
 use crate::serial::Serial;
 
+/// How many octets a page has (3GPP TS 23.041, clause 9.4.1).
+pub const PAGE_OCTETS: usize = 88;
+
 /// The octets of a page before its content.
 const HEADER: usize = 6;
 
@@ -35,13 +38,13 @@ pub fn page_bytes(
     number: u8,
     total: u8,
     content: &[u8; 82],
-) -> [u8; 88]
+) -> [u8; PAGE_OCTETS]
     requires first { 1 ≤ number }
     requires within { number ≤ total }
     requires pages { total ≤ max_pages }
     ensures { result ≡ octets_of_page id serial dcs.0 number total content.now }
 {
-    let mut octets = [0; 88];
+    let mut octets = [0; PAGE_OCTETS];
     let [serial_high, serial_low] = serial.number().to_be_bytes();
     let [id_high, id_low] = id.to_be_bytes();
     octets[0] = serial_high;
@@ -68,7 +71,7 @@ fn page_place(parameter: u8) -> (u8, u8)
 }
 
 /// What the 88 octets of a page say. A page parameter with 0 in either half is page 1 of 1.
-pub fn read_page(octets: &[u8; 88]) -> PageView
+pub fn read_page(octets: &[u8; PAGE_OCTETS]) -> PageView
     ensures { result ≡ view_of octets.now }
 {
     let mut content = [0; 82];

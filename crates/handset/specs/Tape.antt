@@ -17,6 +17,14 @@ max_slots = 65535
 abbrev pub max_tapes : ℕ
 max_tapes = 64
 
+-- the octets of a block: its type, and a quarter of a page. 3GPP TS 44.012
+abbrev pub block_octets : ℕ
+block_octets = 23
+
+-- the octets of a slot: four blocks
+abbrev pub slot_octets : ℕ
+slot_octets = 92
+
 -- what a tape says and shows: its cell, how many slots it has, and the messages that its blocks show
 pub record TapeReading : Type 0 where
   pub cell : Cell
@@ -57,12 +65,12 @@ reading_from header shown = record { cell = cell_in header; slots = slots_in hea
 
 -- how many octets the whole tape has that begins so
 abbrev pub tape_length : List ℕ → ℕ
-tape_length octets = 8 + 92 * slots_in octets
+tape_length octets = 8 + slot_octets * slots_in octets
 
 -- blocks of 23 octets, four for each slot
 pub record AreSlots (slots : ℕ) (blocks : List (List ℕ)) : Type 0 where
   pub four : length blocks ≡ 4 * slots
-  pub each : AllByRecursion (λ block. length block ≡ 23) blocks
+  pub each : AllByRecursion (λ block. length block ≡ block_octets) blocks
 
 -- octets are a tape: a header of eight, and the blocks of as many slots as it says; the reading is what these say and
 -- show
@@ -128,7 +136,7 @@ pub record IsLongWithin (most : ℕ) (input : List ℕ) : Type 0 where
   pub oversized : length readings < most → IsOversized rest
   pub more : length readings ≡ most → 0 < length rest
 
--- the same of the most tapes that an input may have
+-- the definitions above, for the most tapes that an input may have
 abbrev pub AreTapes : List ℕ → List TapeReading → Type 0
 AreTapes input readings = AreTapesWithin max_tapes input readings
 
