@@ -13,8 +13,8 @@ use Rattle.admission.specs.Waiting.{held_now, HandsOver, started_at}
 abbrev pub max_reserved : ℕ
 max_reserved = 64
 
--- each entry stands once, there are at most 64, what they hold now is no more than SCALE, each that waits does so
--- behind one that hands over to it, and no two behind the same
+-- each entry stands once, there are at most 64, what they hold now is no more than SCALE, each that waits, waits
+-- behind one that hands over to it, and no two wait behind the same one
 pub record IsAdmitted (table : List Held) : Type 0 where
   pub distinct : AllPairs (λ a b. a.entry ≢ b.entry) table
   pub places : length table ≤ max_reserved

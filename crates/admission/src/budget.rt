@@ -71,9 +71,9 @@ pub enum NoRoom {
 /// The loads that are reserved in a cell, in the order in which they were reserved.
 ///
 /// A contract sees a budget as the list of its reservations. Each entry stands in it once, there are at most 64
-/// reservations, and what they hold sums to at most `SCALE`, now and at each slot. Each reservation that waits does so
-/// behind one that has started and ends where it starts, and no two wait behind the same. The slots of `pass_slot` may
-/// come in any order.
+/// reservations, and what they hold sums to at most `SCALE`, now and at each slot. A reservation that waits, waits
+/// behind one that has started and ends where it starts, and no two wait behind the same one. The slots of `pass_slot`
+/// may come in any order.
 ///
 /// A third of a cell's slots fits three times: after `reserve(entry, load(1, 3), None)` for three entries,
 /// `fits(1, None)` answers `Err(NoRoom::Load)`. Where entry 2 then ends at slot 6,
@@ -123,9 +123,8 @@ impl Budget {
         }
     }
 
-    /// Whether `load` could wait now behind the entry `behind`, as if the entry `leaving` were gone: whether there is
-    /// room for what it has over the load of `behind`. It changes nothing. The entry `behind` is reserved and has
-    /// started.
+    /// Whether the excess of `load` over the load of the entry `behind` fits now, with the entry `leaving` left out:
+    /// then `load` could wait behind that entry. It changes nothing. The entry `behind` is reserved and has started.
     ///
     /// # Errors
     ///

@@ -75,7 +75,7 @@ rows_read_by meaning row before (fields ∷ more) =
 abbrev pub rows_by : RowMeaning → List (List (List ℕ)) → Result Rows BookFault
 rows_by meaning records = rows_read_by meaning 1 (rows_with [] []) records
 
--- the same of a book's rows
+-- the rows of a book
 abbrev pub rows_read : ℕ → Rows → List (List (List ℕ)) → Result Rows BookFault
 rows_read row before records = rows_read_by row_of row before records
 

@@ -43,7 +43,7 @@ group_size = 64
 abbrev pub cells_of_group : (group : ℕ) → List Cell → List Cell
 cells_of_group group cells = take group_size (drop (group_size * group) cells)
 
--- how many groups a network of so many cells has: one without cells has one
+-- how many groups a network of this many cells has: one without cells has one
 abbrev pub groups_of : (cells : ℕ) → ℕ
 groups_of cells = max 1 ((cells + 63) / group_size)
 
@@ -131,7 +131,7 @@ pub record IsGroupBook (group : ℕ) (input : List ℕ) (book : Contents) : Type
   pub orders : book.orders ≡ filter has_cells rows.orders
   pub paged : HavePages book.orders book.pages
 
--- the octets are a network book of so many groups
+-- the octets are a network book of this many groups
 pub record HasGroups (group : ℕ) (input : List ℕ) (groups : ℕ) : Type 0 where
   pub rows : Rows
   pub network : IsNetwork group input rows
@@ -148,7 +148,7 @@ IsWrongNetwork group input f =
 abbrev pub ReadsGroup : (old new : Option (List ℕ)) → (group : ℕ) → Contents → Type 0
 ReadsGroup old new group book = ReadsBy (IsGroupBook group) old new book
 
--- a network book was read like that, and has so many groups
+-- a network book was read like that, and has this many groups
 pub record CountsGroups (old new : Option (List ℕ)) (group groups : ℕ) : Type 0 where
   pub input : List ℕ
   pub consumed : Consumes old new input

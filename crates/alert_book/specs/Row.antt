@@ -133,6 +133,8 @@ row_of_verb_by verbs.Write declares row cells_of orders fields = write_row_by ro
 row_of_verb_by verbs.Update declares row cells_of orders fields = update_row_by row cells_of orders fields
 row_of_verb_by verbs.Stop declares row cells_of orders fields = stop_row_by row cells_of orders fields
 
+-- what a row means, by its verb. The fault of a row is promised to be the first in a fixed order, so this goes through
+-- its columns in that order, as the code does
 abbrev pub row_after_verb_by : Option Verb → (declares : Result Row RowFault) → (row : ℕ) → FieldCells → List Order
     → List (List ℕ) → Result Row RowFault
 row_after_verb_by None declares row cells_of orders fields = Err fault.Verb

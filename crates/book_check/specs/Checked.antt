@@ -51,7 +51,7 @@ pub record IsFrontOf (left old new : Option (List ℕ)) : Type 0 where
   pub written : AppendsFront old new output
 
 -- why a book is not clean, or nobody knows; `left` is what the reader had, and `old` and `new` are what the writer held
--- before and after. After a fault of the writer a front of the table is out
+-- before and after. After a fault of the writer a front of the table was written
 abbrev pub IsCheckFault : (left old new : Option (List ℕ)) → CheckFault → Type 0
 IsCheckFault left old new (faults.Faults count) = WritesOutput (HasFaults count) left old new
 IsCheckFault left old new faults.TooLong = IfSome left (λ input. max_book < length input)

@@ -47,7 +47,7 @@ pub record IsFrontOfRemarks (slots : ℕ) (left old new : Option (List ℕ)) : T
 
 -- why it isn't so that a book has no fault, and no remark if it is strict; `left` is what the reader had, and `old` and
 -- `new` are what the writer held before and after. After a fault of the writer a front of the one table or of the other
--- is out
+-- was written
 abbrev pub IsRemarkFault : (slots : ℕ) (strict : Bool) (left old new : Option (List ℕ)) → RemarkFault → Type 0
 IsRemarkFault slots strict left old new (faults.Faults count) = WritesOutput (HasFaults count) left old new
 IsRemarkFault slots strict left old new faults.TooLong = IfSome left (λ input. max_book < length input)

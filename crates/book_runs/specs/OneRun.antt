@@ -6,7 +6,7 @@ use Rattle.alert_book.specs.Origin.{IsBookFrom}
 use Rattle.bsc_table.specs.Record.{Record}
 use Rattle.book_runs.specs.Run.{Exchange, IsRun}
 
--- octets that are a book, or a group's of a network, have one run of so many slots: the same exchanges and the same
+-- octets that are a book, or a group's of a network, have one run of this many slots: the same exchanges and the same
 -- records, whatever made it
 abbrev pub RunsAreOne : Type 0
 RunsAreOne = (from : Origin) (input : List ℕ) (book other : Contents) (slots : ℕ)

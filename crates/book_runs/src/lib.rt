@@ -41,8 +41,8 @@ pub fn order_laws()
     composition::composition_laws();
 }
 
-/// States, as its contract, that a book has one run of so many slots. Does nothing: its body names the laws that carry
-/// it.
+/// States, as its contract, that a book has one run of this many slots. Does nothing: its body names the laws that
+/// carry it.
 pub fn one_run_law()
     ensures { RunsAreOne }
 {
@@ -99,8 +99,8 @@ pub fn cells_law()
     scheduler::air_laws();
 }
 
-/// States the same of runs that several sessions serve side by side. Does nothing: its body names the laws that carry
-/// it.
+/// States the law of `cells_law` for runs that several sessions serve side by side. Does nothing: its body names the
+/// laws that carry it.
 pub fn live_cells_law()
     ensures apart { CellsLiveApart }
     ensures joined { LivePartsMakeTheWhole }

@@ -26,8 +26,8 @@ NoneIsWhole pages text after = (m : ℕ) → after < m → m ≤ length text →
 abbrev pub NoneFits : (pages : ℕ) (text : List ℕ) (after : ℕ) → Type 0
 NoneFits pages text after = (m : ℕ) → after < m → m ≤ length text → FitsIn pages (take m text) → ⊥
 
--- of how many characters the front is to which a text is cut for so many pages: the longest that ends where a word may
--- end; where there is none that has a character, the longest of all
+-- of how many characters the front is to which a text is cut for this many pages: the longest that ends where a word
+-- may end; where there is none that has a character, the longest of all
 pub record IsCut (pages : ℕ) (text : List ℕ) (n : ℕ) : Type 0 where
   pub within : n ≤ length text
   pub fits : FitsIn pages (take n text)

@@ -97,7 +97,7 @@ pub record IsTextsOutput (pages : Option ℕ) (input output : List ℕ) : Type 0
   pub written : output ≡ header_line pages ++ lines
 
 -- why no table is written: the input is too long, or a row has a fault, the first of them; or out of memory, or a
--- device failed; after a fault of the writer a front of the table is out, and after any other fault nothing is
+-- device failed; after a fault of the writer a front of the table was written, and after any other fault nothing
 abbrev pub IsTextsFault : (pages : Option ℕ) (input : List ℕ) (old new : Option (List ℕ)) → TextsFault → Type 0
 IsTextsFault pages input old new fault.TooLong = (max_book < length input) × Keeps old new
 IsTextsFault pages input old new (fault.Row f) = (length input ≤ max_book) × IsRowFault input f × Keeps old new

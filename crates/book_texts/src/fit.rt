@@ -112,7 +112,7 @@ impl Front {
         }
     }
 
-    /// Whether the front takes so many pages at most.
+    /// Whether the front takes this many pages at most.
     fn fits(&self, pages: u64) -> bool
         ensures { (text : List ℕ) → HasTaken text self.now → (result ≡ true) ↔ FitsIn pages text }
     {
@@ -150,7 +150,7 @@ impl Best {
     }
 }
 
-/// Of how many characters the front of a text is to which it is cut for so many pages: the longest that fits and ends
+/// Of how many characters the front of a text is to which it is cut for this many pages: the longest that fits and ends
 /// before a space or LF, or with the text. If no such front has a character, it is the longest that fits.
 pub fn cut_for(text: &str, pages: u64) -> usize
     ensures { IsCut pages (chars text.now) result }

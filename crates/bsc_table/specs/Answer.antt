@@ -4,12 +4,12 @@
 -- 1. Cause 08: the log has 4,096 entries. For any command; such an answer has no entry. 2. Cause 0A: all slots of the
 -- run are played. Not for a status. 3. Cause 02: the message to replace or to stop isn't live. 4. Cause 0D: a message
 -- of the same identifier and serial number was accepted before. 5. Cause 07: 64 messages are reserved, each from the
--- slot at which it was accepted up to its end. Not for a background
---    message, which reserves nothing and isn't counted.
+-- slot at which it was accepted up to its end. Not for a background message, which reserves nothing and isn't
+-- counted.
 -- 6. Cause 06: the load doesn't fit beside those that are reserved, and there is no place that it may take over, or
---    what it has over the load that stands there doesn't fit either. Not for a background message.
+-- the excess over the load of that place doesn't fit either. Not for a background message.
 --
--- The definitions stand in the other direction, each below those that it asks next.
+-- The file has the definitions in the other direction, each below those that it asks next.
 use Rattle.std.specs.Prelude.{ℕ, ◌+◌, ◌==◌, nat_le, nat_lt, if◌then◌else◌, Option, Some, None, List, length, filter}
 use Rattle.admission.specs.declared.measure.TheConstants.{SCALE}
 use Rattle.admission.specs.Load.{load_of}
@@ -113,7 +113,7 @@ answer_with_room slots log air slot (commands.Kill id serial) = before_end slots
 answer_with_room slots log air slot (commands.Write id serial replaces category dcs period broadcasts contents) =
     before_end slots slot (answer_to_write log air slot id serial replaces category (load_of (length contents) period))
 
--- the answer to a command at a slot of a run of so many slots, by the entries before it and what is aired
+-- the answer to a command at a slot of a run of this many slots, by the entries before it and what is aired
 abbrev pub answer_of : ℕ → List Entry → Air → ℕ → Command → Answer
 answer_of slots log air slot command =
     if nat_le 4096 (length log) then answers.Cause BSC_MEMORY_EXCEEDED else answer_with_room slots log air slot command

@@ -18,7 +18,7 @@ sooner_of (Some stop) slot = min stop slot
 abbrev pub stands_until : ScheduledMessage → ℕ → ℕ
 stands_until m slot = sooner_of m.stop slot
 
--- so many of the broadcasts that were requested; 0 requested is no limit
+-- this many of the broadcasts that were requested; 0 requested is no limit
 abbrev pub cut_at : ℕ → ℕ → ℕ
 cut_at broadcasts count = if broadcasts == 0 then count else min broadcasts count
 
@@ -45,7 +45,7 @@ CompletedIsAtLeast = (messages : List ScheduledMessage) (air : Air) (slot : ℕ)
     → slot ≤ length air
     → All (λ m. least_completed m slot ≤ completed m air slot) messages
 
--- the same of the messages that aren't background, among some that are
+-- the law above for the messages that aren't background, among some that are
 abbrev pub ForegroundIsAtLeast : Type 0
 ForegroundIsAtLeast = (messages : List ScheduledMessage) (air : Air) (slot : ℕ)
     → NumbersRise messages

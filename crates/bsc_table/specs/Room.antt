@@ -17,7 +17,7 @@ pub record HandsOverTo (p w : Claim) : Type 0 where
   pub covered : own_load w.message ≤ w.excess + own_load p.message
 
 -- claims in order at a slot: all were accepted by then and start no sooner than they were accepted, each has a
--- period, each that waits does so behind one that hands over to it, and no two wait behind the same
+-- period, each that waits, waits behind one that hands over to it, and no two wait behind the same
 pub record AreInOrder (claims : List Claim) (now : ℕ) : Type 0 where
   pub rising : AllPairs (λ a b. a.message.entry < b.message.entry) claims
   pub accepted : All (λ c. c.accepted ≤ now) claims

@@ -13,7 +13,7 @@ use Rattle.bsc_table.specs.Answer.{answer_of}
 use Rattle.bsc_table.specs.Orders.{IsWellFormed}
 use Rattle.bsc_table.specs.Legal.{IsLegal}
 
--- the record of a cell that was opened for a run of so many slots
+-- the record of a cell that was opened for a run of this many slots
 abbrev pub opened : Cell → ℕ → Record
 opened cell slots = record { cell = cell; slots = slots; clock = 0; log = []; air = [] }
 
@@ -47,7 +47,7 @@ pub record IsPlayedUpTo (slot : ℕ) (before after : Record) : Type 0 where
   pub by_rule : (at : ℕ) → before.clock ≤ at → at < slot
       → IsChosen (messages_in before.log) after.air at (slice_index_or after.air at None)
 
--- a step: a command that is asked, or a play of so many slots
+-- a step: a command that is asked, or a play of this many slots
 pub data StepOfCell : Type 0 where
   Ask : Command → StepOfCell
   Play : ℕ → StepOfCell

@@ -578,8 +578,8 @@ impl CellBook {
         Ok(())
     }
 
-    /// The message of a pair, if one was accepted; else the place at which the table would look first for where the
-    /// pair goes. `near` is the place at which it looks now.
+    /// The accepted message with this identifier and serial number, or else where to insert the pair. The search
+    /// starts at `near`.
     fn named(&self, near: usize, id: u16, serial: Serial) -> Result<Kept, usize>
         ensures { message_kept result ≡ find (is_of_pair id serial) (accepted_in self.now.log) }
     {

@@ -155,7 +155,7 @@ octets_of_link m = first_octet_of m ∷ (long_length (length (body_of m)) ++ bod
 
 -- ---- which messages are written
 
--- at most so many items has a list, so that its length fits two octets
+-- at most this many items has a list, so that its length fits two octets
 abbrev pub most_items : ℕ
 most_items = 5000
 

@@ -21,7 +21,7 @@ use Rattle.chart.specs.Time.{seconds_at, step_of}
 abbrev pub number_of_marks : (slots : ℕ) → Air → ScheduledMessage → ℕ
 number_of_marks slots air m = count_by (is_marked air m) (range_with_len m.start (end_within slots m - m.start))
 
--- how many are drawn of a message of which so many broadcasts are whole
+-- how many are drawn of a message of which this many broadcasts are whole
 abbrev pub number_drawn : (whole slots : ℕ) → Air → ScheduledMessage → ℕ
 number_drawn whole slots air m = if are_many whole then 0 else number_of_marks slots air m
 

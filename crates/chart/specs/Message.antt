@@ -53,7 +53,7 @@ marks_of slots air (Some a) =
 abbrev pub are_many : (whole : ℕ) → Bool
 are_many whole = nat_lt MOST_MARKS whole
 
--- the marks that are drawn of a message of which so many broadcasts are whole: all, or none
+-- the marks that are drawn of a message of which this many broadcasts are whole: all, or none
 abbrev pub drawn_marks : (whole slots : ℕ) → Air → Option Accepted → List ℕ
 drawn_marks whole slots air found = if are_many whole then [] else marks_of slots air found
 
@@ -69,8 +69,8 @@ first_mark (Some slot) = first_mark_after slot
 abbrev pub period_of : Option Demand → ℕ
 period_of demand = option_map_or (λ demand. demand.period) demand 0
 
--- whether a message is broadcast every so many slots, or more often: its period is no longer, and its whole broadcasts
--- are no fewer from its start to its end, but for a last one
+-- whether a message is broadcast every this many slots, or more often: its period is no longer, and its whole
+-- broadcasts are no fewer from its start to its end, but for a last one
 abbrev pub is_every : (slots : ℕ) → Row → Bool
 is_every slots row =
     nat_lt 0 row.completed && nat_le (period_of row.demand) slots

@@ -8,7 +8,7 @@ use Rattle.chart.specs.declared.time.TheConstants as times
 unfoldable pub two_digits : ℕ → List ℕ
 two_digits number = decimal (number / 10) ++ decimal (number % 10)
 
--- so many seconds in hours, minutes and seconds, as 1:05:09
+-- this many seconds in hours, minutes and seconds, as 1:05:09
 unfoldable pub clock_text : (seconds : ℕ) → List ℕ
 clock_text seconds =
     decimal (seconds / 3600) ++ times.COLON.now ++ two_digits (seconds / 60 % 60) ++ times.COLON.now

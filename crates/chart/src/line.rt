@@ -182,7 +182,7 @@ fn push_message_title(page: &mut Page, row: &Row, all_text: &str) -> Result<(), 
     page.text(all_text)
 }
 
-/// The class of a bar of which so many broadcasts are whole, where they are too many for marks.
+/// The class of a bar of which this many broadcasts are whole, where they are too many for marks.
 fn many_class(whole: u16) -> &'static str
     ensures { result.now ≡ many_class whole }
 {

@@ -119,7 +119,7 @@ pub(crate) fn period_of(demand: Option<Demand>) -> u16
     }
 }
 
-/// Whether a message is broadcast every so many slots, or more often. The last of its broadcasts may be cut off.
+/// Whether a message is broadcast every this many slots, or more often. The last of its broadcasts may be cut off.
 fn is_every(slots: u16, row: &Row) -> bool
     ensures { result ≡ is_every slots row.now }
 {
@@ -153,7 +153,7 @@ pub(crate) fn are_many(whole: u16) -> bool
     whole > MOST_MARKS
 }
 
-/// Appends the marks of a message of which so many broadcasts are whole: all, or none where they are too many.
+/// Appends the marks of a message of which this many broadcasts are whole: all, or none where they are too many.
 pub(crate) fn push_drawn_marks(
     page: &mut Page,
     whole: u16,

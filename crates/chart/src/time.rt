@@ -53,7 +53,7 @@ fn push_two_digits(page: &mut Page, number: u64) -> Result<(), AllocError>
     page.number(number % 10)
 }
 
-/// Appends so many seconds as hours, minutes and seconds.
+/// Appends this many seconds as hours, minutes and seconds.
 #[tactic(auto, unfolding(crate::specs::Time::clock_text))]
 fn push_clock(page: &mut Page, seconds: u64) -> Result<(), AllocError>
     ensures { OnOk result (page.new ≡ page.old ++ clock_text seconds) }
@@ -100,7 +100,7 @@ pub(crate) fn push_slot(page: &mut Page, slot: u32) -> Result<(), AllocError>
     push_time_in_brackets(page, slot)
 }
 
-/// Whether a run of so many seconds lasts less than six such steps.
+/// Whether a run of this many seconds lasts less than six such steps.
 fn has_few(step: u16, seconds: u64) -> bool
     ensures { result ≡ has_few step seconds }
 {
@@ -183,7 +183,7 @@ fn push_tick_within(page: &mut Page, slots: u16, step: u16, number: u16) -> Resu
     push_tick(page, slots, seconds)
 }
 
-/// Appends so many ticks at most, from the begin of the run on.
+/// Appends this many ticks at most, from the begin of the run on.
 fn push_ticks_by(page: &mut Page, slots: u16, step: u16, most: u16) -> Result<(), AllocError>
     ensures { OnOk result (page.new ≡ page.old
         ++ flat_map (tick_within slots step) (range_with_len 0 most)) }

@@ -6,7 +6,7 @@
 //! - `in TEXT`, `in-hex DIGITS ..`, `in-worked`: a line of input, octets of it, or the worked octets. The first after
 //!   a run begins a new input; `in-cells FROM END` is the lines of these cells of LAC 1, the last one left out;
 //! `in-none` is one of no octets, and `repeat N` has the input N times;
-//! - `book TEXT`, `book-cells FROM END`, `book-none`: the same of the book that `verify` gets beside its input;
+//! - `book TEXT`, `book-cells FROM END`, `book-none`: such lines of the book that `verify` gets beside its input;
 //!   `bookless`: the next run gets none;
 //! - `worked TEXT`, `worked-hex DIGITS ..`: worked octets, with which an output is compared; `keep` has them be what
 //!   the last run wrote;

@@ -41,7 +41,7 @@ pub fn write_front<W: Write>(sink: &mut Sink<W>, octets: &[u8]) -> usize
 ///
 /// # Errors
 ///
-/// [`Failed`] if the sink has failed; then a front of them is out.
+/// [`Failed`] if the sink has failed; then a front of them was written.
 pub fn write_all<W: Write>(sink: &mut Sink<W>, octets: &[u8]) -> Result<(), Failed>
     ensures ok { OnOk result (Appends (W.contents (writer_of sink.old))
         (W.contents (writer_of sink.new)) octets.now) }

@@ -74,7 +74,8 @@ packet_meaning section kind body =
     (slice_get section.interfaces (interface_number section.order kind body))
     else None
 
--- how many octets are kept of a packet of so many, by an interface that keeps so many at most, or, if that is 0, all
+-- how many octets are kept of a packet of this many, by an interface that keeps this many at most, or, if that is 0,
+-- all
 abbrev pub kept_of : (length snap_length : ℕ) → ℕ
 kept_of length snap_length = if snap_length == 0 then length else min length snap_length
 

@@ -31,7 +31,7 @@ after_packets step number (Err why) (packet ∷ rest) = Err (record { packet = n
 unfoldable pub taken : {S : Type 0} → Taking S → List Packet → Result S AirFault
 taken by packets = after_packets by.step 0 (Ok by.start) packets
 
--- octets begin with whole pieces, of which the first begins here, and whose packets are so many and no fault; then
+-- octets begin with whole pieces, of which the first begins here, and whose packets are this many and no fault; then
 -- comes the rest. This is known after them
 pub record AreTaken {S : Type 0} (by : Taking S) (here : Section) (octets : List ℕ) (there : Section) (rest : List ℕ)
     (number : ℕ) (known : S) : Type 0

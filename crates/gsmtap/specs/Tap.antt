@@ -23,7 +23,7 @@ unfoldable pub after_type : List ℕ → Option (List ℕ)
 after_type octets =
     if nat_le 2 (length octets) && big_number 2 octets == 0x0800 then Some (drop 2 octets) else None
 
--- what follows a header of so many octets, two tags at most, and the type of IPv4
+-- what follows a header of this many octets, two tags at most, and the type of IPv4
 unfoldable pub after_header : (header : ℕ) → List ℕ → Option (List ℕ)
 after_header header octets =
     if nat_le header (length octets) then after_type (without_tag (without_tag (drop header octets))) else None

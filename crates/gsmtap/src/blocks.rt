@@ -199,7 +199,7 @@ fn found<'a>(link: u16, octets: &'a [u8]) -> Found<'a>
     })
 }
 
-/// How many octets are kept of a packet of an interface that keeps so many at most, or, if that is 0, all.
+/// How many octets are kept of a packet of an interface that keeps this many at most, or, if that is 0, all.
 fn kept_of(length: u32, snap_length: u32) -> u32
     ensures { result ≡ kept_of length snap_length }
 {

@@ -95,7 +95,7 @@ fn after_type(octets: &[u8]) -> Option<&[u8]>
     }
 }
 
-/// What follows a header of so many octets, two tags at most, and the type of IPv4.
+/// What follows a header of this many octets, two tags at most, and the type of IPv4.
 #[tactic(auto, unfolding(crate::specs::Tap::after_header))]
 fn after_header(header: usize, octets: &[u8]) -> Option<&[u8]>
     ensures { option_copied result ≡ after_header header octets.now }

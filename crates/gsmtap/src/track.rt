@@ -35,7 +35,7 @@ pub struct Air {
 }
 
 impl Air {
-    /// No block of a tape of so many slots.
+    /// No block of a tape of this many slots.
     pub fn new(alloc: Global, slots: u16) -> Result<Air, AllocError>
         ensures { IfOk result (λ air. known_of air ≡ nothing_known slots) }
     {

@@ -77,7 +77,7 @@ message_whole pages page = if is_kept_whole (name_of page) pages then message_ke
 abbrev pub message_ended : List PageView → PageView → List ShownMessage
 message_ended pages page = if counts pages page then message_whole (pages ++ page ∷ []) page else []
 
--- the same of a page that was read; one that isn't readable is passed over
+-- the pages after one that was read; a page that isn't readable is passed over
 abbrev pub pages_with_read : (Name → List PageView) → PageView → Name → List PageView
 pages_with_read pages page = if is_readable page then pages_with pages page else pages
 

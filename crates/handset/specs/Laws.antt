@@ -51,7 +51,7 @@ pub record HasOneTapeKind (input : List ℕ) : Type 0 where
   pub not_long : (reading : TapeReading) → IsTape input reading → ¬ IsLongTape input
   pub apart : IsShortTape input → ¬ IsLongTape input
 
--- the same of an input that is read as tapes up to the end
+-- read as tapes up to the end, an input has one list of readings at most, and is of one kind at most
 pub record HasOneTapesKind (input : List ℕ) : Type 0 where
   pub unique : (readings others : List TapeReading) → AreTapes input readings → AreTapes input others →
       readings ≡ others

@@ -172,7 +172,7 @@ impl Handset {
         self.partial.is_empty() && is_page_again(blocks, place)
     }
 
-    /// Whether a block changes nothing: it is then read as it is.
+    /// Whether reading this block would change nothing.
     fn passes_over(&self, block: &[u8; 23]) -> bool
         ensures { IsTrue result → (blocks : List (List ℕ)) → HasRead self.now blocks →
             HasRead self.now (blocks ++ block.now ∷ []) }

@@ -13,7 +13,7 @@ use Rattle.bsc_table.specs.Transitions.{IsPlayedUpTo, answered_with, entry_by, h
 use Rattle.order_desk.specs.declared.note.Note.{Note}
 use Rattle.order_desk.specs.declared.note.Note.TheVariants.{Event, Played, Full}
 
--- the record of a cell's run of so many slots, which is a legal history
+-- the record of a cell's run of this many slots, which is a legal history
 pub record IsRunOf (cell : Cell) (slots : ℕ) (r : Record) : Type 0 where
   pub of_cell : r.cell ≡ cell
   pub run : r.slots ≡ slots

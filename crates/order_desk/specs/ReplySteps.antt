@@ -2,7 +2,7 @@
 use Rattle.std.specs.Prelude.{◌≡◌, ℕ, ◌≤◌, [], vec_capacity}
 use Rattle.order_desk.specs.declared.desk.reply.ReplyRoom.{ReplyRoom}
 
--- there is room for the reply of so many cells, and nothing of it yet
+-- there is room for the reply of this many cells, and nothing of it yet
 pub record HasReplyRoom (count : ℕ) (room : ReplyRoom) : Type 0 where
   pub no_failures : room.failures.items ≡ []
   pub no_counts : room.counts.items ≡ []

@@ -96,14 +96,14 @@ fn judge(alloc: Global, book: &CellBook, notes: &CellNotes) -> Result<(), Settle
     }
 }
 
-/// Whether a book is a cell's, for a run of so many slots.
+/// Whether a book is a cell's, for a run of this many slots.
 fn is_book_of(slots: u16, cell: Cell, book: &CellBook) -> bool
     ensures { IsTrue result ↔ IsBookOf slots cell book.now }
 {
     book.cell() == cell && book.slots() == slots
 }
 
-/// The cell of the first book that isn't its own, or isn't of a run of so many slots.
+/// The cell of the first book that isn't its own, or isn't of a run of this many slots.
 fn first_wrong(cells: &[Cell], slots: u16, books: &[CellBook]) -> Option<Cell>
     requires { length cells.now ≡ length books.now }
     ensures none { result ≡ None → AllZip (IsBookOf slots) cells.now books.now }

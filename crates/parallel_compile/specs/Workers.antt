@@ -1,4 +1,4 @@
--- What workers do, and which fault so many of them meet.
+-- What workers do, and which fault this many of them meet.
 use Rattle.std.specs.Prelude.{◌≡◌, ◌<◌, ◌≤◌, ◌+◌, ◌⊎◌, ℕ, Bool, List, [], All, map}
 use Rattle.cbch_blocks.specs.RecordBlocks.{tape_of_record}
 use Rattle.bsc_table.specs.Record.{Record}
@@ -11,7 +11,7 @@ use Rattle.parallel_compile.specs.declared.fault.CompileFault.TheVariants as fau
 abbrev pub max_workers : ℕ
 max_workers = 64
 
--- a fault of a call with so many workers
+-- a fault of a call with this many workers
 abbrev pub IsOfWorkers : ℕ → CompileFault → Type 0
 IsOfWorkers workers fault.Workers = (workers ≡ 0) ⊎ (max_workers < workers)
 IsOfWorkers workers fault.Refused = (0 < workers) × (workers ≤ max_workers)
@@ -21,12 +21,12 @@ IsOfWorkers workers (fault.Piece index) = ⊥
 abbrev pub IsPieceOfRecord : List Record → (ℕ × List ℕ) → Type 0
 IsPieceOfRecord records piece = IsAmongPieces (map tape_of_record records) piece
 
--- a counter's first seat after so many splits
+-- a counter's first seat after this many splits
 abbrev pub IsSplit : CounterState → ℕ → SeatState → Type 0
 IsSplit counter splits seat =
     IsSeatOf counter seat × (seat.parts + splits ≡ all_parts) × (seat.spare + splits ≡ all_splits) × (seat.drawn ≡ [])
 
--- A seat with so many of the counter's parts, and the pieces that were made by it: of each number that it drew, in
+-- A seat with this many of the counter's parts, and the pieces that were made by it: of each number that it drew, in
 -- order.
 pub record IsDone (counter : CounterState) (records : List Record) (parts : ℕ) (over : Bool) (seat : SeatState)
     (pieces : List (ℕ × List ℕ)) : Type 0 where

@@ -34,7 +34,7 @@ pub fn compile_one(alloc: Global, records: &[CellRecord]) -> Result<Vec<Tape>, C
     Ok(tapes)
 }
 
-/// The tapes of at most 64 records, in their order, by so many workers: 1 to 64. They are those of [`compile_one`],
+/// The tapes of at most 64 records, in their order, by this many workers: 1 to 64. They are those of [`compile_one`],
 /// whichever worker makes which. `gate` is called with a record's place before its tape is made. Where no thread can be
 /// made, workers work one after the other.
 ///

@@ -167,7 +167,7 @@ fn stream_by_one<R: Wait, G: Gate>(
     Ok((board, passes))
 }
 
-/// Has so many workers play the cells, and puts their pieces on the board.
+/// Has this many workers play the cells, and puts their pieces on the board.
 fn stream<R: Threads + Wait + Sync, G: Gate>(
     rt: &R,
     alloc: Global,

@@ -101,7 +101,7 @@ fn joined(
     Ok(Work { seat, pieces })
 }
 
-/// The pieces of all records, in whatever order, by so many workers.
+/// The pieces of all records, in whatever order, by this many workers.
 pub(crate) fn pieces_of<R: Threads + Sync, G: Gate>(
     rt: &R,
     alloc: Global,

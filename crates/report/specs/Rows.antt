@@ -26,7 +26,7 @@ use Rattle.report.specs.declared.row.Row.{Row}
 use Rattle.report.specs.declared.row.Showing.{Showing}
 use Rattle.report.specs.declared.row.Showing.TheVariants as shown_status
 
--- the slot at which a message that nothing stopped ends in a run of so many slots: where the periods of its requested
+-- the slot at which a message that nothing stopped ends in a run of this many slots: where the periods of its requested
 -- broadcasts are over, if that comes before the run's end, and else that
 abbrev pub end_unstopped : (slots : ℕ) → ScheduledMessage → ℕ
 end_unstopped slots m = if m.broadcasts == 0 then slots else min (m.start + m.broadcasts * m.period) slots

@@ -40,7 +40,7 @@ fn end_slot(slots: u16, start: u32, period: u16, broadcasts: u16, stop: Option<u
     over.min(u64::from(slots)) as u16
 }
 
-/// What a write of so many pages asks of the channel.
+/// What a write of this many pages asks of the channel.
 fn demand_of(category: Category, pages: u8, period: u16) -> Demand
     requires { 0 < period }
     ensures { result ≡ demand_of (rank_of category) pages period }

@@ -43,7 +43,7 @@ impl Model for Stops {
 }
 
 impl Stops {
-    /// Those of no entries, with room for so many.
+    /// Those of no entries, with room for this many.
     fn with_room(alloc: Global, stops: usize) -> Result<Stops, AllocError>
         ensures { IfOk result (λ stops. AreStops stops []) }
     {

@@ -59,7 +59,7 @@ fn padded(came: &[u8]) -> [u8; 82]
     content
 }
 
-/// The content of so many of the first septets of a content, and CR after them.
+/// The content of this many of the first septets of a content, and CR after them.
 fn with_septets(content: &[u8; 82], count: usize) -> [u8; 82]
     ensures { result ≡ packed (take count (unpacked content.now)) }
 {
@@ -68,7 +68,7 @@ fn with_septets(content: &[u8; 82], count: usize) -> [u8; 82]
     pack(&septets)
 }
 
-/// The content of so many of the first units of a content, and CR after them.
+/// The content of this many of the first units of a content, and CR after them.
 fn with_units(content: &[u8; 82], count: usize) -> [u8; 82]
     ensures { result ≡ octets_of_units (take count (units_of_octets content.now)) }
 {

@@ -107,6 +107,7 @@ not_ordered asked before sent =
     if is_page_of_any asked sent.page || list_any (is_named_as sent.page) before then []
     else record { slot = sent.slot; id = sent.page.id; serial = sent.page.serial; kind = kinds.NotOrdered } ∷ []
 
+-- The walk of the code over the pages, said again: a page is reported at its first place alone
 abbrev pub not_ordered_after : List AskedMessage → (before sent : List SentPage) → List Difference
 not_ordered_after asked before [] = []
 not_ordered_after asked before (page ∷ rest) =

@@ -86,7 +86,7 @@ fn has_right_page(pages: &[JudgedPage], number: usize) -> bool
     false
 }
 
-/// Appends the differences of a message's broadcasts, in a run of so many slots.
+/// Appends the differences of a message's broadcasts, in a run of this many slots.
 ///
 /// # Errors
 ///

@@ -53,7 +53,7 @@ impl Model for Findings {
     ghost view = { λ f. record { cells = f.cells.items; seen = f.seen.items; others = f.others.items } };
 }
 
-/// What was found of a cell by a tape of so many slots, with these blocks. The only error is out of memory.
+/// What was found of a cell by a tape of this many slots, with these blocks. The only error is out of memory.
 fn judge(
     alloc: Global,
     run: &CellRecord,

@@ -20,7 +20,7 @@ IsPcapFault settings input old new fault.Refused = Keeps old new
 IsPcapFault settings input old new fault.WriteFailed =
     (output : List ℕ) × IsCapture settings input output × AppendsFront old new output
 
--- the fault that a fault of a capture is reported as
+-- the fault that a fault of a capture is reported as, name by name as in the code
 abbrev pub fault_of_capture : CaptureFault → PcapFault
 fault_of_capture capture.Short = fault.Short
 fault_of_capture capture.Long = fault.Long

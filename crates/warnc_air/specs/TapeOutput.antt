@@ -22,7 +22,7 @@ abbrev pub max_capture : ℕ
 max_capture = 1073741824
 
 -- why nothing is written of a capture file that has such faults and such outputs, out of memory and devices aside;
--- after a fault of the writer a front of the output is out, and after any other fault nothing is
+-- after a fault of the writer a front of the output was written, and after any other fault nothing
 abbrev pub IsCaptureFaultBy : (IsAir : List ℕ → AirFault → Type 0) (IsOutput : List ℕ → List ℕ → Type 0) →
     (input : List ℕ) (old new : Option (List ℕ)) → TapeCommandFault → Type 0
 IsCaptureFaultBy IsAir IsOutput input old new fault.ReadFailed = Keeps old new
@@ -37,7 +37,7 @@ IsCaptureFaultBy IsAir IsOutput input old new fault.WriteFailed =
 abbrev pub IsTapeCommandFault : Wanted → (input : List ℕ) (old new : Option (List ℕ)) → TapeCommandFault → Type 0
 IsTapeCommandFault wanted = IsCaptureFaultBy (IsAirFault wanted) (IsTapeOfCapture wanted)
 
--- the fault that a fault of a file is reported as
+-- the fault that a fault of a file is reported as, name by name as in the code
 abbrev pub fault_of_kind : AirFault → AirFaultKind → TapeCommandFault
 fault_of_kind why kind.Refused = fault.Refused
 fault_of_kind why other = fault.Air why

@@ -36,7 +36,7 @@ pub record HoldsText (language text : List ℕ) (pages : Pages) : Type 0 where
   pub octets : take pages.count pages.octets ≡ octets_of paged.pages.items
   pub used : take pages.count pages.used ≡ used_of paged.pages.items
 
--- in the room for pages, what stands after so many of them stays
+-- in the room for pages, what stands after this many of them stays
 abbrev pub KeepsRest : (count : ℕ) → (old new : Pages) → Type 0
 KeepsRest count old new = (drop count new.octets ≡ drop count old.octets) × (drop count new.used ≡ drop count old.used)
 

@@ -229,7 +229,7 @@ GivesBooks words (books.One from) = (is_given words (codes "--network") ≡ fals
 abbrev pub columns_given : (words : List (List ℕ)) → Columns
 columns_given words = if is_given words (codes "--full") then Full else Plain
 
--- what the words want to be made of a run of so many sessions: `compile` and `live` make tapes
+-- what the words want to be made of a run of this many sessions: `compile` and `live` make tapes
 abbrev pub GivesProduct : (words : List (List ℕ)) → Product → (sessions : ℕ) → Type 0
 GivesProduct words product.Tapes sessions =
     ((slice_get words 1 ≡ Some (codes "compile")) × (sessions ≡ 1))

@@ -88,7 +88,7 @@ pub record IsRunBetween {R W : Type 0} (task : Task) (status : ℕ) (held : W �
   -- and always if one has, if the sink had not failed before
   pub failed : sink_failed old ≡ false → OneHasFailed last new → status ≡ 3
 
--- the same of `verify`, which reads a book, too, and writes the differences with status 1
+-- what a run of `verify` keeps: it reads a book, too, and writes the differences with status 1
 pub record IsVerifyRunBetween {B R W : Type 0} (status : ℕ) (first_book last_book : Source B)
     (first last : Source R) (old new : Sink W) (before after : Option (List ℕ)) : Type 0 where
   pub statuses : status ≤ 4

@@ -151,9 +151,9 @@ IsNoBookFrom origin.Book input = IsNoBook input
 IsNoBookFrom (origin.Group group) input = IsNoNetwork group input
     ⊎ ((groups : ℕ) × (groups ≤ group) × HasGroups group input groups)
 
--- or the input has the book, whose run, of so many slots and with so many sessions, ends early: the desk finds the book
--- of another cell in a lock, or isn't settled, or a tape isn't its record's. What a lock of the desk holds, and what a
--- worker sends, is known by its type alone, so no contract excludes it
+-- or the input has the book, whose run, of this many slots and with this many sessions, ends early: the desk finds the
+-- book of another cell in a lock, or isn't settled, or a tape isn't its record's. What a lock of the desk holds, and
+-- what a worker sends, is known by its type alone, so no contract excludes it
 abbrev pub IsNoRun : (from : Origin) (slots parts : ℕ) (input : List ℕ) → Type 0
 IsNoRun from slots parts input = IsNoBookFrom from input
     ⊎ ((book : Contents) × IsBookFrom from input book × ((fault : RunFault) × StopsRun book slots parts fault))

@@ -156,7 +156,7 @@ fn task_in<'a, S: AsStr>(words: &'a [S]) -> Option<Task<'a>>
     }
 }
 
-/// What the words ask to be made of the run of a book, with so many sessions.
+/// What the words ask to be made of the run of a book, with this many sessions.
 fn run_in<'a, S: AsStr>(words: &'a [S], made: Product, sessions: Sessions) -> Option<Task<'a>>
     requires { GivesProduct (map S.text words.now) made sessions.number }
     ensures { IfSome result (IsTaskOf (map S.text words.now)) }

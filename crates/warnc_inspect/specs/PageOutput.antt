@@ -73,8 +73,8 @@ IsPageFault language input fault.Refused = Unit {0}
 IsPageFault language input fault.ReadFailed = ⊥
 IsPageFault language input fault.WriteFailed = ⊥
 
--- the same of a run from a reader to a writer, of which these are the octets before and after: after a fault of the
--- writer some of the output is out, and after any other fault nothing is
+-- why a run from a reader to a writer ends with a fault, where these are the writer's octets before and after: after a
+-- fault of the writer a front of the output was written, and after any other fault nothing
 abbrev pub IsStreamFault : (language : List ℕ) (id serial : ℕ) (input : List ℕ) (old new : Option (List ℕ)) → PageFault
     → Type 0
 IsStreamFault language id serial input old new fault.ReadFailed = Keeps old new

@@ -54,8 +54,8 @@ pub record IsReadOutput (wanted : Pages) (input output : List ℕ) : Type 0 wher
   pub tapes : AreReadings wanted input readings
   pub written : output ≡ table_of readings
 
--- why no table is written, out of memory and devices aside; after a fault of the writer a front of the table is out,
--- and after any other fault nothing is
+-- why no table is written, out of memory and devices aside; after a fault of the writer a front of the table was
+-- written, and after any other fault nothing
 abbrev pub IsReadFault : Pages → (input : List ℕ) (old new : Option (List ℕ)) → ReadCommandFault → Type 0
 IsReadFault wanted input old new fault.Short = IsShort input × Keeps old new
 IsReadFault wanted input old new fault.Long = IsLong input × Keeps old new

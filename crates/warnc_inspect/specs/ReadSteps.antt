@@ -18,7 +18,7 @@ pub record IsTable (table : Table) (octets : List ℕ) : Type 0 where
   pub ended : fields_written table.writer ≡ 0
   pub clean : has_written table.writer ≡ false
 
--- the fault that a fault of tapes is reported as
+-- the fault that a fault of tapes is reported as, name by name as in the code
 abbrev pub fault_of_tapes : TapeFault → ReadCommandFault
 fault_of_tapes tape.Short = fault.Short
 fault_of_tapes tape.Long = fault.Long

@@ -22,8 +22,8 @@ pub record IsWholeOutput (input output : List ℕ) : Type 0 where
   pub tapes : AreRecordings input recordings
   pub written : output ≡ whole_tapes recordings
 
--- why no tape is written, out of memory and devices aside; after a fault of the writer a front of the tapes is out, and
--- after any other fault nothing is
+-- why no tape is written, out of memory and devices aside; after a fault of the writer a front of the tapes was
+-- written, and after any other fault nothing
 abbrev pub IsWholeFault : (input : List ℕ) (old new : Option (List ℕ)) → ReadCommandFault → Type 0
 IsWholeFault input old new fault.Short = IsShort input × Keeps old new
 IsWholeFault input old new fault.Long = IsLong input × Keeps old new

@@ -24,7 +24,7 @@ abbrev pub IsProductOf : Product → Books → (slots sessions : ℕ) (input out
 IsProductOf made (books.One from) slots sessions = IsOutput made from slots sessions
 IsProductOf made books.EachGroup slots sessions = IsOfNetwork made slots sessions
 
--- the same of a run
+-- what a run writes for the octets that were read
 abbrev pub IsMadeBy : Run → Product → (input output : List ℕ) → Type 0
 IsMadeBy r made = IsProductOf made r.books r.slots r.sessions.number
 
@@ -44,7 +44,7 @@ IsOutputFault made (books.One from) slots sessions first last old new fault.Writ
 IsOutputFault made books.EachGroup slots sessions first last old new f =
     IsNetworkFault made slots sessions first last old new f
 
--- the same of a run
+-- why a run didn't write all of it
 abbrev pub IsUnmadeBy : Run → Product → (first last old new : Option (List ℕ)) → ProductFault → Type 0
 IsUnmadeBy r made = IsOutputFault made r.books r.slots r.sessions.number
 

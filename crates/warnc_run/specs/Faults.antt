@@ -65,7 +65,7 @@ IsOfProduct (fault.Desk f) made = ⊤
 IsOfProduct (fault.Settle f) made = ⊤
 IsOfProduct fault.Refused made = ⊤
 
--- why workers made no tapes, of octets that the reader has left before and after: there can't be so many of them, or
+-- why workers made no tapes, of octets that the reader has left before and after: there can't be this many of them, or
 -- the octets are a book, and memory ran out, or the tape at a place isn't that of the cell's record
 abbrev pub IsCompileFault : (from : Origin) (first last : Option (List ℕ)) → CompileFault → Type 0
 IsCompileFault from first last compile.Workers = ⊤
@@ -78,9 +78,9 @@ IsDeskFault (desk.Memory done) = ⊤
 IsDeskFault desk.Unknown = ⊤
 IsDeskFault other = ⊥
 
--- a fault of the settlement of a book's run with so many sessions: some notes of passes don't agree with what a closed
--- desk of the book's cells holds, and this is the first thing that is wrong; or the pass of this part isn't that of the
--- part's session, where their number stands for all later passes; or it is out of memory
+-- a fault of the settlement of a book's run with this many sessions: some notes of passes don't agree with what a
+-- closed desk of the book's cells holds, and this is the first thing that is wrong; or the pass of this part isn't that
+-- of the part's session, where their number stands for all later passes; or it is out of memory
 abbrev pub IsSettleFault : (book : Contents) (slots parts : ℕ) → SettleFault → Type 0
 IsSettleFault book slots parts (settle.Session part) = part ≤ parts
 IsSettleFault book slots parts other =
@@ -98,7 +98,7 @@ IsOfRun (fault.Desk f) = IsDeskFault f
 IsOfRun (fault.Compile f) = f ≡ compile.Refused
 IsOfRun fault.Refused = ⊤
 
--- a fault of the run of a book with so many sessions and by one worker: of its threads, or of its settlement
+-- a fault of the run of a book with this many sessions and by one worker: of its threads, or of its settlement
 abbrev pub IsOfBook : (book : Contents) (slots parts : ℕ) → RunFault → Type 0
 IsOfBook book slots parts (fault.Settle f) = IsSettleFault book slots parts f
 IsOfBook book slots parts other = IsOfRun other
@@ -111,10 +111,10 @@ StopsRun book slots parts (fault.Settle f) = (f ≢ settle.Refused) × IsSettleF
 StopsRun book slots parts (fault.Compile (compile.Piece index)) = ⊤
 StopsRun book slots parts other = ⊥
 
--- why nothing was made of a book, or of a group's, in runs of so many slots and with so many sessions: the fault is the
--- book's; or the network has no such group; or the octets are a book, and the desk was out of memory or found the book
--- of another cell, or wasn't settled; or it is the workers' fault; or memory ran out; and nothing is written. Or the
--- writer failed with a front of the tapes
+-- why nothing was made of a book, or of a group's, in runs of this many slots and with this many sessions: the fault is
+-- the book's; or the network has no such group; or the octets are a book, and the desk was out of memory or found the
+-- book of another cell, or wasn't settled; or it is the workers' fault; or memory ran out; and nothing is written. Or
+-- the writer failed with a front of the tapes
 abbrev pub IsRunFault : (from : Origin) (slots parts : ℕ) (Means : (input output : List ℕ) → Type 0)
     (first last old new : Option (List ℕ)) → RunFault → Type 0
 IsRunFault from slots parts Means first last old new (fault.Book f) = RefusesFrom from first last f × Keeps old new

@@ -12,7 +12,7 @@ use Rattle.warnc_run.specs.declared.product.ProductFault.TheVariants as fault
 abbrev pub group_line : (groups : ℕ) → List ℕ
 group_line groups = decimal groups ++ 10 ∷ []
 
--- what is written for the octets that were read: they are a network book of so many groups
+-- what is written for the octets that were read: they are a network book of this many groups
 abbrev pub IsGroupCount : (input output : List ℕ) → Type 0
 IsGroupCount input output = (groups : ℕ) × HasGroups 0 input groups × (output ≡ group_line groups)
 

@@ -26,7 +26,7 @@ pub record MakesFront (Means : (input output : List ℕ) → Type 0) (first last
     pub meant : Means input output
     pub front : AppendsFront old new output
 
--- how many octets a tape of so many slots has: a header of eight, and four blocks of 23 for each slot
+-- how many octets a tape of this many slots has: a header of eight, and four blocks of 23 for each slot
 abbrev pub tape_size : (slots : ℕ) → ℕ
 tape_size slots = 8 + 92 * slots
 

@@ -18,7 +18,7 @@ use Rattle.warnc_run.specs.Faults.{IsOfBook}
 use Rattle.warnc_run.specs.Made.{Makes, MakesFront}
 use Rattle.warnc_run.specs.Products.{octets_of, reading_of_record, RunOf}
 
--- the runs of a network: what is made of each of so many groups, and in runs of so many slots and sessions
+-- the runs of a network: what is made of each of this many groups, and in runs of this many slots and sessions
 pub record GroupRuns : Type 0 where
   pub made : Product
   pub slots : ℕ
@@ -49,7 +49,7 @@ ArePartsFrom runs input group (part ∷ parts) =
 abbrev pub joined_parts : List (List ℕ) → List ℕ
 joined_parts parts = flat_map (λ (part : List ℕ). part) parts
 
--- the octets are a network book, and these are the parts of so many of its first groups, one after the other
+-- the octets are a network book, and these are the parts of this many of its first groups, one after the other
 pub record AreFirstParts (made : Product) (slots sessions count : ℕ) (input output : List ℕ) : Type 0 where
   pub groups : ℕ
   pub counted : HasGroups 0 input groups
@@ -69,7 +69,7 @@ pub record IsOfNetwork (made : Product) (slots sessions : ℕ) (input output : L
   pub each : ArePartsFrom (record { made = made; slots = slots; parts = sessions; groups = groups }) input 0 parts
   pub written : output ≡ joined_parts parts
 
--- why there is no part of a group: out of memory; or its book's run, of so many slots and sessions and by one worker,
+-- why there is no part of a group: out of memory; or its book's run, of this many slots and sessions and by one worker,
 -- ended with this fault, which is of memory, or one that no contract excludes
 abbrev pub HasNoPart : (slots sessions group : ℕ) (input : List ℕ) → RunFault → Type 0
 HasNoPart slots sessions group input run.Refused = ⊤

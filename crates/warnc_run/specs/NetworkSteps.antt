@@ -36,7 +36,7 @@ IsMadeOf runs group input (Err f) = HasNoPart runs.slots runs.parts group input 
 abbrev pub IsRead : NetworkRows → Type 0
 IsRead network = (input : List ℕ) × MeansNetwork input network
 
--- and it has so many groups
+-- and it has this many groups
 abbrev pub AreGroupsOf : NetworkRows → (groups : ℕ) → Type 0
 AreGroupsOf network groups = groups ≡ groups_of (length network.cells)
 
@@ -51,7 +51,7 @@ AreMadeFor runs group network all =
     (i : ℕ) (other : Result Part RunFault) → i < length all
     → IsMadeFor runs (group + i) network (slice_index_or all i other)
 
--- the parts of so many groups from this one on were written
+-- the parts of this many groups from this one on were written
 pub record WritesParts (runs : GroupRuns) (group count : ℕ) (input : List ℕ) (old new : Option (List ℕ)) : Type 0
   where
     pub parts : List (List ℕ)
@@ -59,7 +59,7 @@ pub record WritesParts (runs : GroupRuns) (group count : ℕ) (input : List ℕ)
     pub each : ArePartsFrom runs input group parts
     pub appended : Appends old new (joined_parts parts)
 
--- so many of the octets were written, and no more, and not all
+-- this many of the octets were written, and no more, and not all
 abbrev pub WritesFrontOf : List ℕ → (old new : Option (List ℕ)) → Type 0
 WritesFrontOf octets old new = (taken : ℕ) × (taken < length octets) × Appends old new (take taken octets)
 
@@ -69,7 +69,7 @@ abbrev pub groups_together : Product → (workers : ℕ) → ℕ
 groups_together product.Tapes workers = workers
 groups_together other workers = 8 * workers
 
--- a front of the parts of at most so many was written, and not all of them
+-- a front of the parts of at most this many was written, and not all of them
 pub record WritesPartsFront (runs : GroupRuns) (group most : ℕ) (input : List ℕ) (old new : Option (List ℕ)) : Type
     0
   where
@@ -78,7 +78,7 @@ pub record WritesPartsFront (runs : GroupRuns) (group most : ℕ) (input : List 
     pub each : ArePartsFrom runs input group parts
     pub front : WritesFrontOf (joined_parts parts) old new
 
--- why not all of so many were written: after some there is one that has no part, or the writer failed
+-- why not all of this many were written: after some there is one that has no part, or the writer failed
 abbrev pub StopsParts : GroupRuns → (group count : ℕ) (input : List ℕ) (old new : Option (List ℕ)) → ProductFault
     → Type 0
 StopsParts runs group count input old new (fault.Run f) = ⊥

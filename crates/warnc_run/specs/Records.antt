@@ -18,7 +18,7 @@ pub record HasRunBook (from : Origin) (slots : ℕ) (first last : Option (List �
   pub ended : IsAtEnd last
   pub made : RunOf from slots 1 input records
 
--- the same of a reader before and after a call
+-- a call has read the book's octets from its reader, and these are the records
 abbrev pub HasRecords : {R : Type 0} → (left : R → Option (List ℕ)) → (from : Origin) (slots : ℕ)
     → (first last : Source R) → List Record → Type 0
 HasRecords left from slots first last records = Reads left (λ old new. HasRunBook from slots old new records) first last
@@ -28,7 +28,7 @@ abbrev pub IsRecordsFault : (from : Origin) (slots : ℕ) (first last : Option (
 IsRecordsFault from slots first last f =
     IsOfProduct f (product.Report columns.Plain) × IsRunFault from slots 1 (λ input output. ⊥) first last None None f
 
--- the same of a reader before and after a call
+-- a call has no records, by what its reader had before and after it
 abbrev pub HasNoRecords : {R : Type 0} → (left : R → Option (List ℕ)) → (from : Origin) (slots : ℕ)
     → (first last : Source R) → RunFault → Type 0
 HasNoRecords left from slots first last f = Reads left (λ old new. IsRecordsFault from slots old new f) first last

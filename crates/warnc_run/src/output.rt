@@ -21,7 +21,7 @@ use std::thread::Threads;
 
 /// Runs the sessions of a book's parts, and writes the tapes of its cells, by one worker. It has nobody to hand pages
 /// to while the desk is open, so the tapes are made of the settled records, each once, and there is nothing to compare.
-/// They are made as they are written: one alone is held, whose memory is taken before the first octet is out.
+/// They are made as they are written: one alone is held, whose memory is taken before the first octet is written.
 fn write_by_one<T: AllocGlobal + Threads + Wait + Sync, W: Write, G: Gate>(
     rt: &T,
     book: Book,
@@ -46,7 +46,7 @@ fn write_by_one<T: AllocGlobal + Threads + Wait + Sync, W: Write, G: Gate>(
     book_runs::session_laws();
     let records = records_after(rt, &book, slots, sessions, worker, gate)?;
     drop(book);
-    // its octets are overwritten, so that those of any cell do
+    // any cell will do: every octet is overwritten
     let tape = Tape::open(rt.alloc(), Cell { lac: 0, ci: 0 }, slots)?;
     match write_in_turn(tape, &records, sink) {
         Ok(()) => Ok(()),
@@ -54,7 +54,7 @@ fn write_by_one<T: AllocGlobal + Threads + Wait + Sync, W: Write, G: Gate>(
     }
 }
 
-/// Does so by several workers, which make all tapes before the first is written.
+/// Writes the tapes with several workers. All tapes are made before the first octet is written.
 fn write_by_several<T: AllocGlobal + Threads + Wait + Sync, W: Write, G: Gate>(
     rt: &T,
     book: &Book,

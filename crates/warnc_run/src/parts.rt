@@ -159,7 +159,7 @@ impl NetworkRun<'_> {
         }
     }
 
-    /// What comes of so many groups from the first on, which workers run side by side.
+    /// What comes of this many groups from the first on, which workers run side by side.
     fn parts_from<T: AllocGlobal + Threads + Wait + Sync>(
         &self,
         rt: &T,
@@ -191,7 +191,7 @@ impl NetworkRun<'_> {
         Ok(all)
     }
 
-    /// Makes the parts of so many groups from the first on, and writes them.
+    /// Makes the parts of this many groups from the first on, and writes them.
     fn write_batch<T: AllocGlobal + Threads + Wait + Sync, W: Write>(
         &self,
         rt: &T,
@@ -228,7 +228,7 @@ impl NetworkRun<'_> {
     }
 }
 
-/// Places for what comes of so many groups, of which nothing came yet.
+/// Places for what comes of this many groups, of which nothing came yet.
 fn none_yet(alloc: Global, count: u16) -> Result<Vec<Result<Part, RunFault>>, AllocError>
     ensures { IfOk result (λ all. length all.items ≡ count) }
 {

@@ -46,7 +46,7 @@ pub enum ProductFault {
         /// Why its run ended.
         fault: RunFault,
     },
-    /// The writer failed. A front of the text, or of the parts of a network's groups, is out.
+    /// The writer failed. A front of the text, or of the parts of a network's groups, was written.
     #[error("write failed")]
     WriteFailed,
 }

@@ -101,7 +101,7 @@ pub(crate) fn row_of(
     row_after_verb(alloc, row, declared, orders, names, &fields)
 }
 
-/// The same of a row of text.
+/// `row_of` for a row whose columns are text.
 pub(crate) fn row_after_verb<D: Declared>(
     alloc: Global,
     row: u32,

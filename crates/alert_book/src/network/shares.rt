@@ -25,7 +25,7 @@ impl Model for Shares {
 /// What cells a row names.
 #[derive(Debug, Drop)]
 pub enum Named {
-    /// All that were declared before it: so many.
+    /// All that were declared before it: this many.
     All(u32),
     /// These.
     Listed(Shares),

@@ -15,7 +15,7 @@ use crate::message::{LinkCell, LinkCount, LinkFailure, LinkMessage};
 use crate::writing::discriminator_of;
 use cbs_page::{Content, MAX_PAGES};
 
-/// How many items a list has at most (own): the length of so many fits two octets.
+/// How many items a list has at most (own): the length of this many fits two octets.
 const MOST_ITEMS: usize = 5000;
 
 /// Whether the cell is named without octets.

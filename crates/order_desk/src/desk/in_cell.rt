@@ -1,4 +1,4 @@
-//! What is done in a cell whose book is lent, and noted.
+//! Steps of one cell while its lock is held; each is recorded in the notes of the pass.
 
 ghost use Rattle.std.specs.Prelude.{◌≡◌, ◌+◌, ◌≤◌, ◌∷◌, [], ◌++◌, IfOk, IfErr, OnOk, OnErr, IsTrue, List, vec_len};
 ghost use Rattle.std.specs.Prelude.{vec_capacity};
@@ -45,7 +45,7 @@ fn ask(book: &mut CellBook, notes: &mut Vec<Note>, command: &Command) -> Result<
     Ok(answer)
 }
 
-/// Whether a lent book is that of a cell in a run of so many slots.
+/// Whether a lent book is that of a cell in a run of this many slots.
 pub(crate) fn is_book_of(book: &CellBook, cell: Cell, slots: u16) -> bool
     ensures { IsTrue result → IsRunOf cell slots book.now }
 {

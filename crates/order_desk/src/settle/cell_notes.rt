@@ -69,7 +69,7 @@ fn follows(last: SlotRange, range: SlotRange) -> bool
 }
 
 impl CellNotes {
-    /// No notes of a cell whose log has so many entries.
+    /// No notes of a cell whose log has this many entries.
     pub(crate) fn new(alloc: Global, entries: usize) -> Result<CellNotes, AllocError>
         ensures { IfOk result (λ notes. (r : Record) → length r.log ≡ entries → HasNoted r [] [] notes) }
     {

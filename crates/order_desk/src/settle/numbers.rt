@@ -21,7 +21,7 @@ fn first_not_full(entries: usize, notes: &CellNotes) -> Option<u16>
     }
 }
 
-/// The least number at which what was noted of a cell, whose log has so many entries, isn't right.
+/// The least number at which what was noted of a cell, whose log has this many entries, isn't right.
 pub(crate) fn first_strange(entries: usize, notes: &CellNotes) -> Option<u16>
     requires places { length notes.now.times_noted.items ≡ entries }
     requires few { entries ≤ 4096 }
