@@ -14,6 +14,7 @@ Usage: capture_reference.py [--used] [--channel 51|52] < tapes > air.pcap
 """
 import argparse
 import csv
+import datetime
 import os
 import random
 import re
@@ -40,6 +41,8 @@ MOST_SLOTS = 65535
 CHANNELS = {51: 15, 52: 12}
 # in a multiframe, by the channel's number in GSMTAP
 FIRST_FRAMES = {15: 32, 12: 8}
+# the microseconds from 1970 to the end of 2105
+END = 4_291_747_200 * 1000000
 CHOOSE = ": if several send, choose one by --from or --arfcn"
 
 
@@ -73,23 +76,24 @@ def packet(octets, when=(0, 0), order="<"):
     return struct.pack(order + "IIII", *when, len(octets), len(octets)) + octets
 
 
-def packet_of_block(number, lac, cell, place, block, channel):
+def packet_of_block(number, lac, cell, place, block, channel, start=0):
     slot, part = divmod(place, 4)
     multiframe = 8 * slot + part
-    when = divmod(multiframe * 51 * 120000 // 26, 1000000)
+    when = divmod(start + multiframe * 51 * 120000 // 26, 1000000)
     body = datagram(gsmtap((multiframe * 51 + FIRST_FRAMES[channel]) % FRAMES, channel, block))
     source, target = struct.pack(">HH", lac, cell), struct.pack(">I", 0x0A000000 + number)
     return packet(internet(source, target, slot % 65536, body), when)
 
 
-def capture_of(octets, used=False, channel=15):
+def capture_of(octets, used=False, channel=15, start=0):
     out = [file_header()]
     for number, (lac, cell, blocks) in enumerate(gsm.tapes_of(octets)):
         for slot in range(len(blocks) // 4):
             four = blocks[4 * slot:4 * slot + 4]
             if used and four == [gsm.IDLE] * 4:
                 continue
-            out += [packet_of_block(number, lac, cell, 4 * slot + it, block, channel) for it, block in enumerate(four)]
+            out += [packet_of_block(number, lac, cell, 4 * slot + it, block, channel, start)
+                    for it, block in enumerate(four)]
     return b"".join(out)
 
 
@@ -453,6 +457,16 @@ def compare_senders(program, run, rng, file):
             assert ran(program, words, file) == mine, f"run {run}: {words}"
 
 
+def random_start(rng):
+    """Returns the microsecond at which tapes begin, and the words that say it in the time of some zone."""
+    if rng.random() < 0.5:
+        return 0, []
+    start = rng.choice([0, END - 1, rng.randrange(END), rng.randrange(END // 1000000) * 1000000])
+    zone = datetime.timezone(datetime.timedelta(minutes=rng.randint(-14 * 60, 14 * 60)))
+    moment = datetime.datetime(1970, 1, 1, tzinfo=datetime.timezone.utc) + datetime.timedelta(microseconds=start)
+    return start, ["--start", moment.astimezone(zone).isoformat()]
+
+
 def compare(program, runs):
     rng, counts = random.Random(41), {}
     for run in range(runs):
@@ -460,10 +474,11 @@ def compare(program, runs):
         tape = random_tape(rng, slots)
         used, channel = rng.random() < 0.5, rng.choice([51, 52])
         words = ["pcap", "--channel", str(channel)] + ["--used"] * used
+        start, clock = random_start(rng)
         several = b"".join([tape] * rng.choice([0, 1, 1, 2, 65]) if slots < 8 else [tape])
         several = several if rng.random() < 0.9 else several[:rng.randrange(len(several) + 1)]
-        mine = made(capture_of, several, used, CHANNELS[channel])
-        assert ran(program, words, several) == mine, f"run {run}: {words}"
+        mine = made(capture_of, several, used, CHANNELS[channel], start)
+        assert ran(program, words + clock, several) == mine, f"run {run}: {words + clock}"
         lac, cell = struct.unpack_from(">HH", tape)
         back = ["tape", "--cell", f"{lac}-{cell}", "--slots"]
         whole = ran(program, ["pcap", "--channel", str(channel)], tape)

@@ -1236,6 +1236,8 @@ def tape_options(chance, command):
         options["--used"] = None
     if command == "pcap" and chance.random() < 0.5:
         options["--channel"] = chance.choice(("51", "52"))
+    if command == "pcap" and chance.random() < 0.5:
+        options["--start"] = chance.choice(("1970-01-01T00:00:00Z", "2026-11-28T20:00:00.5+01:00"))
     return options
 
 

@@ -40,7 +40,7 @@ _warnc() {
             verify) words="--book --slots --short --group --workers -h --help" ;;
             page) words="--lang --id --scope --code --update -h --help" ;;
             live) words="--slots --group --network --sessions --workers -h --help" ;;
-            pcap) words="--used --channel -h --help" ;;
+            pcap) words="--used --channel --start -h --help" ;;
             cells) words="-h --help" ;;
             tape) words="--cell --slots --first-slot --from --arfcn --channel -h --help" ;;
             whole) words="-h --help" ;;

@@ -59,6 +59,7 @@ complete -c warnc -n '__fish_seen_subcommand_from live' -x -l sessions -d 'How m
 complete -c warnc -n '__fish_seen_subcommand_from live' -x -l workers -d 'How many workers play cells and make tapes, or run groups, side by side, 1 to 64'
 complete -c warnc -n '__fish_seen_subcommand_from pcap' -l used -d 'Leaves out slots in which no page is sent'
 complete -c warnc -n '__fish_seen_subcommand_from pcap' -x -l channel -d 'The CBCH that the packets name' -a '51 52'
+complete -c warnc -n '__fish_seen_subcommand_from pcap' -x -l start -d 'When the first slot begins, as 2026-11-28T20:00:00Z, so that the capture can be merged with others'
 complete -c warnc -n '__fish_seen_subcommand_from tape' -x -l cell -d 'The cell that the tape names, as 1-2'
 complete -c warnc -n '__fish_seen_subcommand_from tape' -x -l slots -d 'How many slots the tape has, 1 to 65535, of 1.883 s; up to the last block if it isn\'t given'
 complete -c warnc -n '__fish_seen_subcommand_from tape' -x -l first-slot -d 'The slot of the tape in which the first block stands, 0 to 65535; 0 if it isn\'t given'

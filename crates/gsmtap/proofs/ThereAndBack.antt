@@ -34,6 +34,7 @@ use Rattle.gsmtap.specs.declared.pieces.Format.TheVariants.{Classic}
 use Rattle.gsmtap.specs.declared.packet.Channel.{Channel}
 use Rattle.gsmtap.specs.declared.packet.Channel.TheVariants.{BesideSdcch4, BesideSdcch8}
 use Rattle.gsmtap.specs.declared.packet.Place.{Place}
+use Rattle.gsmtap.specs.declared.packet.Start.{Start}
 
 header_order : octet_order_of file_header ≡ Some LowFirst
 unfolding file_header
@@ -96,11 +97,11 @@ packet_at channel place block = record { link = 228; octets = inside_of channel 
 abbrev pub whole_file : Section
 whole_file = record { format = Classic 228; order = LowFirst; interfaces = [] }
 
-packet_brings : (channel : Channel) (place : Place) (block : List ℕ) → length block ≡ 23 →
-    Brings whole_file (packet channel place block)
+packet_brings : (start : Start) (channel : Channel) (place : Place) (block : List ℕ) → length block ≡ 23 →
+    Brings whole_file (packet start channel place block)
     (record { section = whole_file; packet = Some (packet_at channel place block) })
 unfolding packet record_header internet_header datagram_header tap_header
-packet_brings channel place block long = record {
+packet_brings start channel place block long = record {
   is = record {
     long = rw long (lit≤ tt);
     whole = rw long refl;
@@ -208,40 +209,41 @@ packets_on channel cell slot (octets ∷ rest) =
     packets_in channel cell slot 0 (blocks_in_slot octets) ++ packets_on channel cell (slot + 1) rest
 
 -- their octets in the file, with their headers
-abbrev pub pieces_in : Channel → Cell → (slot block : ℕ) → List (List ℕ) → List (List ℕ)
-pieces_in channel cell slot block [] = []
-pieces_in channel cell slot block (octets ∷ rest) =
-    packet channel (at cell slot block) octets ∷ pieces_in channel cell slot (block + 1) rest
+abbrev pub pieces_in : Start → Channel → Cell → (slot block : ℕ) → List (List ℕ) → List (List ℕ)
+pieces_in start channel cell slot block [] = []
+pieces_in start channel cell slot block (octets ∷ rest) =
+    packet start channel (at cell slot block) octets ∷ pieces_in start channel cell slot (block + 1) rest
 
 -- those of slots
-abbrev pub pieces_on : Channel → Cell → (slot : ℕ) → List (List ℕ) → List (List ℕ)
-pieces_on channel cell slot [] = []
-pieces_on channel cell slot (octets ∷ rest) =
-    pieces_in channel cell slot 0 (blocks_in_slot octets) ++ pieces_on channel cell (slot + 1) rest
+abbrev pub pieces_on : Start → Channel → Cell → (slot : ℕ) → List (List ℕ) → List (List ℕ)
+pieces_on start channel cell slot [] = []
+pieces_on start channel cell slot (octets ∷ rest) =
+    pieces_in start channel cell slot 0 (blocks_in_slot octets) ++ pieces_on start channel cell (slot + 1) rest
 
-in_joined : (channel : Channel) (cell : Cell) (slot block : ℕ) (blocks : List (List ℕ)) →
-    flat_map (λ piece. piece) (pieces_in channel cell slot block blocks)
-    ≡ packets_of_blocks channel 0 cell slot block blocks
-in_joined channel cell slot block [] = refl
-in_joined channel cell slot block (octets ∷ rest) =
-    ap (λ xs. packet channel (at cell slot block) octets ++ xs) (in_joined channel cell slot (block + 1) rest)
+in_joined : (start : Start) (channel : Channel) (cell : Cell) (slot block : ℕ) (blocks : List (List ℕ)) →
+    flat_map (λ piece. piece) (pieces_in start channel cell slot block blocks)
+    ≡ packets_of_blocks start channel 0 cell slot block blocks
+in_joined start channel cell slot block [] = refl
+in_joined start channel cell slot block (octets ∷ rest) =
+    ap (λ xs. packet start channel (at cell slot block) octets ++ xs)
+    (in_joined start channel cell slot (block + 1) rest)
 
-slot_joined : (channel : Channel) (cell : Cell) (slot : ℕ) (octets : List ℕ) →
-    flat_map (λ piece. piece) (pieces_in channel cell slot 0 (blocks_in_slot octets))
-    ≡ packets_of_slot channel 0 cell slot octets
+slot_joined : (start : Start) (channel : Channel) (cell : Cell) (slot : ℕ) (octets : List ℕ) →
+    flat_map (λ piece. piece) (pieces_in start channel cell slot 0 (blocks_in_slot octets))
+    ≡ packets_of_slot start channel 0 cell slot octets
 unfolding packets_of_slot
-slot_joined channel cell slot octets = in_joined channel cell slot 0 (blocks_in_slot octets)
+slot_joined start channel cell slot octets = in_joined start channel cell slot 0 (blocks_in_slot octets)
 
-on_joined : (channel : Channel) (cell : Cell) (slot : ℕ) (slots : List (List ℕ)) →
-    flat_map (λ piece. piece) (pieces_on channel cell slot slots)
-    ≡ packets_of_slots (record { channel = channel; slots = All }) 0 cell slot slots
-on_joined channel cell slot [] = refl
-on_joined channel cell slot (octets ∷ rest) =
-    let front : List (List ℕ) = pieces_in channel cell slot 0 (blocks_in_slot octets) in
-    let back : List (List ℕ) = pieces_on channel cell (slot + 1) rest in
+on_joined : (start : Start) (channel : Channel) (cell : Cell) (slot : ℕ) (slots : List (List ℕ)) →
+    flat_map (λ piece. piece) (pieces_on start channel cell slot slots)
+    ≡ packets_of_slots (record { channel = channel; slots = All; start = start }) 0 cell slot slots
+on_joined start channel cell slot [] = refl
+on_joined start channel cell slot (octets ∷ rest) =
+    let front : List (List ℕ) = pieces_in start channel cell slot 0 (blocks_in_slot octets) in
+    let back : List (List ℕ) = pieces_on start channel cell (slot + 1) rest in
     flat_map-append (λ piece. piece) front back
-    ∙ ap (λ xs. xs ++ flat_map (λ piece. piece) back) (slot_joined channel cell slot octets)
-    ∙ ap (λ xs. packets_of_slot channel 0 cell slot octets ++ xs) (on_joined channel cell (slot + 1) rest)
+    ∙ ap (λ xs. xs ++ flat_map (λ piece. piece) back) (slot_joined start channel cell slot octets)
+    ∙ ap (λ xs. packets_of_slot start channel 0 cell slot octets ++ xs) (on_joined start channel cell (slot + 1) rest)
 
 bring-append : (here : Section) (front : List (List ℕ)) (between : Section) (first : List Packet)
     (back : List (List ℕ)) (there : Section) (second : List Packet) → BringAll here front between first →
@@ -257,29 +259,29 @@ bring-append here (piece ∷ front) between first back there second these those 
   bring-append these.0.section front between these.1 back there second these.4 those,
 )
 
-in_brings : (channel : Channel) (cell : Cell) (slot block : ℕ) (blocks : List (List ℕ)) →
+in_brings : (start : Start) (channel : Channel) (cell : Cell) (slot block : ℕ) (blocks : List (List ℕ)) →
     AllByRecursion (λ block. length block ≡ 23) blocks →
-    BringAll whole_file (pieces_in channel cell slot block blocks) whole_file
+    BringAll whole_file (pieces_in start channel cell slot block blocks) whole_file
     (packets_in channel cell slot block blocks)
-in_brings channel cell slot block [] each = (refl, refl)
-in_brings channel cell slot block (octets ∷ rest) each = (
+in_brings start channel cell slot block [] each = (refl, refl)
+in_brings start channel cell slot block (octets ∷ rest) each = (
   record { section = whole_file; packet = Some (packet_at channel (at cell slot block) octets) },
   packets_in channel cell slot (block + 1) rest,
-  packet_brings channel (at cell slot block) octets each.0,
+  packet_brings start channel (at cell slot block) octets each.0,
   refl,
-  in_brings channel cell slot (block + 1) rest each.1,
+  in_brings start channel cell slot (block + 1) rest each.1,
 )
 
-on_brings : (channel : Channel) (cell : Cell) (slot : ℕ) (slots : List (List ℕ)) →
+on_brings : (start : Start) (channel : Channel) (cell : Cell) (slot : ℕ) (slots : List (List ℕ)) →
     AllByRecursion (λ slot. length slot ≡ 92) slots →
-    BringAll whole_file (pieces_on channel cell slot slots) whole_file (packets_on channel cell slot slots)
-on_brings channel cell slot [] each = (refl, refl)
-on_brings channel cell slot (octets ∷ rest) each =
-    bring-append whole_file (pieces_in channel cell slot 0 (blocks_in_slot octets)) whole_file
-    (packets_in channel cell slot 0 (blocks_in_slot octets)) (pieces_on channel cell (slot + 1) rest) whole_file
+    BringAll whole_file (pieces_on start channel cell slot slots) whole_file (packets_on channel cell slot slots)
+on_brings start channel cell slot [] each = (refl, refl)
+on_brings start channel cell slot (octets ∷ rest) each =
+    bring-append whole_file (pieces_in start channel cell slot 0 (blocks_in_slot octets)) whole_file
+    (packets_in channel cell slot 0 (blocks_in_slot octets)) (pieces_on start channel cell (slot + 1) rest) whole_file
     (packets_on channel cell (slot + 1) rest)
-    (in_brings channel cell slot 0 (blocks_in_slot octets) (chunks_each 23 4 octets each.0))
-    (on_brings channel cell (slot + 1) rest each.1)
+    (in_brings start channel cell slot 0 (blocks_in_slot octets) (chunks_each 23 4 octets each.0))
+    (on_brings start channel cell (slot + 1) rest each.1)
 
 -- packets one after another
 after_append : (step : Known → Packet → Result Known AirFaultKind) (number : ℕ) (state : Result Known AirFaultKind)
@@ -443,11 +445,11 @@ nothing_there settings cell wanted = record {
 
 -- the tape of a capture of a tape is that tape
 pub there_and_back : CaptureHasTheTape
-there_and_back cell channel slots some few each =
+there_and_back cell channel start slots some few each =
     let wanted : Wanted = record { cell = cell; slots = Some (length slots); first_slot = 0; from = anyone } in
-    let settings : Settings = record { channel = channel; slots = All } in
+    let settings : Settings = record { channel = channel; slots = All; start = start } in
     let said : Cell = cell_in (tape_octets cell (length slots) []) in
-    let pieces : List (List ℕ) = pieces_on channel said 0 slots in
+    let pieces : List (List ℕ) = pieces_on start channel said 0 slots in
     let packets : List Packet = packets_on channel said 0 slots in
     let taken_all = packets_taken wanted channel said slots refl (omega arith) each in
     let blocks : octets_of_blocks (blocks_in taken_all.0.blocks) ≡ flat_map (λ slot. slot) slots =
@@ -461,7 +463,7 @@ there_and_back cell channel slots some few each =
         opens =
             opens_whole (capture settings (tape_with cell slots ∷ [])) (flat_map (λ piece. piece) pieces)
             (ap (λ octets. file_header ++ octets)
-            (append-nil (packets_of_slots settings 0 said 0 slots) ∙ sym (on_joined channel said 0 slots)));
+            (append-nil (packets_of_slots settings 0 said 0 slots) ∙ sym (on_joined start channel said 0 slots)));
         so = record {
           there = whole_file;
           number = length packets;
@@ -469,7 +471,7 @@ there_and_back cell channel slots some few each =
             pieces = pieces;
             packets = packets;
             split = sym (append-nil (flat_map (λ piece. piece) pieces));
-            bring = on_brings channel said 0 slots each;
+            bring = on_brings start channel said 0 slots each;
             many = refl;
             are_taken = taken_all.1;
           };

@@ -14,6 +14,7 @@ use Rattle.gsmtap.specs.declared.capture.Settings.{Settings}
 use Rattle.gsmtap.specs.declared.capture.Slots.{Slots}
 use Rattle.gsmtap.specs.declared.capture.Slots.TheVariants.{All, Used}
 use Rattle.gsmtap.specs.declared.packet.Channel.{Channel}
+use Rattle.gsmtap.specs.declared.packet.Start.{Start}
 
 -- a tape: the eight octets of its header, and the 92 octets of each of its slots
 pub record Tape : Type 0 where
@@ -53,20 +54,21 @@ is_in All slot = true
 is_in Used slot = not (bytes_eq slot (octets_of_blocks idle_blocks))
 
 -- the packets of blocks that follow each other in a slot, from this one on
-abbrev pub packets_of_blocks : Channel → (tape : ℕ) → Cell → (slot block : ℕ) → List (List ℕ) → List ℕ
-packets_of_blocks channel tape cell slot block [] = []
-packets_of_blocks channel tape cell slot block (octets ∷ rest) =
-    packet channel (record { tape = tape; cell = cell; slot = slot; block = block }) octets
-    ++ packets_of_blocks channel tape cell slot (block + 1) rest
+abbrev pub packets_of_blocks : Start → Channel → (tape : ℕ) → Cell → (slot block : ℕ) → List (List ℕ) → List ℕ
+packets_of_blocks start channel tape cell slot block [] = []
+packets_of_blocks start channel tape cell slot block (octets ∷ rest) =
+    packet start channel (record { tape = tape; cell = cell; slot = slot; block = block }) octets
+    ++ packets_of_blocks start channel tape cell slot (block + 1) rest
 
-unfoldable pub packets_of_slot : Channel → (tape : ℕ) → Cell → (slot : ℕ) → List ℕ → List ℕ
-packets_of_slot channel tape cell slot octets = packets_of_blocks channel tape cell slot 0 (blocks_in_slot octets)
+unfoldable pub packets_of_slot : Start → Channel → (tape : ℕ) → Cell → (slot : ℕ) → List ℕ → List ℕ
+packets_of_slot start channel tape cell slot octets =
+    packets_of_blocks start channel tape cell slot 0 (blocks_in_slot octets)
 
 -- the packets of slots that follow each other on a tape, from this one on
 abbrev pub packets_of_slots : Settings → (tape : ℕ) → Cell → (slot : ℕ) → List (List ℕ) → List ℕ
 packets_of_slots settings tape cell slot [] = []
 packets_of_slots settings tape cell slot (octets ∷ rest) =
-    (if is_in settings.slots octets then packets_of_slot settings.channel tape cell slot octets else [])
+    (if is_in settings.slots octets then packets_of_slot settings.start settings.channel tape cell slot octets else [])
     ++ packets_of_slots settings tape cell (slot + 1) rest
 
 -- the packets of tapes that follow each other, from this one on

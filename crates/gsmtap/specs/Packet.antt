@@ -6,6 +6,7 @@ use Rattle.byteorder.specs.Endian.{big_bytes, little_bytes}
 use Rattle.gsmtap.specs.declared.packet.Channel.{Channel}
 use Rattle.gsmtap.specs.declared.packet.Channel.TheVariants.{BesideSdcch4, BesideSdcch8}
 use Rattle.gsmtap.specs.declared.packet.Place.{Place}
+use Rattle.gsmtap.specs.declared.packet.Start.{Start}
 
 -- the 51-multiframe in which a block is sent, counted from the tape's first: a slot has eight of them, and its blocks
 -- go out in the first four (3GPP TS 45.002, clause 6.5.4)
@@ -27,6 +28,10 @@ frame_number channel place = (multiframe place * 51 + first_frame channel) % 271
 abbrev pub microseconds : Place → ℕ
 microseconds place = multiframe place * 51 * 120000 / 26
 
+-- and in microseconds of the clock, where the tape begins at this time
+abbrev pub clock_time : Start → Place → ℕ
+clock_time start place = 1000000 * start.second + start.microsecond + microseconds place
+
 -- numbers of 16 bits in network order, and of 32 bits with the low octets first
 abbrev pub network_words : List ℕ → List ℕ
 network_words words = flat_map (big_bytes 2) words
@@ -38,12 +43,12 @@ low_first_words words = flat_map (little_bytes 4) words
 abbrev pub packet_length : ℕ
 packet_length = 67
 
--- the header that the file puts before each packet: seconds, microseconds, how many octets are in the file, and how
--- many there were
-unfoldable pub record_header : Place → List ℕ
-record_header place =
-    low_first_words ((microseconds place / 1000000) ∷ (microseconds place % 1000000) ∷ packet_length ∷ packet_length
-    ∷ [])
+-- the header that the file puts before each packet: seconds, which go round after 32 bits, microseconds, how many
+-- octets are in the file, and how many there were
+unfoldable pub record_header : Start → Place → List ℕ
+record_header start place =
+    low_first_words ((clock_time start place / 1000000 % 4294967296) ∷ (clock_time start place % 1000000)
+    ∷ packet_length ∷ packet_length ∷ [])
 
 -- the checksum of the ten words of an IPv4 header, among which its own counts as 0: with it, their sum is a multiple of
 -- 65,535, that is, their one's complement sum is FFFF (RFC 1071)
@@ -80,6 +85,6 @@ tap_header channel place =
     ++ (channel_number channel ∷ 0 ∷ 2 ∷ 0 ∷ [])
 
 -- a block as a packet of the file
-unfoldable pub packet : Channel → Place → List ℕ → List ℕ
-packet channel place block =
-    record_header place ++ internet_header place ++ datagram_header ++ tap_header channel place ++ block
+unfoldable pub packet : Start → Channel → Place → List ℕ → List ℕ
+packet start channel place block =
+    record_header start place ++ internet_header place ++ datagram_header ++ tap_header channel place ++ block

@@ -8,7 +8,7 @@ ghost use Rattle.gsmtap.specs.Capture.{packets_of_slots};
 ghost use Rattle.gsmtap.specs.CaptureSteps.{IsNextFault, PushesTape};
 ghost use Rattle.gsmtap.specs.declared.capture.CaptureFault.TheVariants.{Refused};
 
-use crate::packet::{Channel, Place, push_packet};
+use crate::packet::{Channel, Place, Start, push_packet};
 use byteorder::{BigEndian, ByteOrder, LittleEndian};
 use cbch_blocks::idle;
 use cbsp_wire::Cell;
@@ -38,6 +38,8 @@ pub struct Settings {
     pub channel: Channel,
     /// Which slots are in it.
     pub slots: Slots,
+    /// When the tapes begin, all at one time.
+    pub start: Start,
 }
 
 /// Why an input has no capture.
@@ -162,7 +164,7 @@ fn push_slots(
 {
     for (slot, octets) in slots.iter().enumerate() {
         if is_in(settings.slots, octets) {
-            push_slot(output, settings.channel, tape, cell, slot as u16, octets)?;
+            push_slot(output, settings, tape, cell, slot as u16, octets)?;
         }
     }
     Ok(())
@@ -182,14 +184,14 @@ fn is_in(slots: Slots, octets: &[u8; 92]) -> bool
 #[tactic(auto, unfolding(crate::specs::Capture::packets_of_slot))]
 fn push_slot(
     output: &mut Vec<u8>,
-    channel: Channel,
+    settings: Settings,
     tape: u16,
     cell: Cell,
     slot: u16,
     octets: &[u8; 92],
 ) -> Result<(), AllocError>
     ensures { OnOk result (output.new.items
-        ≡ output.old.items ++ packets_of_slot channel tape cell slot octets.now) }
+        ≡ output.old.items ++ packets_of_slot settings.start settings.channel tape cell slot octets.now) }
 {
     let (blocks, _) = octets.as_chunks::<23>();
     for (block, octets) in blocks.iter().enumerate() {
@@ -199,7 +201,7 @@ fn push_slot(
             slot,
             block: block as u8,
         };
-        push_packet(output, channel, &place, octets)?;
+        push_packet(output, settings.start, settings.channel, &place, octets)?;
     }
     Ok(())
 }

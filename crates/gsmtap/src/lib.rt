@@ -22,6 +22,6 @@ pub use capture::{CaptureFault, Settings, Slots, capture_of};
 pub use fault::{AirFault, AirFaultKind};
 pub use heard::{Heard, heard_in_capture};
 pub use laws::capture_laws;
-pub use packet::{Channel, Place, push_packet};
+pub use packet::{Channel, Place, Start, push_packet};
 pub use tap::Station;
 pub use tape::{ChannelType, Sender, Wanted, tape_of_capture};

@@ -1,7 +1,7 @@
 //! One block as a packet of a capture.
 
 ghost use Rattle.std.specs.Prelude.{◌≡◌, ◌+◌, ◌*◌, ◌<◌, ◌^◌, ◌++◌, OnOk};
-ghost use Rattle.gsmtap.specs.Packet.{channel_number, checksum, datagram_header, first_frame};
+ghost use Rattle.gsmtap.specs.Packet.{channel_number, checksum, clock_time, datagram_header, first_frame};
 ghost use Rattle.gsmtap.specs.Packet.{frame_number, internet_header};
 ghost use Rattle.gsmtap.specs.Packet.{microseconds, packet, record_header, tap_header, words_after, words_before};
 
@@ -14,6 +14,9 @@ const PORT: u16 = 4729;
 
 /// How many octets a packet has from its IPv4 header on.
 const LENGTH: u32 = 67;
+
+/// How many seconds a file can say before they go round.
+const SECONDS: u64 = 0x1_0000_0000;
 
 /// The cell broadcast channel that blocks are said to come from. It stands beside other SDCCHs, in place of their
 /// number 2 (3GPP TS 45.002, clause 7).
@@ -47,6 +50,15 @@ impl Channel {
     }
 }
 
+/// When the first slot of a tape begins, on the clock of a capture: the time since 1970-01-01T00:00:00Z.
+#[derive(Clone, Copy, Debug, PartialEq, Eq)]
+pub struct Start {
+    /// Its seconds. A file has 32 bits for the seconds of a packet, and later times go round.
+    pub second: u32,
+    /// Microseconds beside them.
+    pub microsecond: u32,
+}
+
 /// Where a block stands on the air.
 #[derive(Clone, Copy, Debug, PartialEq, Eq)]
 pub struct Place {
@@ -64,13 +76,14 @@ pub struct Place {
 #[tactic(auto, unfolding(crate::specs::Packet::packet))]
 pub fn push_packet(
     output: &mut Vec<u8>,
+    start: Start,
     channel: Channel,
     place: &Place,
     block: &[u8; 23],
 ) -> Result<(), AllocError>
-    ensures { OnOk result (output.new.items ≡ output.old.items ++ packet channel place.now block.now) }
+    ensures { OnOk result (output.new.items ≡ output.old.items ++ packet start channel place.now block.now) }
 {
-    output.extend_from_slice(&record_header(place))?;
+    output.extend_from_slice(&record_header(start, place))?;
     output.extend_from_slice(&internet_header(place))?;
     output.extend_from_slice(&datagram_header())?;
     output.extend_from_slice(&tap_header(channel, place))?;
@@ -85,6 +98,13 @@ fn microseconds(place: &Place) -> u64
     (8 * u64::from(place.slot) + u64::from(place.block)) * 51 * 120_000 / 26
 }
 
+/// When a block is sent, in microseconds of the clock.
+fn clock_time(start: Start, place: &Place) -> u64
+    ensures { result ≡ clock_time start place.now }
+{
+    1_000_000 * u64::from(start.second) + u64::from(start.microsecond) + microseconds(place)
+}
+
 /// The number of a block's first frame.
 fn frame_number(channel: Channel, place: &Place) -> u32
     ensures { result ≡ frame_number channel place.now }
@@ -95,13 +115,13 @@ fn frame_number(channel: Channel, place: &Place) -> u32
 
 /// The header of a packet in the file.
 #[tactic(auto, unfolding(crate::specs::Packet::record_header))]
-fn record_header(place: &Place) -> [u8; 16]
-    ensures { result ≡ record_header place.now }
+fn record_header(start: Start, place: &Place) -> [u8; 16]
+    ensures { result ≡ record_header start place.now }
 {
-    let time = microseconds(place);
+    let time = clock_time(start, place);
     let mut octets = [0; 16];
     let words = [
-        (time / 1_000_000) as u32,
+        (time / 1_000_000 % SECONDS) as u32,
         (time % 1_000_000) as u32,
         LENGTH,
         LENGTH,

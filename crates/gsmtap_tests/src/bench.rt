@@ -3,7 +3,8 @@
 //! The octets are what these lines add: `hex DIGITS ..`; `idle N`, the blocks of N idle slots; `repeat N` has them N
 //! times, and `new` begins anew. `want DIGITS ..` adds octets with which an output is compared.
 //!
-//! `capture SLOTS CHANNEL` makes the capture of the octets, of `all` slots or the `used` ones, for channel 51 or 52;
+//! `capture SLOTS CHANNEL` makes the capture of the octets, of `all` slots or the `used` ones, for channel 51 or 52,
+//! and `capture SLOTS CHANNEL SECOND MICROSECOND` that which begins at this time;
 //! `tape LAC CI N` their tape of N slots (`-` for as many as there are), and `tape LAC CI N ADDRESS ARFCN sdcch` that
 //! of the packets from the address of these eight digits, on this radio channel, and marked as SDCCH; `-` is any. The
 //! answer is `as wanted`, or how many octets come out, or the fault. An output that is as wanted becomes the octets,
@@ -13,8 +14,8 @@
 //! address, radio channel, mark, and first and last packet, and a semicolon.
 
 use gsmtap::{
-    Channel, ChannelType, Heard, Sender, Settings, Slots, Wanted, capture_of, heard_in_capture,
-    tape_of_capture,
+    Channel, ChannelType, Heard, Sender, Settings, Slots, Start, Wanted, capture_of,
+    heard_in_capture, tape_of_capture,
 };
 use std::alloc::Global;
 use std::process::Abort;
@@ -67,6 +68,14 @@ fn judged(alloc: Global, bench: &mut Bench, output: Vec<u8>) -> Result<String, F
     Ok(String::from_str(alloc, "as wanted")?)
 }
 
+/// The number that a word is, 0 where there is none.
+fn number_or_0(words: &mut Words) -> Result<u32, Fail> {
+    match words.word() {
+        "" => Ok(0),
+        number => Ok(number.parse::<u32>()?),
+    }
+}
+
 /// Makes the capture of the octets.
 fn capture(alloc: Global, bench: &mut Bench, words: &mut Words) -> Result<String, Fail> {
     let slots = match words.word() {
@@ -77,8 +86,17 @@ fn capture(alloc: Global, bench: &mut Bench, words: &mut Words) -> Result<String
         52 => Channel::BesideSdcch8,
         _ => Channel::BesideSdcch4,
     };
+    let start = Start {
+        second: number_or_0(words)?,
+        microsecond: number_or_0(words)?,
+    };
+    let settings = Settings {
+        channel,
+        slots,
+        start,
+    };
     bench.drought.begin(alloc);
-    let outcome = capture_of(alloc, &bench.octets, Settings { channel, slots });
+    let outcome = capture_of(alloc, &bench.octets, settings);
     bench.drought.end();
     match outcome {
         Ok(output) => judged(alloc, bench, output),

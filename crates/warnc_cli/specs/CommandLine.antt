@@ -2,7 +2,7 @@
 use Rattle.std.specs.Prelude.{◌≡◌, ℕ, ◌+◌, ◌≤◌, ◌||◌, ◌⊎◌, Bool, false, true, if◌then◌else◌, nat_eq, List, ◌∷◌, ◌++◌}
 use Rattle.std.specs.Prelude.{Some}
 use Rattle.std.specs.Prelude.{codes}
-use Rattle.std.specs.Prelude.{slice_get, ◌<◌, [], Option, None}
+use Rattle.std.specs.Prelude.{slice_get, ◌<◌, [], Option, None, ℤ, pos, int_div, Ok}
 use Rattle.std.specs.List.{list_any, starts_with}
 use Rattle.std.specs.Str.{bytes_eq}
 use Rattle.std.specs.Str.Parse.{IsNumeral, digits_value, without_leading_plus}
@@ -16,10 +16,12 @@ use Rattle.gsmtap.specs.declared.capture.Settings.{Settings}
 use Rattle.gsmtap.specs.declared.capture.Slots.{Slots}
 use Rattle.gsmtap.specs.declared.capture.Slots.TheVariants.{All, Used}
 use Rattle.gsmtap.specs.declared.packet.Channel.{Channel}
+use Rattle.gsmtap.specs.declared.packet.Start.{Start}
 use Rattle.gsmtap.specs.declared.tape.Wanted.{Wanted}
 use Rattle.gsmtap.specs.declared.packet.Channel.TheVariants.{BesideSdcch4, BesideSdcch8}
 use Rattle.gsmtap.specs.declared.tape.ChannelType.{ChannelType}
 use Rattle.gsmtap.specs.declared.tape.ChannelType.TheVariants.{Cbch, Sdcch}
+use Rattle.jiff.specs.Words.{parse_timestamp}
 use Rattle.report.specs.declared.row.Columns.{Columns}
 use Rattle.report.specs.declared.row.Columns.TheVariants.{Full, Plain}
 use Rattle.short_pages.specs.declared.pages.Pages.{Pages}
@@ -111,11 +113,27 @@ GivesChannel words BesideSdcch8 = GivesNumber words (codes "--channel") 52
 abbrev pub AsksForWhole : (words : List (List ℕ)) → Type 0
 AsksForWhole words = slice_get words 1 ≡ Some (codes "whole")
 
+-- a text writes a time as RFC 3339 has it, from 1970 to 2105: it is this time since 1970-01-01T00:00:00Z, cut to the
+-- microsecond
+pub record IsClockTime (text : List ℕ) (start : Start) : Type 0 where
+  pub nanoseconds : ℤ
+  pub read : parse_timestamp text ≡ Ok nanoseconds
+  pub cut : int_div nanoseconds (pos 1000) ≡ pos (1000000 * start.second + start.microsecond)
+  pub small : start.microsecond < 1000000
+  pub early : start.second < 4291747200
+
+-- the words say when the tapes begin: at 1970-01-01T00:00:00Z where no word begins with the option's name
+abbrev pub GivesStart : (words : List (List ℕ)) → Start → Type 0
+GivesStart words start =
+    ((text : List ℕ) × GivesValue words (codes "--start") text × IsClockTime text start)
+    ⊎ ((is_given words (codes "--start") ≡ false) × (start ≡ record { second = 0; microsecond = 0 }))
+
 -- the words ask for `pcap`
 pub record AsksForPcap (words : List (List ℕ)) (settings : Settings) : Type 0 where
   pub command : slice_get words 1 ≡ Some (codes "pcap")
   pub slots : settings.slots ≡ slots_given words
   pub channel_given : GivesChannel words settings.channel
+  pub start_given : GivesStart words settings.start
 
 -- the words give a number of slots, 1 to 65,535
 pub record GivesSlots (words : List (List ℕ)) (slots : ℕ) : Type 0 where

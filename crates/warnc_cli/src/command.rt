@@ -10,6 +10,7 @@ ghost use Rattle.warnc_cli.specs.CommandLine.{columns_given, slots_given, GivesB
 ghost use Rattle.warnc_cli.specs.CommandLine.{pages_given, GivesProduct, GivesTapeSlots, IsNumber};
 ghost use Rattle.warnc_cli.specs.Tasks.{IsTaskOf};
 
+use crate::start::start_in;
 use alert_book::Origin;
 use cbs_page::{MAX_PAGES, Serial};
 use cbsp_wire::Cell;
@@ -116,6 +117,7 @@ fn task_in<'a, S: AsStr>(words: &'a [S]) -> Option<Task<'a>>
         "pcap" => Some(Task::Pcap(Settings {
             channel: channel_in(words)?,
             slots: captured_slots(words),
+            start: start_in(words)?,
         })),
         "cells" => Some(Task::Cells),
         "tape" => Some(Task::Tape(Wanted {
@@ -485,7 +487,7 @@ fn number_of<S: AsStr>(words: &[S], name: &str) -> Option<u16>
 
 /// The value that the words give the option of this name: the word after its name, or what follows its name and `=` in
 /// one word.
-fn value_of<'a, S: AsStr>(words: &'a [S], name: &str) -> Option<&'a str>
+pub(crate) fn value_of<'a, S: AsStr>(words: &'a [S], name: &str) -> Option<&'a str>
     ensures { IfSome result (λ value. GivesValue (map S.text words.now) name.now value.now) }
 {
     for (place, word) in words.iter().enumerate() {
@@ -682,7 +684,8 @@ fn pcap<'a>(alloc: Global) -> Result<Command<'a>, AllocError> {
         )
         .after_help("Example: warnc pcap --used < tapes > air.pcap")
         .arg(used(alloc))?
-        .arg(channel(alloc))
+        .arg(channel(alloc))?
+        .arg(start(alloc))
 }
 
 /// The command line of `cells`.
@@ -897,6 +900,16 @@ fn channel<'a>(alloc: Global) -> Arg<'a> {
         "The CBCH that the packets name: 51 for that beside\nSDCCH/4, 52 for that beside SDCCH/8 [51]",
     )
     .value_parser(value_parser!(u16).range(51..=52))
+}
+
+/// The option of the time at which a capture begins.
+fn start<'a>(alloc: Global) -> Arg<'a> {
+    optional(
+        alloc,
+        "start",
+        "TIME",
+        "When the first slot begins, as 2026-11-28T20:00:00Z,\nso that the capture can be merged with others [1970]",
+    )
 }
 
 /// The option of the cell that a tape names.

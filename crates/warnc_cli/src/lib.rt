@@ -4,6 +4,7 @@
 
 mod command;
 pub mod run;
+mod start;
 pub mod status;
 mod unreadable;
 

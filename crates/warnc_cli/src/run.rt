@@ -133,9 +133,11 @@ pub fn run_between<
     }
 }
 
-/// What is wrong with words that the parser takes and that are no task: the cell, or the address if one is given.
+/// What is wrong with words that the parser takes and that are no task: the cell, the address or the time.
 fn wrong_value<S: AsStr>(words: &[S]) -> &'static str {
-    if is_given(words, "--from") {
+    if is_given(words, "--start") {
+        "no such time: --start is as 2026-11-28T20:00:00Z, from 1970 to 2105"
+    } else if is_given(words, "--from") {
         "no such cell or address: --cell is as 1-2, --from as 127.0.0.1"
     } else {
         "no such cell: --cell is as 1-2"

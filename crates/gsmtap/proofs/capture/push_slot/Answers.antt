@@ -12,8 +12,10 @@ returns c =
     c.as_chunks.ensures.front ∙ ap (λ k. first_chunks 23 k c.args.octets.now) four in
     sym (append-nil c.loop-block.output.items)
     ∙ ap (λ rest. c.loop-block.output.items
-    ++ packets_of_blocks c.args.channel c.args.tape c.args.cell c.args.slot c.loop-block.block rest)
+    ++ packets_of_blocks c.args.settings.start c.args.settings.channel c.args.tape c.args.cell c.args.slot
+    c.loop-block.block rest)
     (sym (drop_all c.loop-block.block c.as_chunks.result.0.now (omega arith)))
     ∙ c.loop-block.invariant
     ∙ ap (λ (chunks : List (List ℕ)). c.args.output.now.items
-    ++ packets_of_blocks c.args.channel c.args.tape c.args.cell c.args.slot 0 chunks) blocks
+    ++ packets_of_blocks c.args.settings.start c.args.settings.channel c.args.tape c.args.cell c.args.slot 0
+    chunks) blocks
