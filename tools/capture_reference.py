@@ -260,10 +260,25 @@ def senders_of(octets):
         sender = sender_in(link, inside)
         if sender is not None:
             found.setdefault(sender, []).append(number)
-    rows = [("source", "arfcn", "channel", "blocks", "first", "last")]
-    rows += [(".".join(map(str, struct.pack(">I", source))), arfcn, mark, len(them), them[0], them[-1])
-             for (source, arfcn, mark), them in found.items()]
+    rows = [("source", "arfcn", "channel", "blocks", "first", "last", "slots", "pages", "identifiers")]
+    for (source, arfcn, mark), them in found.items():
+        source = struct.pack(">I", source)
+        rows.append((".".join(map(str, source)), arfcn, mark, len(them), them[0], them[-1],
+                     *carried_by(octets, source, arfcn, mark == "sdcch")))
     return "".join(",".join(map(str, it)) + "\n" for it in rows).encode()
+
+
+def carried_by(octets, source, arfcn, is_sdcch):
+    """Returns the numbers of slots and of pages of a sender's tape, and the pages' identifiers; or empty texts."""
+    try:
+        tape = tape_of(octets, 0, 0, None, source, arfcn, is_sdcch)[gsm.HEADER.size:]
+    except Refused:
+        return "", "", ""
+    blocks = [tape[at:at + gsm.BLOCK] for at in range(0, len(tape), gsm.BLOCK)]
+    pages = [it for it in zip(blocks, blocks[1:], blocks[2:], blocks[3:])
+             if [block[0] for block in it] == [0x20, 0x21, 0x22, 0x33]]
+    identifiers = dict.fromkeys(struct.unpack_from(">H", first, 3)[0] for first, *_ in pages)
+    return len(blocks) // 4, len(pages), " ".join(map(str, identifiers))
 
 
 def tape_of(octets, lac, cell, slots, source=None, channel=None, is_sdcch=False, first_slot=0):
@@ -291,7 +306,7 @@ def tape_of(octets, lac, cell, slots, source=None, channel=None, is_sdcch=False,
         if there < (MOST_SLOTS if slots is None else slots) and blocks.setdefault(4 * there + part, block) != block:
             raise Refused(f"packet {number}: block differs{CHOOSE}")
     if first is None:
-        raise Refused("no block of the wanted sender: warnc cells lists who sends")
+        raise Refused("no block of the wanted sender: warnc cells lists who sends, over IPv4 alone")
     if slots is None:
         slots = max(blocks) // 4 + 1 if blocks else first_slot
     return gsm.tape_of(lac, cell, (blocks.get(it, gsm.IDLE) for it in range(4 * slots)))

@@ -114,7 +114,7 @@ LINK_FAULT = r"unknown link type \d+: known are 0, 1, 101, 108, 113, 228 and 276
 FAULTS = {"page": TEXT_FAULT + "|text is not UTF-8|text is too long", "read": TAPE_FAULT, "pcap": TAPE_FAULT,
           "whole": TAPE_FAULT,
           "tape": rf"not a capture file|{LINK_FAULT}"
-                  r"|no block of the wanted sender: warnc cells lists who sends"
+                  r"|no block of the wanted sender: warnc cells lists who sends, over IPv4 alone"
                   rf"|packet [1-9]\d*: (?:{LINK_FAULT}|capture is short|wrong block"
                   r"|(?:block differs|steps back): if several send, choose one by --from or --arfcn)",
           "cells": rf"not a capture file|{LINK_FAULT}"
@@ -128,7 +128,8 @@ DIFFERENCE = re.compile(
 CHECK_NAMES = ["row", "line", "column", "field", "value", "says"]
 REMARK_NAMES = ["row", "name", "cell", "says"]
 TEXTS_NAMES = ["row", "name", "lang", "coding", "characters", "pages", "room", "first_ucs2", "place"]
-SENDER = re.compile(rb"(?:(?:25[0-5]|2[0-4]\d|1?\d?\d)(?:\.(?!,)|,)){4}\d+,(?:cbch|sdcch)(?:,[1-9]\d*){3}")
+SENDER = re.compile(rb"(?:(?:25[0-5]|2[0-4]\d|1?\d?\d)(?:\.(?!,)|,)){4}\d+,(?:cbch|sdcch)(?:,[1-9]\d*){3}"
+                    rb"(?:,\d+,\d+,(?:\d+(?: \d+)*)?|,,,)")
 REPORT_ROW = re.compile(rb"\d+,\d+,\d+,[0-9a-f]{4},\d+,\d+,\d+,(?:yes|no|refused [0-9a-f]{2})")
 REPORT_MORE = re.compile(rb"(?:\d*,\d+,\d+,\d+|,,,),[A-Za-z ]*")
 
@@ -501,8 +502,9 @@ def are_in_packets(blocks, first, last):
 def is_of_cells(out):
     """Whether an output is a table of senders, each with no more blocks than packets from its first to its last."""
     lines = out.split(b"\n")
-    rows = [it for it in lines[1:-1] if SENDER.fullmatch(it) and are_in_packets(*map(int, it.split(b",")[3:]))]
-    return lines[0] == b"source,arfcn,channel,blocks,first,last" and lines[-1] == b"" and len(rows) == len(lines) - 2
+    rows = [it for it in lines[1:-1] if SENDER.fullmatch(it) and are_in_packets(*map(int, it.split(b",")[3:6]))]
+    names = b"source,arfcn,channel,blocks,first,last,slots,pages,identifiers"
+    return lines[0] == names and lines[-1] == b"" and len(rows) == len(lines) - 2
 
 
 def is_output(run, out):

@@ -6,3 +6,4 @@ pub mod PacketSteps
 pub mod ThereAndBack
 pub mod Senders
 pub mod Hearing
+pub mod Once

@@ -14,3 +14,5 @@ pub mod TapeSteps
 pub mod Heard
 pub mod HeardSteps
 pub mod Laws
+pub mod Carried
+pub mod CarriedSteps

@@ -30,7 +30,7 @@ pub enum AirFaultKind {
     #[error("steps back: if several send, choose one by --from or --arfcn")]
     StepsBack,
     /// No packet has a block of the wanted sender's cell broadcast channel.
-    #[error("no block of the wanted sender: warnc cells lists who sends")]
+    #[error("no block of the wanted sender: warnc cells lists who sends, over IPv4 alone")]
     NoBlock,
     /// Out of memory.
     #[error("out of memory")]

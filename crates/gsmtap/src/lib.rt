@@ -2,12 +2,13 @@
 //! format of libpcap, with IPv4, UDP and GSMTAP around each block.
 //!
 //! [`capture_of`] makes the capture of tapes, whose octets `specs/Capture.antt` says; [`tape_of_capture`] makes a tape
-//! of a capture that others made, in that format or in pcapng, as `specs/TapeOfCapture.antt` says, and
-//! [`heard_in_capture`] names who sends in it, as `specs/Heard.antt` says.
+//! of a capture that others made, in that format or in pcapng, as `specs/TapeOfCapture.antt` says. [`heard_in_capture`]
+//! names who sends in it, and [`carried_by`] says what one of them sends (`specs/Heard.antt`, `specs/Carried.antt`).
 #![tactic(auto)]
 
 mod blocks;
 pub mod capture;
+pub mod carried;
 pub mod fault;
 pub mod file;
 pub mod heard;
@@ -19,6 +20,7 @@ pub mod tape;
 mod track;
 
 pub use capture::{CaptureFault, Settings, Slots, capture_of};
+pub use carried::{Carried, carried_by};
 pub use fault::{AirFault, AirFaultKind};
 pub use heard::{Heard, heard_in_capture};
 pub use laws::capture_laws;

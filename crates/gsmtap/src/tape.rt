@@ -114,7 +114,7 @@ pub fn fault_at(packet: u64, kind: AirFaultKind) -> AirFault
 }
 
 /// What is known of a tape after all pieces of a file, from its first one on.
-fn read_pieces(
+pub(crate) fn read_pieces(
     alloc: Global,
     wanted: &Wanted,
     mut reader: Reader,
@@ -219,7 +219,7 @@ fn tape_of(alloc: Global, wanted: &Wanted, air: &Air) -> Result<Vec<u8>, AllocEr
 }
 
 /// How many slots the blocks fill up to the last one that is known.
-fn slots_filled(blocks: &[Option<[u8; 23]>]) -> usize
+pub(crate) fn slots_filled(blocks: &[Option<[u8; 23]>]) -> usize
     ensures { result ≡ slots_filled blocks.now }
 {
     match blocks.iter().rposition(|block| block.is_some()) {

@@ -11,11 +11,12 @@
 //! and nothing more is wanted. After `scarce` hardly any memory is left to either, and more and more until that is
 //! enough: the answer is then `refused; ` and what came in the end. `fronts N M LAC CI SLOTS` makes tapes of each front
 //! of N to M octets, and the answer is that of all of them. `senders` names who sends in the octets: each one's
-//! address, radio channel, mark, and first and last packet, and a semicolon.
+//! address, radio channel, mark, and first and last packet, and a semicolon. `carried ADDRESS ARFCN sdcch` says what
+//! the blocks of this sender carry, or of one of `cbch`.
 
 use gsmtap::{
-    Channel, ChannelType, Heard, Sender, Settings, Slots, Start, Wanted, capture_of,
-    heard_in_capture, tape_of_capture,
+    Channel, ChannelType, Heard, Sender, Settings, Slots, Start, Station, Wanted, capture_of,
+    carried_by, heard_in_capture, tape_of_capture,
 };
 use std::alloc::Global;
 use std::process::Abort;
@@ -205,6 +206,32 @@ fn senders(alloc: Global, bench: &mut Bench) -> Result<String, Fail> {
     Ok(all)
 }
 
+/// Says what the blocks of a sender carry, as `2 slots, 1 pages: 4370`.
+fn carried(alloc: Global, bench: &mut Bench, words: &mut Words) -> Result<String, Fail> {
+    if bench.octets.len() > 1_000_000 {
+        return Err(Fail::new("too many octets for a test"));
+    }
+    let from = sender_in(words)?;
+    let station = Station {
+        address: from.address.unwrap_or(0),
+        arfcn: from.arfcn.unwrap_or(0),
+        channel: from.channel,
+    };
+    bench.drought.begin(alloc);
+    let outcome = carried_by(alloc, &bench.octets, station);
+    bench.drought.end();
+    let carried = match outcome {
+        Ok(carried) => carried,
+        Err(fault) => return Ok(fault.to_string(alloc)?),
+    };
+    let (slots, pages) = (carried.slots, carried.pages);
+    let mut all = format!(in alloc; "{slots} slots, {pages} pages:")?;
+    for identifier in &carried.identifiers {
+        all.push_str(&format!(in alloc; " {identifier}")?)?;
+    }
+    Ok(all)
+}
+
 /// Makes the tape of each front of so many octets, both ends included, and returns what all of them give.
 fn fronts(alloc: Global, bench: &mut Bench, words: &mut Words) -> Result<String, Fail> {
     let (first, last) = (words.number16()?, words.number16()?);
@@ -236,6 +263,7 @@ fn done(alloc: Global, bench: &mut Bench, verb: &str, words: &mut Words) -> Resu
         "capture" => return capture(alloc, bench, words),
         "tape" => return tape(alloc, bench, words),
         "senders" => return senders(alloc, bench),
+        "carried" => return carried(alloc, bench, words),
         "fronts" => return fronts(alloc, bench, words),
         _ => return Ok(String::from_str(alloc, "no such action")?),
     }

@@ -93,7 +93,7 @@ hex 0100000014000000 6500000042000000 14000000
 hex 0300000054000000 43000000
 hex 450000430007000040117ca17f0000017f000001
 hex 12791279002f0000 0204010000000000000000200f000200 200010111201118046a3d168341a8d46a3d168341a8d46 00 54000000
-tape 1 2 1 -> no block of the wanted sender: warnc cells lists who sends
+tape 1 2 1 -> no block of the wanted sender: warnc cells lists who sends, over IPv4 alone
 
 # each front of a file of one packet
 new
@@ -104,9 +104,9 @@ hex 450000430007000040117ca17f0000017f000001
 hex 12791279002f0000 0204010000000000000000200f000200 200010111201118046a3d168341a8d46a3d168341a8d46 00 64000000
 fronts 0 3 1 2 1 -> not a capture file
 fronts 4 27 1 2 1 -> packet 1: capture is short
-fronts 28 28 1 2 1 -> no block of the wanted sender: warnc cells lists who sends
+fronts 28 28 1 2 1 -> no block of the wanted sender: warnc cells lists who sends, over IPv4 alone
 fronts 29 47 1 2 1 -> packet 1: capture is short
-fronts 48 48 1 2 1 -> no block of the wanted sender: warnc cells lists who sends
+fronts 48 48 1 2 1 -> no block of the wanted sender: warnc cells lists who sends, over IPv4 alone
 fronts 49 147 1 2 1 -> packet 1: capture is short
 fronts 148 148 1 2 1 -> a tape
 # packets alone are counted, and another section goes on with their numbers

@@ -1,2 +1,3 @@
 pub mod TooLong
 pub mod WholeInput
+pub mod Rows

@@ -1,2 +1,3 @@
 pub mod PcapOutput
 pub mod TapeOutput
+pub mod CellsSteps

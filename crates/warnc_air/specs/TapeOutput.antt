@@ -1,16 +1,19 @@
 -- What `warnc tape` and `warnc cells` make of the octets that they read: of the capture file that they are, its tape,
 -- and a table of who sends in it. Own.
-use Rattle.std.specs.Prelude.{◌≡◌, ◌≢◌, ℕ, ◌/◌, ◌%◌, ◌<◌, ◌≤◌, List, ◌++◌, length, Option, codes}
+use Rattle.std.specs.Prelude.{◌≡◌, ◌≢◌, ℕ, ◌/◌, ◌%◌, ◌<◌, ◌≤◌, List, [], ◌∷◌, ◌++◌, length, map, Option, Some, None}
+use Rattle.std.specs.Prelude.{codes}
 use Rattle.std.specs.Fmt.{decimal}
 use Rattle.std.specs.Io.KnownBytes.{Keeps}
-use Rattle.std.specs.List.{flat_map}
+use Rattle.std.specs.List.{AllByRecursion, flat_map}
 use Rattle.device_ends.specs.Moves.{AppendsFront}
+use Rattle.gsmtap.specs.Carried.{IsCarriedBy, IsUncarried, Summary}
 use Rattle.gsmtap.specs.Heard.{AreHeard, IsHeardFault}
 use Rattle.gsmtap.specs.TapeOfCapture.{IsAirFault, IsTapeOfCapture}
 use Rattle.gsmtap.specs.declared.fault.AirFault.{AirFault}
 use Rattle.gsmtap.specs.declared.fault.AirFaultKind.{AirFaultKind}
 use Rattle.gsmtap.specs.declared.fault.AirFaultKind.TheVariants as kind
 use Rattle.gsmtap.specs.declared.heard.Heard.{Heard}
+use Rattle.gsmtap.specs.declared.tap.Station.{Station}
 use Rattle.gsmtap.specs.declared.tape.ChannelType.{ChannelType}
 use Rattle.gsmtap.specs.declared.tape.ChannelType.TheVariants.{Cbch, Sdcch}
 use Rattle.gsmtap.specs.declared.tape.Wanted.{Wanted}
@@ -51,7 +54,7 @@ IsTapeWriteFault f = f ≡ fault.WriteFailed
 
 -- the table of senders: no field has a comma, a quotation mark or a line end, so none is quoted
 abbrev pub columns_text : List ℕ
-columns_text = codes "source,arfcn,channel,blocks,first,last\n"
+columns_text = codes "source,arfcn,channel,blocks,first,last,slots,pages,identifiers\n"
 
 -- the word by which `tape` is asked for it
 abbrev pub channel_text : ChannelType → List ℕ
@@ -68,14 +71,46 @@ abbrev pub sender_text : Heard → List ℕ
 sender_text one =
     address_text one.station.address ++ (codes "," ++ (decimal one.station.arfcn ++ (codes ","
     ++ (channel_text one.station.channel ++ (codes "," ++ (decimal one.blocks ++ (codes ","
-    ++ (decimal one.first ++ (codes "," ++ (decimal one.last ++ codes "\n"))))))))))
+    ++ (decimal one.first ++ (codes "," ++ decimal one.last)))))))))
 
-abbrev pub senders_text : List Heard → List ℕ
-senders_text heard = columns_text ++ flat_map sender_text heard
+-- numbers, with one space between two
+abbrev pub joined_text : List ℕ → List ℕ
+joined_text [] = []
+joined_text (first ∷ rest) = decimal first ++ flat_map (λ next. codes " " ++ decimal next) rest
+
+-- what a sender's blocks carry; where they make no tape these columns are empty
+abbrev pub carried_text : Option Summary → List ℕ
+carried_text None = codes ",,,"
+carried_text (Some summary) =
+    codes "," ++ (decimal summary.slots ++ (codes "," ++ (decimal summary.pages ++ (codes ","
+    ++ joined_text summary.identifiers))))
+
+-- a sender, and what its blocks carry if they make a tape
+pub record Sending : Type 0 where
+  pub heard : Heard
+  pub carried : Option Summary
+
+abbrev pub sending_text : Sending → List ℕ
+sending_text one = sender_text one.heard ++ (carried_text one.carried ++ codes "\n")
+
+-- this is what a sender's blocks in a capture file carry, or else they make no tape, as some differ or step back
+abbrev pub CarriesIn : (input : List ℕ) → Station → Option Summary → Type 0
+CarriesIn input station None = (why : AirFault) × IsUncarried station input why × (why.kind ≢ kind.Refused)
+CarriesIn input station (Some summary) = IsCarriedBy station input summary
+
+abbrev pub IsSendingIn : (input : List ℕ) → Sending → Type 0
+IsSendingIn input one = CarriesIn input one.heard.station one.carried
+
+-- the table of these senders of a capture file
+pub record IsTableOf (input : List ℕ) (heard : List Heard) (output : List ℕ) : Type 0 where
+  pub sending : List Sending
+  pub heard_are : map (λ (one : Sending). one.heard) sending ≡ heard
+  pub carry : AllByRecursion (IsSendingIn input) sending
+  pub written : output ≡ columns_text ++ flat_map sending_text sending
 
 -- the output is the table of who sends in the capture file that the input is
 abbrev pub IsCellsOutput : (input output : List ℕ) → Type 0
-IsCellsOutput input output = (heard : List Heard) × AreHeard input heard × (output ≡ senders_text heard)
+IsCellsOutput input output = (heard : List Heard) × AreHeard input heard × IsTableOf input heard output
 
 -- why no table of senders is written
 abbrev pub IsCellsFault : (input : List ℕ) (old new : Option (List ℕ)) → TapeCommandFault → Type 0

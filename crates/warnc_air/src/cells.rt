@@ -1,24 +1,27 @@
 //! The command `cells`: a capture file to a table of who sends in it.
 
-ghost use Rattle.std.specs.Prelude.{◌≡◌, ◌+◌, IfErr, IfOk, OnOk, string_bytes};
+ghost use Rattle.std.specs.Prelude.{◌≡◌, ◌+◌, ◌<◌, ◌^◌, IfErr, IfOk, OnOk, length, string_bytes};
 ghost use Rattle.device_ends.specs.Moves.{ConsumesSome};
 ghost use Rattle.device_ends.specs.Source.{reader_of};
 ghost use Rattle.device_ends.specs.Stream.{FaultOfInput, IsStreamBetween, OutputOfInput};
-ghost use Rattle.warnc_air.specs.TapeOutput.{IsCellsFault, IsCellsOutput, IsTapeWriteFault, address_text};
-ghost use Rattle.warnc_air.specs.TapeOutput.{channel_text, sender_text, senders_text};
+ghost use Rattle.warnc_air.specs.CellsSteps.{IsRowOf, summary_of_any};
+ghost use Rattle.warnc_air.specs.TapeOutput.{CarriesIn, IsCellsFault, IsCellsOutput, IsTableOf, IsTapeWriteFault};
+ghost use Rattle.warnc_air.specs.TapeOutput.{address_text, carried_text, channel_text, joined_text, sender_text};
 
 use crate::tape::{MAX_INPUT, TapeCommandFault, fault_of_air};
 use device_ends::{Failed, ReadFault, Sink, Source, read_up_to, write_all};
-use gsmtap::{ChannelType, Heard, heard_in_capture};
+use gsmtap::{AirFaultKind, Carried, ChannelType, Heard, Station, carried_by, heard_in_capture};
 use std::alloc::{AllocError, Global};
 use std::io::{Read, Write};
 
 /// The names of the columns.
-const COLUMNS: &str = "source,arfcn,channel,blocks,first,last\n";
+const COLUMNS: &str = "source,arfcn,channel,blocks,first,last,slots,pages,identifiers\n";
 
 /// Reads a capture file, and writes a table of who sends blocks of a cell broadcast channel in it, as CSV: the source
 /// address, the radio channel, the word of the channel that the packets name, how many packets have a block, and the
-/// numbers of the first and the last of them. Nothing is written before all of the table is made.
+/// numbers of the first and the last of them; and of the tape that these blocks make alone the number of its slots and
+/// of its pages, and their message identifiers, which are empty if they make none. Nothing is written before all of the
+/// table is made.
 pub fn cells_stream<R: Read, W: Write>(
     alloc: Global,
     source: &mut Source<R>,
@@ -48,7 +51,7 @@ pub fn cells_stream<R: Read, W: Write>(
         Ok(heard) => heard,
         Err(fault) => return Err(fault_of_air(fault)),
     };
-    let Ok(output) = senders_text(alloc, &heard) else {
+    let Ok(output) = table_of(alloc, &input, &heard) else {
         return Err(TapeCommandFault::Refused);
     };
     match write_all(sink, output.as_bytes()) {
@@ -57,18 +60,45 @@ pub fn cells_stream<R: Read, W: Write>(
     }
 }
 
-/// The table of senders.
-fn senders_text(alloc: Global, heard: &[Heard]) -> Result<String, AllocError>
-    ensures { IfOk result (λ text. string_bytes text ≡ senders_text heard.now) }
+/// The table of senders in a capture file.
+fn table_of(alloc: Global, input: &[u8], heard: &[Heard]) -> Result<String, AllocError>
+    requires { length input.now < 2 ^ 48 }
+    ensures { IfOk result (λ text. IsTableOf input.now heard.now (string_bytes text)) }
 {
     let mut text = String::from_str(alloc, COLUMNS)?;
     for one in heard {
-        text.push_str(&sender_text(alloc, one)?)?;
+        text.push_str(&row_of(alloc, input, one)?)?;
     }
     Ok(text)
 }
 
-/// The line of a sender.
+/// The row of a sender in a capture file.
+fn row_of(alloc: Global, input: &[u8], one: &Heard) -> Result<String, AllocError>
+    requires { length input.now < 2 ^ 48 }
+    ensures { IfOk result (λ text. IsRowOf input.now one.now (string_bytes text)) }
+{
+    let carried = carried_in(alloc, input, one.station)?;
+    let mut text = sender_text(alloc, one)?;
+    text.push_str(&carried_text(alloc, &carried)?)?;
+    text.push_str("\n")?;
+    Ok(text)
+}
+
+/// What a sender's blocks in a capture file carry, if they make a tape.
+fn carried_in(alloc: Global, input: &[u8], station: Station) -> Result<Option<Carried>, AllocError>
+    requires { length input.now < 2 ^ 48 }
+    ensures { IfOk result (λ carried. CarriesIn input.now station (summary_of_any carried)) }
+{
+    match carried_by(alloc, input, station) {
+        Ok(carried) => Ok(Some(carried)),
+        Err(fault) => match fault.kind {
+            AirFaultKind::Refused => Err(AllocError),
+            _ => Ok(None),
+        },
+    }
+}
+
+/// The first columns of a sender.
 fn sender_text(alloc: Global, one: &Heard) -> Result<String, AllocError>
     ensures { IfOk result (λ text. string_bytes text ≡ sender_text one.now) }
 {
@@ -76,7 +106,33 @@ fn sender_text(alloc: Global, one: &Heard) -> Result<String, AllocError>
     let channel = channel_text(one.station.channel);
     let (arfcn, blocks) = (one.station.arfcn, one.blocks);
     let (first, last) = (one.first, one.last);
-    format!(in alloc; "{address},{arfcn},{channel},{blocks},{first},{last}\n")
+    format!(in alloc; "{address},{arfcn},{channel},{blocks},{first},{last}")
+}
+
+/// The columns of what a sender's blocks carry, and the commas before them.
+fn carried_text(alloc: Global, carried: &Option<Carried>) -> Result<String, AllocError>
+    ensures { IfOk result (λ text. string_bytes text ≡ carried_text (summary_of_any carried.now)) }
+{
+    let Some(carried) = carried else {
+        return String::from_str(alloc, ",,,");
+    };
+    let (slots, pages) = (carried.slots, carried.pages);
+    let identifiers = joined_text(alloc, &carried.identifiers)?;
+    format!(in alloc; ",{slots},{pages},{identifiers}")
+}
+
+/// Numbers, with one space between two.
+fn joined_text(alloc: Global, numbers: &[u16]) -> Result<String, AllocError>
+    ensures { IfOk result (λ text. string_bytes text ≡ joined_text numbers.now) }
+{
+    let Some((first, rest)) = numbers.split_first() else {
+        return Ok(String::new(alloc));
+    };
+    let mut text = format!(in alloc; "{first}")?;
+    for next in rest {
+        text.push_str(&format!(in alloc; " {next}")?)?;
+    }
+    Ok(text)
 }
 
 /// An IPv4 address, with dots between its octets.

@@ -692,7 +692,7 @@ fn pcap<'a>(alloc: Global) -> Result<Command<'a>, AllocError> {
 fn cells<'a>(alloc: Global) -> Command<'a> {
     Command::new(alloc, "cells")
         .about(
-            "Reads a capture file of GSMTAP packets, and writes a table of who\nsends cell broadcasts in it, as CSV",
+            "Reads a capture file of GSMTAP packets over IPv4, and writes a table of\nwho sends cell broadcasts in it, and which, as CSV",
         )
         .after_help("Example: warnc cells < air.pcap")
 }
@@ -701,7 +701,7 @@ fn cells<'a>(alloc: Global) -> Command<'a> {
 fn tape<'a>(alloc: Global) -> Result<Command<'a>, AllocError> {
     Command::new(alloc, "tape")
         .about(
-            "Reads a capture file of GSMTAP packets, also of another program's\nmaking, and writes a tape of it",
+            "Reads a capture file of GSMTAP packets over IPv4, also of another\nprogram's making, and writes a tape of it",
         )
         .after_help("Example: warnc tape --cell 1-1 < air.pcap > tape")
         .arg(cell(alloc))?

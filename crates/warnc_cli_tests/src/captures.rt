@@ -175,8 +175,8 @@ all -> worked
 
 # another cell, and no number of slots: the tape ends with the last block
 args cells
-worked source,arfcn,channel,blocks,first,last
-worked 0.1.0.1,0,cbch,4,1,4
+worked source,arfcn,channel,blocks,first,last,slots,pages,identifiers
+worked 0.1.0.1,0,cbch,4,1,4,1,1,4370
 run -> 0
 all -> worked
 reads 0 356 -> 3 warnc: read failed
@@ -186,7 +186,7 @@ all -> worked
 writer 10 4
 run -> 3
 err -> warnc: write failed
-all -> 40 of 60
+all -> 40 of 93
 fronts 0 23 -> 1 warnc: not a capture file
 fronts 25 106 -> 1 warnc: packet 1: capture is short
 args cells --slots 2
@@ -218,11 +218,11 @@ all -> worked
 # there is no block from another address, on another radio channel, and marked as SDCCH; and a block that is marked so,
 # in pcapng
 args tape --from 0.1.0.2 --slots 1 --cell 65535-65534
-fails -> 1 warnc: no block of the wanted sender: warnc cells lists who sends
+fails -> 1 warnc: no block of the wanted sender: warnc cells lists who sends, over IPv4 alone
 args tape --arfcn 1 --slots 1 --cell 65535-65534
-fails -> 1 warnc: no block of the wanted sender: warnc cells lists who sends
+fails -> 1 warnc: no block of the wanted sender: warnc cells lists who sends, over IPv4 alone
 args tape --channel sdcch --slots 1 --cell 65535-65534
-fails -> 1 warnc: no block of the wanted sender: warnc cells lists who sends
+fails -> 1 warnc: no block of the wanted sender: warnc cells lists who sends, over IPv4 alone
 args tape --cell 1-1 --slots 1 --channel=sdcch
 in-hex 0a0d0d0a1c000000 4d3c2b1a01000000ffffffffffffffff 1c000000
 in-hex 0100000014000000 6500000000000000 14000000
@@ -264,7 +264,7 @@ worked-hex 2f2b2b2b2b2b2b2b2b2b2b2b2b2b2b2b2b2b2b2b2b2b2b
 run -> 0
 all -> worked
 args tape --cell 1-1 --slots 1 --channel cbch
-fails -> 1 warnc: no block of the wanted sender: warnc cells lists who sends
+fails -> 1 warnc: no block of the wanted sender: warnc cells lists who sends, over IPv4 alone
 
 # the first block again with another octet, two slots back, another link type, and no capture at all
 args tape --cell 1-1 --slots 2
