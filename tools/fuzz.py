@@ -130,6 +130,8 @@ REMARK_NAMES = ["row", "name", "cell", "says"]
 TEXTS_NAMES = ["row", "name", "lang", "coding", "characters", "pages", "room", "first_ucs2", "place"]
 SENDER = re.compile(rb"(?:(?:25[0-5]|2[0-4]\d|1?\d?\d)(?:\.(?!,)|,)){4}\d+,(?:cbch|sdcch)(?:,[1-9]\d*){3}"
                     rb"(?:,\d+,\d+,(?:\d+(?: \d+)*)?|,,,)")
+# what captures begin with: the magic numbers of the classic format in both orders, and the type of pcapng
+MAGICS = tuple(map(bytes.fromhex, ("A1B2C3D4", "D4C3B2A1", "A1B23C4D", "4D3CB2A1", "0A0D0D0A")))
 REPORT_ROW = re.compile(rb"\d+,\d+,\d+,[0-9a-f]{4},\d+,\d+,\d+,(?:yes|no|refused [0-9a-f]{2})")
 REPORT_MORE = re.compile(rb"(?:\d*,\d+,\d+,\d+|,,,),[A-Za-z ]*")
 
@@ -531,6 +533,29 @@ def statuses_of(run):
     return found | ({4} if run.spare is not None else set())
 
 
+def likeness(octets):
+    """Returns what an input looks like by its first octets, or None."""
+    if octets[:4] in MAGICS:
+        return "a capture: warnc tape makes a tape of it"
+    if octets[:5] == b"cell,":
+        return "a book: warnc compile makes tapes of it"
+    if octets[4:6] == b"\0\0" and octets[8:9] in (b"\x20", b"\x30", b"\x2F"):
+        return "tapes: warnc read shows them"
+    return None
+
+
+def hint_of(run):
+    """Returns what follows a fault if the book or the input looks like another kind than the command takes."""
+    book, data = run.parts()
+    own = {"tape": "a capture", "cells": "a capture", **dict.fromkeys(("read", "whole", "pcap", "verify"), "tapes")}
+    taken = own.get(run.command(), "a book")
+    for name, octets, kind in (("book", book or b"", "a book"), ("input", data, taken)):
+        like = likeness(octets)
+        if like and not like.startswith(kind) and run.command() != "page":
+            return f" (the {name} looks like {like})"
+    return ""
+
+
 def line_fault(run, ran):
     """Returns what is wrong with standard error, or None."""
     if ran.status == 2:
@@ -541,7 +566,10 @@ def line_fault(run, ran):
         reader = "read failed" if run.reader in ("folder", "shut") else "write failed"
         texts = {0: None, 1: FAULTS.get(run.command(), "[]"), 3: reader, 4: "out of memory"}
         wanted = texts[ran.status]
-        right = ran.err == b"" if wanted is None else re.fullmatch(f"warnc: (?:{wanted})\n".encode(), ran.err)
+        # where the book of `verify` is at fault the tapes aren't read
+        hint = re.escape(hint_of(run)) if ran.status == 1 else ""
+        hint = f"(?:{hint})?" if run.command() == "verify" else hint
+        right = ran.err == b"" if wanted is None else re.fullmatch(f"warnc: (?:{wanted}){hint}\n".encode(), ran.err)
     return None if right else "the fault line of status {0} has another form"
 
 
@@ -552,13 +580,13 @@ def output_fault(run, ran):
     if ran.status == 1 and run.command() == "verify" and ran.out:
         count = differences_in(ran.out) if run.writer == "pipe" else 1
         is_seen = run.faults == "pipe" and run.writer == "pipe"
-        right = count and (not is_seen or ran.err == b"warnc: differences: %d\n" % count)
+        right = count and (not is_seen or ran.err.startswith(b"warnc: differences: %d" % count))
         return None if right else "the rows of differences have another form or number"
     if ran.status == 1 and run.command() == "check" and ran.out:
         faults, remarks = faults_in(ran.out), remarks_in(ran.out) if "--strict" in run.words else None
         is_seen = run.faults == "pipe" and run.writer == "pipe"
-        wanted = b"warnc: faults: %d\n" % faults if faults else b"warnc: remarks: %d\n" % remarks if remarks else None
-        right = run.writer != "pipe" or wanted and (not is_seen or ran.err == wanted)
+        wanted = b"warnc: faults: %d" % faults if faults else b"warnc: remarks: %d" % remarks if remarks else None
+        right = run.writer != "pipe" or wanted and (not is_seen or ran.err.startswith(wanted))
         return None if right else "the rows of faults or remarks have another form or number"
     if (ran.status in (1, 2, 4) or run.reader in ("folder", "shut")) and ran.out:
         return "there is an output with status {0}"

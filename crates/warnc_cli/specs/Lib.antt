@@ -3,3 +3,5 @@ pub mod Status
 pub mod Tasks
 pub mod Run
 pub mod RunSteps
+pub mod Mistaken
+pub mod Ends

@@ -3,6 +3,8 @@
 #![tactic(auto)]
 
 mod command;
+mod ends;
+pub mod mistaken;
 pub mod run;
 mod start;
 pub mod status;

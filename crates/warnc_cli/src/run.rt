@@ -5,6 +5,7 @@ ghost use Rattle.std.specs.Io.KnownBytes.{Keeps};
 ghost use Rattle.device_ends.specs.Sink.{sink_failed, writer_of};
 ghost use Rattle.device_ends.specs.Source.{reader_of, source_failed};
 ghost use Rattle.device_ends.specs.Stream.{Writes};
+ghost use Rattle.warnc_cli.specs.Ends.{noted_reader};
 ghost use Rattle.warnc_cli.specs.Run.{AnyHasFailed, ByInputs, MayWrite, RefusesInput, WritesSome};
 ghost use Rattle.warnc_cli.specs.Run.{WritesSomeUnlessTapes, WroteOfRefused, WroteWhatIsAsked, WroteWithoutMemory};
 ghost use Rattle.warnc_cli.specs.RunSteps.{HasRun, IsDoneBy, IsRefusedBy, IsRunBetween, IsStatusOfSink};
@@ -14,6 +15,8 @@ ghost use Rattle.warnc_cli.specs.Tasks.{IsNotVerified, IsUnverified, WritesOutpu
 ghost use Rattle.warnc_verify.specs.Verified.{HasDifferences, IsVerified};
 
 use crate::command::{Task, asks_for_text, is_given, task_of};
+use crate::ends::{Noted, OpenLine};
+use crate::mistaken::mistaken_for;
 use crate::status::{DEVICE, DONE, MEMORY, REFUSED_INPUT, USAGE, failed, failed_with_book};
 use crate::unreadable::Unreadable;
 use alert_book::Origin;
@@ -62,7 +65,9 @@ pub fn run<T: AllocGlobal + Threads + Wait + Sync, S: AsStr, R: Read, W: Write, 
 /// The same with a book for `verify`: the octets of the file that the words name
 /// ([`book_file`](crate::book_file)). Other commands don't read it.
 ///
-/// This wraps the three ends, and is `run_between` on them: whose contract says what is written.
+/// This wraps the three ends, and is `run_between` on them: whose contract says what is written. With status 1 the line
+/// for `faults` ends with what looks like another kind of input, if the book or the input does
+/// ([`mistaken_for`]).
 pub fn run_with_book<
     T: AllocGlobal + Threads + Wait + Sync,
     S: AsStr,
@@ -73,6 +78,38 @@ pub fn run_with_book<
 >(rt: &T, words: &[S], book: &mut B, reader: &mut R, writer: &mut W, faults: &mut F) -> u8
     ensures refused { result ≡ REFUSED_INPUT
         → RefusesInput (map S.text words.now) (B.remaining book.old) (R.remaining reader.old) }
+    ensures statuses { result ≤ 4 }
+{
+    let mut book = Noted::new(book);
+    let mut input = Noted::new(reader);
+    let mut line = OpenLine::new(faults);
+    let status = run_noted(rt, words, &mut book, &mut input, writer, &mut line);
+    line.end(if status == REFUSED_INPUT {
+        mistaken_for(words, book.front(), input.front())
+    } else {
+        None
+    });
+    status
+}
+
+/// The same with readers whose first octets are kept.
+fn run_noted<
+    T: AllocGlobal + Threads + Wait + Sync,
+    S: AsStr,
+    B: Read,
+    R: Read,
+    W: Write,
+    F: Write,
+>(
+    rt: &T,
+    words: &[S],
+    book: &mut Noted<B>,
+    reader: &mut Noted<R>,
+    writer: &mut W,
+    faults: &mut F,
+) -> u8
+    ensures refused { result ≡ REFUSED_INPUT → RefusesInput (map S.text words.now)
+        (B.remaining (noted_reader book.old)) (R.remaining (noted_reader reader.old)) }
     ensures statuses { result ≤ 4 }
 {
     let mut book = Source::new(book);

@@ -283,7 +283,7 @@ fails -> 1 warnc: packet 2: steps back: if several send, choose one by --from or
 in-hex d4c3b2a1020004000000000000000000ffff000093000000
 fails -> 1 warnc: unknown link type 147: known are 0, 1, 101, 108, 113, 228 and 276
 in cell,1,1
-fails -> 1 warnc: not a capture file
+fails -> 1 warnc: not a capture file (the input looks like a book: warnc compile makes tapes of it)
 
 args tape --slots 2
 usage -> 2 error:

@@ -17,6 +17,8 @@ mod malformed;
 #[cfg(test)]
 mod malformed_table;
 #[cfg(test)]
+mod mistaken;
+#[cfg(test)]
 mod page;
 #[cfg(test)]
 mod read;

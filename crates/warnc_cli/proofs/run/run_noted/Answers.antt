@@ -1,4 +1,4 @@
-use Rattle.warnc_cli.proofs.run.run_with_book.Goals as goal
+use Rattle.warnc_cli.proofs.run.run_noted.Goals as goal
 
 pub returns-clause-refused : goal.returns-clause-refused
 returns-clause-refused g c =
