@@ -25,7 +25,7 @@ use std::convert::AsStr;
 use warnc_run::{Books, Product, Run, Sessions, Workers};
 
 /// The version of the program, and on a line of its own what `rt version` says of the toolchain that proved it.
-const VERSION: &str = "1.8.0\nrattle-kit-13f logic dac8208d650f15bf";
+const VERSION: &str = "1.9.0\nrattle-kit-13f logic dac8208d650f15bf";
 
 /// The words for the channel that packets name.
 const CHANNEL_TYPES: &[&str] = &["cbch", "sdcch"];
