@@ -1,6 +1,6 @@
 //! An input of another kind than the command takes, as a tape in place of a capture: it is named by its first octets.
 
-ghost use Rattle.std.specs.Prelude.{◌≡◌, ◌++◌, length, map, slice_get, take};
+ghost use Rattle.std.specs.Prelude.{◌≡◌, map};
 ghost use Rattle.gsmtap.specs.File.{is_magic, is_pcapng};
 ghost use Rattle.warnc_cli.specs.Mistaken.{is_of_kind, kind_of, kind_taken, looks_like_book, looks_like_capture};
 ghost use Rattle.warnc_cli.specs.Mistaken.{looks_like_tapes, mistaken_for, unlike};

@@ -1,7 +1,6 @@
-use Rattle.std.proofs.Common.{rules, ◌≡◌, ◌++◌, take, ℕ, ◌+◌, ◌-◌, ◌≤◌, length, List, min, arith, ap, sym, ◌∙◌, subst}
+use Rattle.std.proofs.Common.{rules, ◌≡◌, ◌++◌, take, ℕ, ◌+◌, ◌≤◌, length, List, min, arith, ap, sym, ◌∙◌}
 use Rattle.std.proofs.Math.Seq.{take-append-add}
 use Rattle.std.proofs.lemmas.List.{length-take, take_min}
-use Rattle.warnc_cli.specs.Ends.{front_noted, noted_reader}
 use Rattle.warnc_cli.proofs.ends.Noted.note.Goals as goal
 
 pub returns-clause-noted : goal.returns-clause-noted
