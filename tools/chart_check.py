@@ -38,6 +38,8 @@ ELEMENTS = set("html head meta title style body h1 h2 p nav a details summary di
                " span br".split())
 # the most marks of a message
 MOST_MARKS = 400
+# what is said before the text of a message that no phone shows
+UNSEEN = "not shown:"
 TEXTS = [
     "Stay in!",
     "<script>document.title='wrong'</script>",
@@ -196,24 +198,42 @@ def title_of(row, text):
         return f"{name}: refused at slot {start} ({time_of(start)}): {row['cause']} ({row['shown'][-2:]})"
     first = row["first_shown"]
     outcome = f"first shown after slot {first} ({time_of(int(first) + 1)})" if first else "not shown"
-    return (f"{name}: from slot {start} ({time_of(start)}) to slot {end} ({time_of(end)}), every {row['period']} "
-            f"slots, whole broadcasts: {row['completed']}, {outcome}\n{text}")
+    every = "slot" if row["period"] == "1" else f"{row['period']} slots"
+    return (f"{name}: from slot {start} ({time_of(start)}) to slot {end} ({time_of(end)}), every {every}, "
+            f"whole broadcasts: {row['completed']}, {outcome}\n{text}")
 
 
-def expected(rows, shown):
+def texts_asked(book):
+    """Returns the texts that phones are to show by a book's rows, by identifier and serial number."""
+    texts, alerts = {}, {}
+    for verb, *fields in csv.reader(io.StringIO(book, newline="")):
+        if verb == "write":
+            alerts[fields[1]] = [int(fields[2]), int(fields[3]) << 14 | int(fields[4]) << 4]
+        elif verb == "update":
+            number = alerts[fields[1]][1]
+            alerts[fields[1]][1] = number & 0xFFF0 | number + 1 & 0xF
+        if verb in ("write", "update"):
+            identifier, serial = alerts[fields[1]]
+            texts[str(identifier), f"{serial:04x}"] = fields[-1]
+    return texts
+
+
+def expected(rows, shown, asked):
     """Returns by cell what the lines of its rows have to be: a title, and a bar, its marks and its text, or a
     refusal."""
     cells = {}
     for row in rows:
         cell = f"Cell {row['lac']}-{row['ci']}"
         start, end = int(row["start"]), int(row["end"])
-        text = shown.get((row["lac"], row["ci"], row["id"], row["serial"]), "")
+        name = row["id"], row["serial"]
+        text = shown.get((row["lac"], row["ci"], *name)) if row["shown"] == "yes" else asked.get(name)
         title = title_of(row, text)
         if row["shown"].startswith("refused"):
             line = (title, "refusal", start, f"refused: {row['cause']} ({row['shown'][-2:]})")
         else:
             first = int(row["first_shown"]) + 1 if row["first_shown"] else None
-            line = (title, (start, max(0, end - start)), pace_of(row), int(row["completed"]), first, text)
+            line = (title, (start, max(0, end - start)), pace_of(row), int(row["completed"]), first, text,
+                    row["shown"] == "yes")
         cells.setdefault(cell, []).append(line)
     return cells
 
@@ -221,8 +241,9 @@ def expected(rows, shown):
 def broadcasts_of(line):
     """Returns how many whole broadcasts a message's line has: by its marks, or by the number that it says."""
     marks = len(re.findall(r"M(\d+) 0v10", line["whole"]))
-    said = re.fullmatch(r"(\d+) broadcasts", line["number"])
-    if not line["kind"].endswith(" many") and not line["number"] and marks <= MOST_MARKS:
+    number = line["number"].removesuffix(UNSEEN)
+    said = re.fullmatch(r"(\d+) broadcasts", number)
+    if not line["kind"].endswith(" many") and not number and marks <= MOST_MARKS:
         return marks
     is_many = line["kind"].endswith(" many") and said and not line["whole"] and int(said[1]) > MOST_MARKS
     return int(said[1]) if is_many else None
@@ -242,7 +263,8 @@ def found(page):
         for line in cell["lines"]:
             if "bar" in line:
                 pace = line["kind"].removeprefix("bar ").removesuffix(" many")
-                lines.append((line["title"], line["bar"], pace, broadcasts_of(line), first_mark_of(line), line["text"]))
+                lines.append((line["title"], line["bar"], pace, broadcasts_of(line), first_mark_of(line), line["text"],
+                              not line["number"].endswith(UNSEEN)))
             elif "refusal" in line:
                 slot = re.fullmatch(r"M(\d+) 0v10", line["refusal"])[1]
                 lines.append((line["title"], "refusal", int(slot), line["cause"]))
@@ -347,7 +369,7 @@ def differences(program, browser, book, options, slots=SLOTS_BY_HAND):
     for each in [["--group", str(it)] for it in range(len(groups))] or [options]:
         shown.update(shown_of(program, given, [*each, *length]))
     chart = run(program, ["chart", *options, *length], given)
-    wanted = expected(rows, shown)
+    wanted = expected(rows, shown, texts_asked(book))
     pages = [("the chart", Page(chart.decode()))]
     if browser:
         with tempfile.TemporaryDirectory() as folder:

@@ -33,7 +33,8 @@ use Rattle.chart.specs.Facts.{facts_of, facts_text, fullest_text}
 use Rattle.chart.specs.Load.{load_line, loads_in}
 use Rattle.chart.specs.Panels.{sections_text}
 use Rattle.chart.specs.Time.{axis, slot_text, time_in_brackets, time_text}
-use Rattle.chart.specs.Message.{are_many, category_words, drawn_marks, first_mark, pace_text, period_of, text_shown}
+use Rattle.chart.specs.Message.{are_many, category_words, drawn_marks, first_mark, pace_text, period_of, text_asked}
+use Rattle.chart.specs.Message.{text_shown}
 
 -- the name of what a row is of: its identifier, and its serial number in hexadecimal
 unfoldable pub name_text : Row → List ℕ
@@ -47,11 +48,17 @@ cause_text number = cause_words number ++ causes.NUMBER.now ++ encode_lower (num
 unfoldable pub picture_front : (slots : ℕ) → Row → List ℕ
 picture_front slots row = lines.PICTURE.now ++ decimal slots ++ lines.TITLE.now ++ name_text row
 
+-- a period in words
+unfoldable pub slots_text : (period : ℕ) → List ℕ
+slots_text period = lines.EVERY.now ++ decimal period ++ lines.SLOTS.now
+
+abbrev pub every_text : (period : ℕ) → List ℕ
+every_text period = if period == 1 then lines.EVERY_SLOT.now else slots_text period
+
 -- from when to when an accepted message stood, and how often it was to be sent
 unfoldable pub standing_text : Row → List ℕ
 standing_text row =
-    lines.FROM.now ++ slot_text row.start ++ lines.TO.now ++ slot_text row.end ++ lines.EVERY.now
-    ++ decimal (period_of row.demand)
+    lines.FROM.now ++ slot_text row.start ++ lines.TO.now ++ slot_text row.end ++ every_text (period_of row.demand)
 
 -- after which slot a phone shows it first, with the time at which that slot is over, or that none does
 unfoldable pub shown_after : (slot : ℕ) → List ℕ
@@ -79,8 +86,8 @@ unfoldable pub bar : Row → List ℕ
 bar row =
     bar_front row ++ decimal row.start ++ lines.WIDTH.now ++ decimal (row.end - row.start) ++ lines.BAR_END.now
 
--- what is said of it: its name, its category, how many broadcasts were whole, where they are too many for marks, and
--- its text
+-- what is said of it: its name, its category, how many broadcasts were whole, where they are too many for marks, that
+-- no phone shows it, where none does, and its text
 unfoldable pub message_name : Row → Option Accepted → List ℕ
 message_name row found =
     lines.LINE.now ++ name_text row ++ lines.NAME_END.now ++ category_words found ++ lines.CATEGORY_END.now
@@ -91,9 +98,15 @@ number_text whole = lines.NUMBER.now ++ decimal whole ++ lines.NUMBER_END.now
 abbrev pub many_text : (whole : ℕ) → List ℕ
 many_text whole = if are_many whole then number_text whole else []
 
+abbrev pub unseen_text : Showing → List ℕ
+unseen_text shown_status.Yes = []
+unseen_text shown_status.No = lines.UNSEEN.now
+unseen_text (shown_status.Refused number) = []
+
 unfoldable pub message_front : Row → Option Accepted → (text : List ℕ) → List ℕ
 message_front row found text =
-    message_name row found ++ many_text row.completed ++ lines.TEXT.now ++ escaped text ++ lines.TEXT_END.now
+    message_name row found ++ many_text row.completed ++ unseen_text row.shown ++ lines.TEXT.now ++ escaped text
+    ++ lines.TEXT_END.now
 
 -- the end of its line, with the mark where a phone shows it first
 unfoldable pub message_end : (first : Option ℕ) → List ℕ
@@ -125,12 +138,13 @@ refusal_front row number =
 abbrev pub refusal_line : (slots : ℕ) → Row → (number : ℕ) → List ℕ
 refusal_line slots row number = refusal_front row number ++ refusal_picture slots row number
 
--- the line of a row
+-- the line of a row. A message that phones show has the text that they show, another one the text that it was to show
 abbrev pub line_by : Record → List ShownMessage → Row → Showing → List ℕ
 line_by r shown row shown_status.Yes =
     message_line r row (accepted_named row.id row.serial r.log) (text_shown shown row.id row.serial)
 line_by r shown row shown_status.No =
-    message_line r row (accepted_named row.id row.serial r.log) (text_shown shown row.id row.serial)
+    message_line r row (accepted_named row.id row.serial r.log)
+    (text_asked r.log (accepted_named row.id row.serial r.log))
 line_by r shown row (shown_status.Refused number) = refusal_line r.slots row number
 
 abbrev pub line_of : Record → List ShownMessage → Row → List ℕ
@@ -209,9 +223,12 @@ unfoldable pub introduction : List ℕ
 introduction = charts.INTRODUCTION.now
 
 -- the front of the page, which says how long the runs are
+abbrev pub slots_words : (slots : ℕ) → List ℕ
+slots_words slots = if slots == 1 then charts.SLOT.now else charts.SLOTS.now
+
 unfoldable pub chart_front : (slots : ℕ) → List ℕ
 chart_front slots =
-    head ++ decimal slots ++ charts.SLOTS.now ++ time_text slots ++ introduction
+    head ++ decimal slots ++ slots_words slots ++ time_text slots ++ introduction
 
 -- the chart of records, and of what handsets read of their blocks
 abbrev pub chart_text : (slots : ℕ) → Option Cell → List Record → List TapeReading → List ℕ

@@ -1,9 +1,12 @@
 -- What is drawn of an accepted message beside its row (own).
 use Rattle.std.specs.Prelude.{ℕ, ◌+◌, ◌-◌, ◌==◌, ◌&&◌, if◌then◌else◌, min, Option, Some, None, List, [], ◌++◌, find}
-use Rattle.std.specs.Prelude.{Bool, false, ◌*◌, nat_le, nat_lt, slice_get}
+use Rattle.std.specs.Prelude.{Bool, false, ◌*◌, encode_utf8_all, nat_le, nat_lt, slice_get}
 use Rattle.std.specs.Fmt.{decimal}
 use Rattle.std.specs.List.{flat_map, range_with_len}
 use Rattle.std.specs.Option.{option_map_or, unwrap_or}
+use Rattle.cbs_page.specs.Coding.{alphabet_of}
+use Rattle.cbs_page.specs.Text.{text_in}
+use Rattle.cbs_page.specs.declared.content.Content.{Content}
 use Rattle.scheduler.specs.Air.{Air}
 use Rattle.scheduler.specs.Message.{ScheduledMessage}
 use Rattle.scheduler.specs.Pages.{airs_page}
@@ -11,6 +14,9 @@ use Rattle.scheduler.specs.declared.plan.Rank.{Rank}
 use Rattle.scheduler.specs.declared.plan.Rank.TheVariants as ranks
 use Rattle.bsc_table.specs.Claim.{end_of}
 use Rattle.bsc_table.specs.Record.{Accepted}
+use Rattle.bsc_table.specs.declared.command.Command.{Command}
+use Rattle.bsc_table.specs.declared.command.Command.TheVariants as commands
+use Rattle.bsc_table.specs.declared.entry.Entry.{Entry}
 use Rattle.handset.specs.Reception.{ShownMessage}
 use Rattle.report.specs.declared.row.Demand.{Demand}
 use Rattle.report.specs.declared.row.Row.{Row}
@@ -21,6 +27,22 @@ use Rattle.chart.specs.declared.message.TheConstants.{EVERY_15_S, EVERY_30_S, EV
 -- the text that a handset shows of a message of this identifier and serial number, if it shows one
 abbrev pub text_shown : List ShownMessage → (id serial : ℕ) → List ℕ
 text_shown shown id serial = option_map_or (λ m. m.text) (find (λ m. (m.id == id) && (m.serial == serial)) shown) []
+
+-- the text that a write asks phones to show: those of its pages, in their order, in UTF-8
+abbrev pub text_of_contents : (coding : ℕ) → List Content → List ℕ
+text_of_contents coding contents =
+    flat_map (λ content. encode_utf8_all (text_in (alphabet_of coding) content.octets)) contents
+
+abbrev pub text_asked_by : Command → List ℕ
+text_asked_by (commands.Write id serial replaces category dcs period broadcasts contents) =
+    text_of_contents dcs.0 contents
+text_asked_by (commands.Kill id serial) = []
+text_asked_by (commands.Status id serial) = []
+
+-- that of an accepted message, whose number is the place of its write in the log
+abbrev pub text_asked : List Entry → Option Accepted → List ℕ
+text_asked log None = []
+text_asked log (Some a) = option_map_or (λ e. text_asked_by e.command) (slice_get log a.message.entry) []
 
 -- the category in words
 abbrev pub rank_words : Rank → List ℕ

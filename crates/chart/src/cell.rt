@@ -112,6 +112,7 @@ pub(crate) fn panel_of(
     let loads = loads_of(alloc, &messages, slots)?;
     let facts = facts_of(&rows, &loads);
     let context = CellContext {
+        alloc,
         run,
         shown: &reading.shown,
         messages: &messages,

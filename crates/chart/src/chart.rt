@@ -7,7 +7,7 @@ ghost use Rattle.handset.specs.Tape.{readings_of};
 ghost use Rattle.report.specs.Rows.{AreOfOneCells};
 ghost use Rattle.chart.specs.ChartText.{chart_front, chart_part, chart_text, folded, foot_if, front_if_first};
 ghost use Rattle.chart.specs.ChartText.{group_front, head, introduction, is_wanted};
-ghost use Rattle.chart.specs.ChartText.{panel_if, panels_of, sections_of, WritesChart, WritesFront};
+ghost use Rattle.chart.specs.ChartText.{panel_if, panels_of, sections_of, slots_words, WritesChart, WritesFront};
 
 use crate::cell::panel_of;
 use crate::page::Page;
@@ -96,6 +96,9 @@ svg{border:1px solid var(--faint);print-color-adjust:exact;-webkit-print-color-a
 
 /// What comes after the number of slots.
 pub const SLOTS: &str = " slots of 1.883 s, ";
+
+/// What comes after it if it is one.
+pub const SLOT: &str = " slot of 1.883 s, ";
 
 /// What comes after their time.
 pub const INTRODUCTION: &str = r#" (h:mm:ss).</p>
@@ -214,6 +217,13 @@ fn push_introduction(page: &mut Page) -> Result<(), AllocError>
     page.markup(INTRODUCTION)
 }
 
+/// What comes after so many slots.
+fn slots_words(slots: u16) -> &'static str
+    ensures { result.now ≡ slots_words slots }
+{
+    if slots == 1 { SLOT } else { SLOTS }
+}
+
 /// Appends the front of the page.
 #[tactic(auto, unfolding(crate::specs::ChartText::chart_front))]
 fn push_front(page: &mut Page, slots: u16) -> Result<(), AllocError>
@@ -221,7 +231,7 @@ fn push_front(page: &mut Page, slots: u16) -> Result<(), AllocError>
 {
     push_head(page)?;
     page.number(u64::from(slots))?;
-    page.markup(SLOTS)?;
+    page.markup(slots_words(slots))?;
     push_time(page, u32::from(slots))?;
     push_introduction(page)
 }

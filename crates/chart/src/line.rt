@@ -1,28 +1,29 @@
 //! The lines of a cell: one for each row of its report.
 
-ghost use Rattle.std.specs.Prelude.{◌≡◌, ◌++◌, OnOk};
+ghost use Rattle.std.specs.Prelude.{◌≡◌, ◌<◌, ◌++◌, IfSome, OnOk};
 ghost use Rattle.std.specs.List.{flat_map};
 ghost use Rattle.bsc_table.specs.Record.{accepted_named};
-ghost use Rattle.chart.specs.Message.{text_shown};
+ghost use Rattle.chart.specs.Message.{text_asked, text_shown};
 ghost use Rattle.chart.specs.Kept.{accepted_kept};
 ghost use Rattle.std.specs.Option.{option_map};
 ghost use Rattle.handset.specs.Keeping.{messages_shown};
 ghost use Rattle.chart.specs.ChartText.{bar, bar_front, first_text, line_of, many_class, many_text, message_end};
 ghost use Rattle.chart.specs.ChartText.{message_front, message_line, message_name, message_title, name_text};
 ghost use Rattle.chart.specs.ChartText.{number_text, picture_front, refusal_front, refusal_line, refusal_picture};
-ghost use Rattle.chart.specs.ChartText.{refusal_title, shown_after, standing_text};
+ghost use Rattle.chart.specs.ChartText.{every_text, refusal_title, shown_after, slots_text, standing_text, unseen_text};
 
 use crate::cause::push_cause;
 use crate::kept::{KeptMessage, named};
 use crate::message::{
-    are_many, category_words, pace, period_of, push_drawn_marks, push_first_mark, text_shown,
+    are_many, category_words, pace, period_of, push_drawn_marks, push_first_mark, text_asked,
+    text_shown,
 };
 use crate::page::Page;
 use crate::time::{push_slot, push_time_in_brackets};
 use bsc_table::CellRecord;
 use handset::Shown;
 use report::{Row, Showing};
-use std::alloc::AllocError;
+use std::alloc::{AllocError, Global};
 
 /// The front of a line.
 pub const LINE: &str = "<div class=\"line\"><p><b>";
@@ -41,6 +42,9 @@ pub const NUMBER: &str = "<small>";
 
 /// What comes after that number.
 pub const NUMBER_END: &str = " broadcasts</small> ";
+
+/// What is said of one that no phone shows.
+pub const UNSEEN: &str = "<small>not shown:</small> ";
 
 /// What comes before its text.
 pub const TEXT: &str = "<bdi>";
@@ -69,8 +73,14 @@ pub const TO: &str = " to slot ";
 /// What comes before its period.
 pub const EVERY: &str = ", every ";
 
+/// What comes after its period.
+pub const SLOTS: &str = " slots";
+
+/// What stands in place of a period of one slot.
+pub const EVERY_SLOT: &str = ", every slot";
+
 /// What comes before the number of its whole broadcasts.
-pub const WHOLE: &str = " slots, whole broadcasts: ";
+pub const WHOLE: &str = ", whole broadcasts: ";
 
 /// What comes before the slot after which a phone shows it first.
 pub const SHOWN: &str = ", first shown after slot ";
@@ -135,6 +145,27 @@ fn push_picture_front(page: &mut Page, slots: u16, row: &Row) -> Result<(), Allo
     push_name(page, row)
 }
 
+/// Appends a period in slots.
+#[tactic(auto, unfolding(crate::specs::ChartText::slots_text))]
+fn push_slots(page: &mut Page, period: u16) -> Result<(), AllocError>
+    ensures { OnOk result (page.new ≡ page.old ++ slots_text period) }
+{
+    page.markup(EVERY)?;
+    page.number(u64::from(period))?;
+    page.markup(SLOTS)
+}
+
+/// Appends a period in words.
+fn push_every(page: &mut Page, period: u16) -> Result<(), AllocError>
+    ensures { OnOk result (page.new ≡ page.old ++ every_text period) }
+{
+    if period == 1 {
+        page.markup(EVERY_SLOT)
+    } else {
+        push_slots(page, period)
+    }
+}
+
 /// Appends from when to when an accepted message stands, and how often it is to be sent.
 #[tactic(auto, unfolding(crate::specs::ChartText::standing_text))]
 fn push_standing(page: &mut Page, row: &Row) -> Result<(), AllocError>
@@ -144,8 +175,7 @@ fn push_standing(page: &mut Page, row: &Row) -> Result<(), AllocError>
     push_slot(page, row.start)?;
     page.markup(TO)?;
     push_slot(page, u32::from(row.end))?;
-    page.markup(EVERY)?;
-    page.number(u64::from(period_of(row.demand)))
+    push_every(page, period_of(row.demand))
 }
 
 /// Appends after which slot a phone shows a message first, or that none does.
@@ -249,6 +279,16 @@ fn push_many(page: &mut Page, whole: u16) -> Result<(), AllocError>
     }
 }
 
+/// What is said of an accepted message that no phone shows.
+fn unseen_text(shown: Showing) -> &'static str
+    ensures { result.now ≡ unseen_text shown }
+{
+    match shown {
+        Showing::No => UNSEEN,
+        Showing::Yes | Showing::Refused(_) => "",
+    }
+}
+
 /// Appends what is said of an accepted message.
 #[tactic(auto, unfolding(crate::specs::ChartText::message_front))]
 fn push_message_front(
@@ -262,6 +302,7 @@ fn push_message_front(
 {
     push_message_name(page, row, found)?;
     push_many(page, row.completed)?;
+    page.markup(unseen_text(row.shown))?;
     page.markup(TEXT)?;
     page.text(text)?;
     page.markup(TEXT_END)
@@ -316,6 +357,7 @@ fn push_refusal_picture(page: &mut Page, slots: u16, row: &Row, cause: u8) -> Re
 /// log accepted.
 #[derive(Clone, Copy)]
 pub(crate) struct CellContext<'a> {
+    pub(crate) alloc: Global,
     pub(crate) run: &'a CellRecord,
     pub(crate) shown: &'a [Shown],
     pub(crate) messages: &'a [KeptMessage],
@@ -324,15 +366,46 @@ pub(crate) struct CellContext<'a> {
 impl<'a> CellContext<'a> {
     ghost use Rattle.chart.specs.LineSteps.{IsContext};
 
-    /// Appends the line of an accepted message.
-    fn push_message(&self, page: &mut Page, row: &Row) -> Result<(), AllocError>
+    /// The accepted message that a row is of.
+    fn named(&self, row: &Row) -> Option<KeptMessage>
+        requires { IsContext self.now }
+        ensures message { option_map accepted_kept result
+            ≡ accepted_named row.now.id row.now.serial self.now.run.now.log }
+        ensures period { IfSome result (λ k. 0 < k.period) }
+    {
+        named(self.messages, row.id, row.serial.number())
+    }
+
+    /// Appends the line of an accepted message that phones show.
+    fn push_seen(&self, page: &mut Page, row: &Row) -> Result<(), AllocError>
         requires { IsContext self.now }
         ensures { OnOk result (page.new ≡ page.old ++ message_line self.now.run.now row.now
             (accepted_named row.now.id row.now.serial self.now.run.now.log)
             (text_shown (messages_shown self.now.shown.now) row.now.id row.now.serial)) }
     {
-        let found = named(self.messages, row.id, row.serial.number());
         let text = text_shown(self.shown, row.id, row.serial);
+        self.push_message(page, row, text)
+    }
+
+    /// Appends the line of one that none shows.
+    fn push_unseen(&self, page: &mut Page, row: &Row) -> Result<(), AllocError>
+        requires { IsContext self.now }
+        ensures { OnOk result (page.new ≡ page.old ++ message_line self.now.run.now row.now
+            (accepted_named row.now.id row.now.serial self.now.run.now.log)
+            (text_asked self.now.run.now.log
+            (accepted_named row.now.id row.now.serial self.now.run.now.log))) }
+    {
+        let text = text_asked(self.alloc, self.run.log(), self.named(row))?;
+        self.push_message(page, row, text.as_str())
+    }
+
+    /// Appends the line of an accepted message with this text.
+    fn push_message(&self, page: &mut Page, row: &Row, text: &str) -> Result<(), AllocError>
+        requires { IsContext self.now }
+        ensures { OnOk result (page.new ≡ page.old ++ message_line self.now.run.now row.now
+            (accepted_named row.now.id row.now.serial self.now.run.now.log) text.now) }
+    {
+        let found = self.named(row);
         push_message_front(page, row, found, text)?;
         push_picture_front(page, self.run.slots(), row)?;
         push_message_title(page, row, text)?;
@@ -357,7 +430,8 @@ impl<'a> CellContext<'a> {
             ++ line_of self.now.run.now (messages_shown self.now.shown.now) row.now) }
     {
         match row.shown {
-            Showing::Yes | Showing::No => self.push_message(page, row),
+            Showing::Yes => self.push_seen(page, row),
+            Showing::No => self.push_unseen(page, row),
             Showing::Refused(cause) => self.push_refusal(page, row, cause),
         }
     }

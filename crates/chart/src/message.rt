@@ -1,22 +1,26 @@
 //! What is drawn of an accepted message beside its row.
 
-ghost use Rattle.std.specs.Prelude.{◌≡◌, ◌++◌, ◌<◌, IfSome, OnOk, Some, false, length};
+ghost use Rattle.std.specs.Prelude.{◌≡◌, ◌++◌, ◌<◌, IfOk, IfSome, OnOk, Some, false, length};
+ghost use Rattle.std.specs.Prelude.{encode_utf8_all, string_bytes};
 ghost use Rattle.std.specs.Option.{option_map, option_map_or};
+ghost use Rattle.cbs_page.specs.Coding.{alphabet_of};
+ghost use Rattle.cbs_page.specs.Text.{text_in};
 ghost use Rattle.scheduler.specs.Pages.{airs_page};
 ghost use Rattle.bsc_table.specs.Book.{air_pairs, aired_pair};
 ghost use Rattle.handset.specs.Keeping.{messages_shown};
 ghost use Rattle.chart.specs.Kept.{accepted_kept};
 ghost use Rattle.chart.specs.Message.{are_many, category_words, drawn_marks, first_mark, first_mark_after, is_every};
-ghost use Rattle.chart.specs.Message.{mark_at, marks_of, pace_text, period_of, text_shown};
+ghost use Rattle.chart.specs.Message.{mark_at, marks_of, pace_text, period_of, text_asked, text_asked_by};
+ghost use Rattle.chart.specs.Message.{text_of_contents, text_shown};
 
 use crate::kept::KeptMessage;
 use crate::load::end_within;
 use crate::page::Page;
-use bsc_table::{Aired, Category};
-use cbs_page::Serial;
+use bsc_table::{Aired, Category, Command, Entry};
+use cbs_page::{Content, Dcs, PageView, Serial, push_page_text};
 use handset::Shown;
 use report::{Demand, Row};
-use std::alloc::AllocError;
+use std::alloc::{AllocError, Global};
 
 /// The high category.
 pub const HIGH: &str = "high";
@@ -78,6 +82,64 @@ pub(crate) fn text_shown(shown: &[Shown], id: u16, serial: Serial) -> &str
         }
     }
     ""
+}
+
+/// Appends the text of a page with this content to a text.
+fn push_content(text: &mut String, dcs: Dcs, content: &Content) -> Result<(), AllocError>
+    ensures { OnOk result (string_bytes text.new ≡ string_bytes text.old
+        ++ encode_utf8_all (text_in (alphabet_of dcs.0) content.now.octets)) }
+{
+    // What a page shows doesn't depend on the message that it is of.
+    let page = PageView {
+        serial: Serial::of(0),
+        id: 0,
+        dcs,
+        number: 1,
+        total: 1,
+        content: content.octets,
+    };
+    if page.readable() {
+        push_page_text(text, &page)?;
+    }
+    Ok(())
+}
+
+/// The texts of the pages with these contents, in their order. The only error is out of memory.
+fn text_of_contents(alloc: Global, dcs: Dcs, contents: &[Content]) -> Result<String, AllocError>
+    ensures { IfOk result (λ text. string_bytes text ≡ text_of_contents dcs.0 contents.now) }
+{
+    let mut text = String::new(alloc);
+    for content in contents {
+        push_content(&mut text, dcs, content)?;
+    }
+    Ok(text)
+}
+
+/// The text that a command asks phones to show. The only error is out of memory.
+fn text_asked_by(alloc: Global, command: &Command) -> Result<String, AllocError>
+    ensures { IfOk result (λ text. string_bytes text ≡ text_asked_by command.now) }
+{
+    match command {
+        Command::Write { dcs, contents, .. } => text_of_contents(alloc, *dcs, contents.as_slice()),
+        Command::Kill { .. } | Command::Status { .. } => Ok(String::new(alloc)),
+    }
+}
+
+/// The text that phones were to show of an accepted message. The only error is out of memory.
+pub(crate) fn text_asked(
+    alloc: Global,
+    log: &[Entry],
+    found: Option<KeptMessage>,
+) -> Result<String, AllocError>
+    ensures { IfOk result (λ text. string_bytes text ≡ text_asked log.now (option_map accepted_kept found)) }
+{
+    let Some(kept) = found else {
+        return Ok(String::new(alloc));
+    };
+    match log.get(usize::from(kept.entry)) {
+        None => Ok(String::new(alloc)),
+        Some(entry) => text_asked_by(alloc, &entry.command),
+    }
 }
 
 /// Whether a slot airs the last page of a message.

@@ -21,7 +21,7 @@ out -> <details open id=\"c1-1\">
 out -> <summary><h2>Cell 1-1</h2> messages: 1, refused: 1, fullest: 100 % at 0:00:00</summary>
 out -> <div class=\"line\"><p><b>1 0010</b> <i>high</i> <bdi>One</bdi></p>
 out -> <svg viewBox=\"0 0 4 10\" preserveAspectRatio=\"none\" role=\"img\"><title>1 0010: from slot 0 (0:00:00) to slot 3 \
-(0:00:05), every 1 slots, whole broadcasts: 3, first shown after slot 0 (0:00:01)
+(0:00:05), every slot, whole broadcasts: 3, first shown after slot 0 (0:00:01)
 out -> One</title>
 out -> <rect class=\"bar f5\" height=\"10\" x=\"0\" width=\"3\"/>
 out -> <path class=\"whole\" d=\"M1 0v10M2 0v10M3 0v10\"/>
@@ -147,9 +147,36 @@ past </html> -> yes
 args chart --slots 60
 run -> 0
 past <rect class=\"bar f5\" height=\"10\" x=\"0\" width=\"60\"/> -> yes
+past <i>background</i> <small>not shown:</small> <bdi>Two</bdi></p> -> yes
 past <rect class=\"bar f1\" height=\"10\" x=\"0\" width=\"60\"/> -> yes
 out -> <path class=\"whole\" d=\"\"/>
 out -> <path class=\"shown\" d=\"\"/></svg></div>
+past </html> -> yes
+
+# what no phone shows has the text that it was to show: of two pages in UCS-2, the first of which alone is sent, and of
+# a message that is stopped at once; a refused order has none
+in cell,1,1
+in write,0,a,1,0,1,ru,2,4,0,*,Вода поднимается! Идите в школу на холме. <Не ждите> & 'бегите'!
+in write,1,b,2,0,2,en,2,4,0,*,Go up!
+in stop,1,b,*
+in write,1,c,3,0,3,en,2,1,0,*,Full
+args chart --slots 1
+run -> 0
+past is full.</p> -> yes
+out -> <details open id=\"c1-1\">
+past <b>1 0010</b> <i>normal</i> <small>not shown:</small> <bdi>Вода поднимается! Идите в школу на холме. &lt;Не ждите\
+&gt; &amp; &#39;бегите&#39;!</bdi></p> -> yes
+past every 4 slots, whole broadcasts: 0, not shown -> yes
+out -> Вода поднимается! Идите в школу на холме. &lt;Не ждите&gt; &amp; &#39;бегите&#39;!</title>
+past </html> -> yes
+args chart --slots 2
+run -> 0
+past <b>1 0010</b> <i>normal</i> <bdi>Вода поднимается -> yes
+past <b>2 0020</b> <i>normal</i> <small>not shown:</small> <bdi>Go up!</bdi></p> -> yes
+past every 4 slots, whole broadcasts: 0, not shown -> yes
+out -> Go up!</title>
+past <b>3 0030</b> <span class=\"cause\">refused: BSC capacity exceeded (06)</span></p> -> yes
+past refused at slot 1 (0:00:01): BSC capacity exceeded (06)</title> -> yes
 past </html> -> yes
 
 # a mark for each of 400 broadcasts, and none for 401
@@ -185,7 +212,7 @@ out -> &lt;/title&gt; &amp; &#39;so&#39;</title>
 past <path class=\"shown\" d=\"M1912 0v6\"/></svg></div> -> yes
 past <title>2 0020: from slot 1911 (0:59:58) to slot 1911 (0:59:58), every 2 slots, whole broadcasts: 0, not shown \
 -> yes
-out -> </title>
+out -> Two</title>
 past <path class=\"shown\" d=\"\"/></svg></div> -> yes
 past <p class=\"axis\"> -> yes
 out -> <span style=\"--at:calc(100%*0.00/1912)\">0<br>0:00:00</span>
@@ -218,7 +245,7 @@ out -> </html>
 args chart --slots 1
 in-none
 run -> 0
-past A run of 1 slots of 1.883 s, 0:00:01 (h:mm:ss) -> yes
+past A run of 1 slot of 1.883 s, 0:00:01 (h:mm:ss) -> yes
 past is full.</p> -> yes
 out -> </body>
 out -> </html>
@@ -249,5 +276,5 @@ usage -> 2 error:
 
 #[test]
 fn books_give_charts(rt: HostRuntime) -> Result<(), Fail> {
-    expect_rows(&rt, CHART, 212)
+    expect_rows(&rt, CHART, 235)
 }
