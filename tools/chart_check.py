@@ -15,6 +15,7 @@ widths nothing may be wider than the window.
 """
 import csv
 import fractions
+import functools
 import html.parser
 import io
 import itertools
@@ -38,6 +39,9 @@ ELEMENTS = set("html head meta title style body h1 h2 p nav a details summary di
                " span br".split())
 # the most marks of a message
 MOST_MARKS = 400
+# what the identifiers mean in the words of the page for browsers
+WORDS = os.path.join("browser", "words.js")
+ETWS = ("earthquake", "tsunami", "earthquake and tsunami", "test", "other")
 # what is said before the text of a message that no phone shows
 UNSEEN = "not shown:"
 TEXTS = [
@@ -191,9 +195,22 @@ def ticks_of(slots):
     return ticks
 
 
+@functools.cache
+def meanings():
+    """Returns what the identifiers mean."""
+    with open(os.path.join(TOP, WORDS), encoding="utf-8") as file:
+        table = {int(number): words.replace(" ·", ":")
+                 for number, words in re.findall(r'^ +(4\d{3}): \["([^"]*)"', file.read(), re.M)}
+    others = {number + (1 if number in (4396, 4398) else 13): f"{words}, in an additional language"
+              for number, words in table.items()}
+    return table | others | {4352 + number: f"ETWS: {words}" for number, words in enumerate(ETWS)}
+
+
 def title_of(row, text):
     """Returns the title of a row's picture."""
-    name, start, end = f"{row['id']} {row['serial']}", int(row["start"]), int(row["end"])
+    meaning = meanings().get(int(row["id"]))
+    name = f"{row['id']} {row['serial']}" + (f" ({meaning})" if meaning else "")
+    start, end = int(row["start"]), int(row["end"])
     if row["shown"].startswith("refused"):
         return f"{name}: refused at slot {start} ({time_of(start)}): {row['cause']} ({row['shown'][-2:]})"
     first = row["first_shown"]

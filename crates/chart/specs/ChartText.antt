@@ -30,6 +30,7 @@ use Rattle.chart.specs.declared.facts.TheConstants as facts_texts
 use Rattle.chart.specs.declared.panel.Panel.{Panel}
 use Rattle.chart.specs.Escape.{escaped}
 use Rattle.chart.specs.Facts.{facts_of, facts_text, fullest_text}
+use Rattle.chart.specs.Identifier.{meaning_text}
 use Rattle.chart.specs.Load.{load_line, loads_in}
 use Rattle.chart.specs.Panels.{sections_text}
 use Rattle.chart.specs.Time.{axis, slot_text, time_in_brackets, time_text}
@@ -44,9 +45,10 @@ name_text row = decimal row.id ++ lines.SPACE.now ++ serial_text row.serial
 unfoldable pub cause_text : ℕ → List ℕ
 cause_text number = cause_words number ++ causes.NUMBER.now ++ encode_lower (number ∷ []) ++ causes.NUMBER_END.now
 
--- the front of a row's picture, as wide as the run has slots, up to the name in its title
+-- the front of a row's picture, as wide as the run has slots, up to the name in its title and what its identifier means
 unfoldable pub picture_front : (slots : ℕ) → Row → List ℕ
-picture_front slots row = lines.PICTURE.now ++ decimal slots ++ lines.TITLE.now ++ name_text row
+picture_front slots row =
+    lines.PICTURE.now ++ decimal slots ++ lines.TITLE.now ++ name_text row ++ meaning_text row.id
 
 -- a period in words
 unfoldable pub slots_text : (period : ℕ) → List ℕ

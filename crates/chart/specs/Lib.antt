@@ -3,6 +3,7 @@ pub mod Load
 pub mod Message
 pub mod ChartText
 pub mod Facts
+pub mod Identifier
 pub mod Panels
 pub mod Time
 pub mod Kept

@@ -11,6 +11,7 @@ pub mod cause;
 pub mod cell;
 pub mod chart;
 pub mod facts;
+pub mod identifier;
 mod kept;
 mod laws;
 pub mod line;

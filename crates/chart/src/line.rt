@@ -13,6 +13,7 @@ ghost use Rattle.chart.specs.ChartText.{number_text, picture_front, refusal_fron
 ghost use Rattle.chart.specs.ChartText.{every_text, refusal_title, shown_after, slots_text, standing_text, unseen_text};
 
 use crate::cause::push_cause;
+use crate::identifier::push_meaning;
 use crate::kept::{KeptMessage, named};
 use crate::message::{
     are_many, category_words, pace, period_of, push_drawn_marks, push_first_mark, text_asked,
@@ -134,7 +135,7 @@ fn push_name(page: &mut Page, row: &Row) -> Result<(), AllocError>
     page.digits(row.serial.number().to_be_bytes().as_slice())
 }
 
-/// Appends the front of a row's picture, up to its name in the title.
+/// Appends the front of a row's picture, up to its name in the title and what its identifier means.
 #[tactic(auto, unfolding(crate::specs::ChartText::picture_front))]
 fn push_picture_front(page: &mut Page, slots: u16, row: &Row) -> Result<(), AllocError>
     ensures { OnOk result (page.new ≡ page.old ++ picture_front slots row.now) }
@@ -142,7 +143,8 @@ fn push_picture_front(page: &mut Page, slots: u16, row: &Row) -> Result<(), Allo
     page.markup(PICTURE)?;
     page.number(u64::from(slots))?;
     page.markup(TITLE)?;
-    push_name(page, row)
+    push_name(page, row)?;
+    push_meaning(page, row.id)
 }
 
 /// Appends a period in slots.

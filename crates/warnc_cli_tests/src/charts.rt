@@ -235,6 +235,93 @@ out -> <span style=\"--at:calc(100%*1593.13/1911)\">1593<br>0:50:00</span>
 out -> </p></div>
 past </html> -> yes
 
+# what each identifier means, and that the numbers beside them mean nothing; a refused order's title says it too
+in cell,1,1
+in write,0,n4351,4351,0,1,en,2,1024,0,*,A
+in write,0,n4352,4352,0,1,en,2,1024,0,*,A
+in write,0,n4353,4353,0,1,en,2,1024,0,*,A
+in write,0,n4354,4354,0,1,en,2,1024,0,*,A
+in write,0,n4355,4355,0,1,en,2,1024,0,*,A
+in write,0,n4356,4356,0,1,en,2,1024,0,*,A
+in write,0,n4357,4357,0,1,en,2,1024,0,*,A
+in write,0,n4369,4369,0,1,en,2,1024,0,*,A
+in write,0,n4370,4370,0,1,en,2,1024,0,*,A
+in write,0,n4371,4371,0,1,en,2,1024,0,*,A
+in write,0,n4372,4372,0,1,en,2,1024,0,*,A
+in write,0,n4373,4373,0,1,en,2,1024,0,*,A
+in write,0,n4374,4374,0,1,en,2,1024,0,*,A
+in write,0,n4375,4375,0,1,en,2,1024,0,*,A
+in write,0,n4376,4376,0,1,en,2,1024,0,*,A
+in write,0,n4377,4377,0,1,en,2,1024,0,*,A
+in write,0,n4378,4378,0,1,en,2,1024,0,*,A
+in write,0,n4379,4379,0,1,en,2,1024,0,*,A
+in write,0,n4380,4380,0,1,en,2,1024,0,*,A
+in write,0,n4381,4381,0,1,en,2,1024,0,*,A
+in write,0,n4382,4382,0,1,en,2,1024,0,*,A
+in write,0,n4383,4383,0,1,en,2,1024,0,*,A
+in write,0,n4384,4384,0,1,en,2,1024,0,*,A
+in write,0,n4385,4385,0,1,en,2,1024,0,*,A
+in write,0,n4386,4386,0,1,en,2,1024,0,*,A
+in write,0,n4387,4387,0,1,en,2,1024,0,*,A
+in write,0,n4388,4388,0,1,en,2,1024,0,*,A
+in write,0,n4389,4389,0,1,en,2,1024,0,*,A
+in write,0,n4390,4390,0,1,en,2,1024,0,*,A
+in write,0,n4391,4391,0,1,en,2,1024,0,*,A
+in write,0,n4392,4392,0,1,en,2,1024,0,*,A
+in write,0,n4393,4393,0,1,en,2,1024,0,*,A
+in write,0,n4394,4394,0,1,en,2,1024,0,*,A
+in write,0,n4395,4395,0,1,en,2,1024,0,*,A
+in write,0,n4396,4396,0,1,en,2,1024,0,*,A
+in write,0,n4397,4397,0,1,en,2,1024,0,*,A
+in write,0,n4398,4398,0,1,en,2,1024,0,*,A
+in write,0,n4399,4399,0,1,en,2,1024,0,*,A
+in write,0,n4400,4400,0,1,en,2,1024,0,*,A
+in write,0,full,4371,0,2,en,2,1,0,*,A
+args chart --slots 1
+run -> 0
+past is full.</p> -> yes
+past <title>4351 0010: from slot 0 -> yes
+past <title>4352 0010 (ETWS: earthquake): from slot 0 -> yes
+past <title>4353 0010 (ETWS: tsunami): from slot 0 -> yes
+past <title>4354 0010 (ETWS: earthquake and tsunami): from slot 0 -> yes
+past <title>4355 0010 (ETWS: test): from slot 0 -> yes
+past <title>4356 0010 (ETWS: other): from slot 0 -> yes
+past <title>4357 0010: from slot 0 -> yes
+past <title>4369 0010: from slot 0 -> yes
+past <title>4370 0010 (EU-Alert level 1: presidential): from slot 0 -> yes
+past <title>4371 0010 (Level 2: extreme, immediate, observed): from slot 0 -> yes
+past <title>4372 0010 (Level 2: extreme, immediate, likely): from slot 0 -> yes
+past <title>4373 0010 (Level 3: extreme, expected, observed): from slot 0 -> yes
+past <title>4374 0010 (Level 3: extreme, expected, likely): from slot 0 -> yes
+past <title>4375 0010 (Level 3: severe, immediate, observed): from slot 0 -> yes
+past <title>4376 0010 (Level 3: severe, immediate, likely): from slot 0 -> yes
+past <title>4377 0010 (Level 3: severe, expected, observed): from slot 0 -> yes
+past <title>4378 0010 (Level 3: severe, expected, likely): from slot 0 -> yes
+past <title>4379 0010 (Child abduction: EU-Amber): from slot 0 -> yes
+past <title>4380 0010 (Test: monthly): from slot 0 -> yes
+past <title>4381 0010 (Exercise): from slot 0 -> yes
+past <title>4382 0010 (Operator's own use): from slot 0 -> yes
+past <title>4383 0010 (EU-Alert level 1: presidential, in an additional language): from slot 0 -> yes
+past <title>4384 0010 (Level 2: extreme, immediate, observed, in an additional language): from slot 0 -> yes
+past <title>4385 0010 (Level 2: extreme, immediate, likely, in an additional language): from slot 0 -> yes
+past <title>4386 0010 (Level 3: extreme, expected, observed, in an additional language): from slot 0 -> yes
+past <title>4387 0010 (Level 3: extreme, expected, likely, in an additional language): from slot 0 -> yes
+past <title>4388 0010 (Level 3: severe, immediate, observed, in an additional language): from slot 0 -> yes
+past <title>4389 0010 (Level 3: severe, immediate, likely, in an additional language): from slot 0 -> yes
+past <title>4390 0010 (Level 3: severe, expected, observed, in an additional language): from slot 0 -> yes
+past <title>4391 0010 (Level 3: severe, expected, likely, in an additional language): from slot 0 -> yes
+past <title>4392 0010 (Child abduction: EU-Amber, in an additional language): from slot 0 -> yes
+past <title>4393 0010 (Test: monthly, in an additional language): from slot 0 -> yes
+past <title>4394 0010 (Exercise, in an additional language): from slot 0 -> yes
+past <title>4395 0010 (Operator's own use, in an additional language): from slot 0 -> yes
+past <title>4396 0010 (Level 4: public safety, EU-Info): from slot 0 -> yes
+past <title>4397 0010 (Level 4: public safety, EU-Info, in an additional language): from slot 0 -> yes
+past <title>4398 0010 (Test: state or local): from slot 0 -> yes
+past <title>4399 0010 (Test: state or local, in an additional language): from slot 0 -> yes
+past <title>4400 0010: from slot 0 -> yes
+past <title>4371 0020 (Level 2: extreme, immediate, observed): refused at slot 0 -> yes
+past </html> -> yes
+
 # a cell that the book doesn't have, and a book without cells
 in cell,1,1
 args chart --slots 4 --cell=1-2
@@ -276,5 +363,5 @@ usage -> 2 error:
 
 #[test]
 fn books_give_charts(rt: HostRuntime) -> Result<(), Fail> {
-    expect_rows(&rt, CHART, 235)
+    expect_rows(&rt, CHART, 320)
 }
