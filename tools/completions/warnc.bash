@@ -35,7 +35,7 @@ _warnc() {
             texts) words="--pages -h --help" ;;
             compile) words="--slots --group --network --workers -h --help" ;;
             report) words="--slots --group --network --full --workers -h --help" ;;
-            chart) words="--slots --group --network --cell --workers -h --help" ;;
+            chart) words="--slots --group --network --cell --from --to --workers -h --help" ;;
             read) words="--short -h --help" ;;
             verify) words="--book --slots --short --group --workers -h --help" ;;
             page) words="--lang --id --scope --code --update -h --help" ;;

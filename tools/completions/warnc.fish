@@ -38,6 +38,8 @@ complete -c warnc -n '__fish_seen_subcommand_from chart' -x -l slots -d 'How man
 complete -c warnc -n '__fish_seen_subcommand_from chart' -x -l group -d 'Takes the book for a network book, and of it the group of this number, 0 to 65535'
 complete -c warnc -n '__fish_seen_subcommand_from chart' -l network -d 'Takes the book for a network book, and writes what --group writes of each of its groups, in order'
 complete -c warnc -n '__fish_seen_subcommand_from chart' -x -l cell -d 'Draws this cell alone, as 1-2; all if it isn\'t given'
+complete -c warnc -n '__fish_seen_subcommand_from chart' -x -l from -d 'Draws the run from this slot on, with all marks'
+complete -c warnc -n '__fish_seen_subcommand_from chart' -x -l to -d 'Draws it up to this slot, with all marks'
 complete -c warnc -n '__fish_seen_subcommand_from chart' -x -l workers -d 'How many workers play cells and make tapes, or run groups, side by side, 1 to 64'
 complete -c warnc -n '__fish_seen_subcommand_from read' -l short -d 'Reads pages of one to three blocks, too, as networks send that cut a page after its text'
 complete -c warnc -n '__fish_seen_subcommand_from verify' -r -F -l book -d 'The file of the book; the tapes are the input'

@@ -1,4 +1,5 @@
 mod AxisLaws
+mod CountLaws
 mod EscapeLaws
 mod KeptLaws
 mod LoadLaws

@@ -1,16 +1,17 @@
 -- A message has as many marks as broadcasts of it were completed: its last page is aired as often, and never outside
 -- its reservation.
-use Rattle.std.proofs.Common.{◌≡◌, ◌<◌, ◌≤◌, ◌+◌, ◌-◌, ◌==◌, ◌∙◌, ◌∷◌, [], ℕ, suc, zero, Bool, true, false, List}
-use Rattle.std.proofs.Common.{Option, None, Some, All, ap, ap₂, cond, drop, get_or, if◌then◌else◌, length, min, nat_le}
+use Rattle.std.proofs.Common.{◌≡◌, ◌<◌, ◌≤◌, ◌+◌, ◌-◌, ◌==◌, ◌∙◌, ℕ, suc, zero, Bool, true, false, List}
+use Rattle.std.proofs.Common.{Option, None, Some, All, ap, ap₂, cond, drop, get_or}
+use Rattle.std.proofs.Common.{if◌then◌else◌, length, min, nat_le, nat_lt}
 use Rattle.std.proofs.Common.{refl, sym, take}
 use native.Mathlib.Omega.{arith}
 use Rattle.std.specs.List.{Contains, count_by, range_with_len, slice_get}
 use Rattle.std.specs.Option.{option_map_or, unwrap_or}
-use Rattle.std.proofs.lemmas.Bool.{and_parts, false_from_ne_true}
-use Rattle.std.proofs.lemmas.List.Sums.{sum_by-cons, sum_by-take-drop}
+use Rattle.std.proofs.lemmas.Bool.{and_parts}
+use Rattle.std.proofs.lemmas.List.Sums.{sum_by-cons}
 use Rattle.std.proofs.lemmas.Option.{slice_get-get_or}
-use Rattle.std.proofs.lemmas.List.{drop_more, get_or_default, get_or-drop, get_or-map, get_or-take}
-use Rattle.std.proofs.lemmas.List.{length-drop, length-map, length-take, take_all}
+use Rattle.std.proofs.lemmas.List.{drop_more, get_or_default, get_or-map}
+use Rattle.std.proofs.lemmas.List.{length-map}
 use Rattle.admission.specs.Reservation.{IsBeforeEnd}
 use Rattle.scheduler.specs.Air.{Air, airs}
 use Rattle.scheduler.specs.AirLaws.{LastPagesAreCompletedBroadcasts, NumbersRise, PagesComeInOrder}
@@ -22,8 +23,12 @@ use Rattle.bsc_table.specs.Guarantee.{ReservationsCoverBroadcasts}
 use Rattle.bsc_table.specs.Legal.{IsLegal}
 use Rattle.bsc_table.specs.Record.{Accepted, Record, accepted_in, messages_in}
 use Rattle.bsc_table.specs.Written.{AcceptedHaveLoads, AcceptedRise}
-use Rattle.chart.specs.Laws.{number_of_marks, MarksAreCompleted}
-use Rattle.chart.specs.Message.{are_many, end_within}
+use Rattle.chart.proofs.CountLaws.{counted_up_to, counted_within}
+use Rattle.chart.specs.Laws.{number_of_marks, MarksAreCompleted, MarksOfPartsAreCompleted}
+use Rattle.chart.specs.Message.{end_within, is_marked}
+use Rattle.chart.specs.View.{stretch_of}
+use Rattle.chart.specs.declared.view.Part.{Part}
+use Rattle.chart.specs.declared.view.Stretch.{Stretch}
 
 -- the laws that are used
 pub record Laws : Type 0 where
@@ -50,47 +55,6 @@ counted_at p d xs a (suc n) few =
     ∙ ap₂ (λ (b : Bool) (m : ℕ). cond b 1 0 + m) here (counted_at p d xs (a + 1) n (omega (arith, few)))
     ∙ sym (sum_by-cons (λ y. cond (p y) 1 0) x (take n (drop (a + 1) xs)))
     ∙ ap (λ (ys : List Slot). count_by p (take (suc n) ys)) (sym (drop_more xs a d inside))
-
--- where none is so, none is counted
-none_counted : (p : Slot → Bool) (d : Slot) (xs : List Slot)
-    → ((i : ℕ) → i < length xs → p (get_or xs i d) ≡ false)
-    → count_by p xs ≡ 0
-none_counted p d [] never = refl
-none_counted p d (x ∷ xs) never =
-    sum_by-cons (λ y. cond (p y) 1 0) x xs
-    ∙ ap₂ (λ (b : Bool) (m : ℕ). cond b 1 0 + m) (never 0 (omega arith))
-    (none_counted p d xs (λ i within. never (suc i) (omega (arith, within))))
-
--- where none is so before a place, nor from another on, all that are counted stand between them
-counted_between : (p : Slot → Bool) (d : Slot) (xs : List Slot) (from to : ℕ)
-    → ((i : ℕ) → i < length xs → p (get_or xs i d) ≡ true → (from ≤ i) × (i < to))
-    → count_by p (take (to - from) (drop from xs)) ≡ count_by p xs
-counted_between p d xs from to only =
-    let f : Slot → ℕ = λ y. cond (p y) 1 0 in
-    let n = to - from in
-    let front : count_by p (take from xs) ≡ 0 = none_counted p d (take from xs) before in
-    let back : count_by p (drop n (drop from xs)) ≡ 0 = none_counted p d (drop n (drop from xs)) after in
-    let one = sum_by-take-drop f xs from in
-    let two = sum_by-take-drop f (drop from xs) n in
-    omega (arith, front, back, one, two)
-  where
-    before : (i : ℕ) → i < length (take from xs) → p (get_or (take from xs) i d) ≡ false
-    before i within =
-        let long = length-take from xs in
-        let early : i < from = omega (arith, within, long) in
-        ap p (get_or-take from xs i d early)
-        ∙ false_from_ne_true (p (get_or xs i d))
-        (λ is. absurd (omega (arith, early, (only i (omega (arith, within, long)) is).0)))
-
-    after : (i : ℕ) → i < length (drop (to - from) (drop from xs))
-        → p (get_or (drop (to - from) (drop from xs)) i d) ≡ false
-    after i within =
-        let long = length-drop (to - from) (drop from xs) in
-        let longer = length-drop from xs in
-        let place = from + (to - from + i) in
-        ap p (get_or-drop (to - from) (drop from xs) i d ∙ get_or-drop from xs (to - from + i) d)
-        ∙ false_from_ne_true (p (get_or xs place d))
-        (λ is. absurd (omega (arith, (only place (omega (arith, within, long, longer)) is).1)))
 
 -- the slot of a message's page lies in its reservation
 in_reservation : Laws → (messages : List ScheduledMessage) (air : Air) (m : ScheduledMessage) (slots i : ℕ)
@@ -122,43 +86,88 @@ in_reservation laws messages air m slots i rise here rule long within aired =
     before None is = omega (arith, within, long)
     before (Some end) is = omega (arith, within, long, is)
 
--- each whole broadcast of a message has a mark
-each_has_a_mark : Laws → (r : Record) → IsLegal r → r.clock ≡ r.slots
-    → All (λ a. number_of_marks r.slots r.air a.message ≡ completed a.message r.air r.slots) (accepted_in r.log)
-each_has_a_mark laws r legal played k d within =
+-- what is known of an accepted message
+record IsKnown (r : Record) (m : ScheduledMessage) : Type 0 where
+  pub rise : NumbersRise (messages_in r.log)
+  pub there : Contains (messages_in r.log) m
+  pub load : (0 < m.pages) × (0 < m.period)
+  pub aired : Rattle.scheduler.specs.Air.IsAirOf (messages_in r.log) r.air
+  pub played : length r.air ≡ r.slots
+
+known : Laws → (r : Record) → IsLegal r → r.clock ≡ r.slots → All (λ a. IsKnown r a.message) (accepted_in r.log)
+known laws r legal played k d within =
     let all : List Accepted = accepted_in r.log in
     let a : Accepted = get_or all k d in
-    let m = a.message in
     let message : Accepted → ScheduledMessage = λ x. x.message in
     let long = length-map all message in
-    let load = laws.loads r legal k d within in
-    let slots : length r.air ≡ r.slots = legal.played ∙ played in
-    let rise : NumbersRise (messages_in r.log) = λ i j e less inside.
-    let second : j < length all = omega (arith, long, inside) in
-    let first : i < length all = omega (arith, less, second) in
-    rw (get_or-map message all i a e first)
-    (rw (get_or-map message all j a e second) (laws.rise r.log i j a less second)) in
-    let there : Contains (messages_in r.log) m = (
-      k,
-      omega (arith, long, within),
-      get_or-map message all k a m within ∙ ap message (get_or_default all k a d within),
-    ) in
-    let p = airs_page m.entry m.pages in
-    let end = end_within r.slots m in
-    counted_at p None r.air m.start (end - m.start) (omega (arith, slots))
-    ∙ counted_between p None r.air m.start end
-    (λ i inside aired. in_reservation laws (messages_in r.log) r.air m r.slots i rise there legal.aired slots inside
-    aired)
-    ∙ ap (count_by p) (sym (take_all (length r.air) r.air (omega arith)))
-    ∙ laws.last (messages_in r.log) r.air m (length r.air) rise there load.0 load.1 legal.aired (omega arith)
-    ∙ ap (completed m r.air) slots
+    record {
+      rise = λ i j e less inside.
+          let second : j < length all = omega (arith, long, inside) in
+          let first : i < length all = omega (arith, less, second) in
+          rw (get_or-map message all i a e first)
+          (rw (get_or-map message all j a e second) (laws.rise r.log i j a less second));
+      there = (
+        k,
+        omega (arith, long, within),
+        get_or-map message all k a a.message within ∙ ap message (get_or_default all k a d within),
+      );
+      load = laws.loads r legal k d within;
+      aired = legal.aired;
+      played = legal.played ∙ played;
+    }
+
+-- the marks at the slots of a stretch are those of all slots in it
+all_in_stretch : Laws → (r : Record) (m : ScheduledMessage) (s : Stretch) → IsKnown r m → s.to ≤ r.slots
+    → number_of_marks s r.slots r.air m ≡ count_by (is_marked r.air m) (range_with_len s.from (s.to - s.from))
+all_in_stretch laws r m s is within =
+    counted_within (is_marked r.air m) m.start (end_within r.slots m) s.from s.to
+    (λ i inside marked.
+    let there : i < length r.air = omega (arith, inside, within, is.played) in
+    in_reservation laws (messages_in r.log) r.air m r.slots i is.rise is.there is.aired is.played there
+    (ap (λ (o : Option Slot). option_map_or (airs_page m.entry m.pages) o false)
+    (sym (slice_get-get_or r.air i None there)) ∙ marked))
+
+-- up to a slot there are as many as broadcasts that were completed
+up_to : Laws → (r : Record) (m : ScheduledMessage) (slot : ℕ) → IsKnown r m → slot ≤ r.slots
+    → count_by (is_marked r.air m) (range_with_len 0 slot) ≡ completed m r.air slot
+up_to laws r m slot is within =
+    counted_at (airs_page m.entry m.pages) None r.air 0 slot (omega (arith, within, is.played))
+    ∙ laws.last (messages_in r.log) r.air m slot is.rise is.there is.load.0 is.load.1 is.aired
+    (omega (arith, within, is.played))
+
+-- each whole broadcast of a message has a mark
+each_has_a_mark : Laws → (r : Record) (m : ScheduledMessage) → IsKnown r m
+    → number_of_marks (stretch_of None r.slots) r.slots r.air m ≡ completed m r.air r.slots
+each_has_a_mark laws r m is =
+    let whole : r.slots - 0 ≡ r.slots = omega arith in
+    all_in_stretch laws r m (stretch_of None r.slots) is (omega arith)
+    ∙ ap (λ (n : ℕ). count_by (is_marked r.air m) (range_with_len 0 n)) whole
+    ∙ up_to laws r m r.slots is (omega arith)
+
+-- and in a part of the run each that was completed in it
+each_in_part : Laws → (r : Record) (m : ScheduledMessage) (part : Part) → IsKnown r m
+    → (let s = stretch_of (Some part) r.slots in
+    number_of_marks s r.slots r.air m ≡ completed m r.air s.to - completed m r.air s.from)
+each_in_part laws r m part is =
+    let s : Stretch = stretch_of (Some part) r.slots in
+    let ordered : s.from ≤ s.to = omega arith in
+    let within : s.to ≤ r.slots = omega arith in
+    all_in_stretch laws r m s is within
+    ∙ counted_up_to (is_marked r.air m) s.from s.to ordered
+    ∙ ap₂ (λ (a b : ℕ). a - b) (up_to laws r m s.to is within)
+    (up_to laws r m s.from is (omega (arith, ordered, within)))
 
 -- a message has a mark for each of its whole broadcasts, where they are drawn
 pub marks_are_completed : Laws → MarksAreCompleted
 marks_are_completed laws r shown legal played k d within =
     drawn (completed (get_or (accepted_in r.log) k d).message r.air r.slots) _
-    (each_has_a_mark laws r legal played k d within)
+    (each_has_a_mark laws r (get_or (accepted_in r.log) k d).message (known laws r legal played k d within))
   where
     drawn : (whole number : ℕ) → number ≡ whole
-        → (if are_many whole then 0 else number) ≡ (if nat_le whole 400 then whole else 0)
+        → (if nat_lt 400 whole then 0 else number) ≡ (if nat_le whole 400 then whole else 0)
     drawn whole number is = grind (arith, is)
+
+-- and in a part of the run one for each that was completed in it
+pub marks_of_parts_are_completed : Laws → MarksOfPartsAreCompleted
+marks_of_parts_are_completed laws r shown part legal played k d within =
+    each_in_part laws r (get_or (accepted_in r.log) k d).message part (known laws r legal played k d within)

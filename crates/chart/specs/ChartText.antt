@@ -1,7 +1,7 @@
 -- The chart of a run: one page in HTML that stands alone (own). What is fixed in it are constants of the code; what is
 -- said here is what stands between them, and in which order.
-use Rattle.std.specs.Prelude.{ℕ, ◌+◌, ◌-◌, ◌==◌, ◌&&◌, Bool, true, if◌then◌else◌, Option, Some, None, List}
-use Rattle.std.specs.Prelude.{[], ◌∷◌, ◌++◌}
+use Rattle.std.specs.Prelude.{ℕ, ◌+◌, ◌==◌, ◌&&◌, Bool, true, if◌then◌else◌, Option, Some, None, List}
+use Rattle.std.specs.Prelude.{[], ◌∷◌, ◌++◌, filter}
 use Rattle.std.specs.Fmt.{decimal}
 use Rattle.std.specs.List.{flat_map}
 use Rattle.std.specs.Io.KnownBytes.{Appends}
@@ -34,6 +34,10 @@ use Rattle.chart.specs.Identifier.{meaning_text}
 use Rattle.chart.specs.Load.{load_line, loads_in}
 use Rattle.chart.specs.Panels.{sections_text}
 use Rattle.chart.specs.Time.{axis, slot_text, time_in_brackets, time_text}
+use Rattle.chart.specs.View.{bar_from, bar_width, is_drawn, stretch_of, width_of}
+use Rattle.chart.specs.declared.view.Part.{Part}
+use Rattle.chart.specs.declared.view.Stretch.{Stretch}
+use Rattle.chart.specs.declared.view.View.{View}
 use Rattle.chart.specs.Message.{are_many, category_words, drawn_marks, first_mark, pace_text, period_of, text_asked}
 use Rattle.chart.specs.Message.{text_shown}
 
@@ -45,10 +49,13 @@ name_text row = decimal row.id ++ lines.SPACE.now ++ serial_text row.serial
 unfoldable pub cause_text : ℕ → List ℕ
 cause_text number = cause_words number ++ causes.NUMBER.now ++ encode_lower (number ∷ []) ++ causes.NUMBER_END.now
 
--- the front of a row's picture, as wide as the run has slots, up to the name in its title and what its identifier means
-unfoldable pub picture_front : (slots : ℕ) → Row → List ℕ
-picture_front slots row =
-    lines.PICTURE.now ++ decimal slots ++ lines.TITLE.now ++ name_text row ++ meaning_text row.id
+-- the front of a row's picture, as wide as the slots that are drawn, up to the name in its title and what its
+-- identifier means
+unfoldable pub picture_size : Stretch → List ℕ
+picture_size s = lines.PICTURE.now ++ decimal s.from ++ lines.ORIGIN.now ++ decimal (width_of s)
+
+unfoldable pub picture_front : Stretch → Row → List ℕ
+picture_front s row = picture_size s ++ lines.TITLE.now ++ name_text row ++ meaning_text row.id
 
 -- a period in words
 unfoldable pub slots_text : (period : ℕ) → List ℕ
@@ -76,17 +83,17 @@ message_title row text =
     standing_text row ++ lines.WHOLE.now ++ decimal row.completed ++ first_text row.first_shown ++ lines.ALL_TEXT.now
     ++ escaped text
 
--- its bar, from its start to its end, in slots; none where it never started. Its class says how often it is broadcast,
--- and whether its broadcasts are too many for marks
-abbrev pub many_class : (whole : ℕ) → List ℕ
-many_class whole = if are_many whole then lines.MANY.now else []
+-- its bar, from its start to its end, in slots, as far as these are drawn; none where it never started. Its class says
+-- how often it is broadcast, and whether its broadcasts are too many for marks
+abbrev pub many_class : Stretch → (whole : ℕ) → List ℕ
+many_class s whole = if are_many s whole then lines.MANY.now else []
 
-unfoldable pub bar_front : Row → List ℕ
-bar_front row = lines.BAR.now ++ pace_text row ++ many_class row.completed ++ lines.BAR_START.now
+unfoldable pub bar_front : Stretch → Row → List ℕ
+bar_front s row = lines.BAR.now ++ pace_text row ++ many_class s row.completed ++ lines.BAR_START.now
 
-unfoldable pub bar : Row → List ℕ
-bar row =
-    bar_front row ++ decimal row.start ++ lines.WIDTH.now ++ decimal (row.end - row.start) ++ lines.BAR_END.now
+unfoldable pub bar : Stretch → Row → List ℕ
+bar s row =
+    bar_front s row ++ decimal (bar_from s row) ++ lines.WIDTH.now ++ decimal (bar_width s row) ++ lines.BAR_END.now
 
 -- what is said of it: its name, its category, how many broadcasts were whole, where they are too many for marks, that
 -- no phone shows it, where none does, and its text
@@ -97,38 +104,38 @@ message_name row found =
 unfoldable pub number_text : (whole : ℕ) → List ℕ
 number_text whole = lines.NUMBER.now ++ decimal whole ++ lines.NUMBER_END.now
 
-abbrev pub many_text : (whole : ℕ) → List ℕ
-many_text whole = if are_many whole then number_text whole else []
+abbrev pub many_text : Stretch → (whole : ℕ) → List ℕ
+many_text s whole = if are_many s whole then number_text whole else []
 
 abbrev pub unseen_text : Showing → List ℕ
 unseen_text shown_status.Yes = []
 unseen_text shown_status.No = lines.UNSEEN.now
 unseen_text (shown_status.Refused number) = []
 
-unfoldable pub message_front : Row → Option Accepted → (text : List ℕ) → List ℕ
-message_front row found text =
-    message_name row found ++ many_text row.completed ++ unseen_text row.shown ++ lines.TEXT.now ++ escaped text
+unfoldable pub message_front : Stretch → Row → Option Accepted → (text : List ℕ) → List ℕ
+message_front s row found text =
+    message_name row found ++ many_text s row.completed ++ unseen_text row.shown ++ lines.TEXT.now ++ escaped text
     ++ lines.TEXT_END.now
 
 -- the end of its line, with the mark where a phone shows it first
-unfoldable pub message_end : (first : Option ℕ) → List ℕ
-message_end first = lines.MARKS_END.now ++ first_mark first ++ lines.LINE_END.now
+unfoldable pub message_end : Stretch → (first : Option ℕ) → List ℕ
+message_end s first = lines.MARKS_END.now ++ first_mark s first ++ lines.LINE_END.now
 
 -- the line of an accepted message: what is said of it, and its picture, a bar with a mark for each whole broadcast, or
 -- without marks where those are too many
-abbrev pub message_line : Record → Row → Option Accepted → (text : List ℕ) → List ℕ
-message_line r row found text =
-    message_front row found text ++ picture_front r.slots row ++ message_title row text ++ bar row
-    ++ drawn_marks row.completed r.slots r.air found ++ message_end row.first_shown
+abbrev pub message_line : Record → Stretch → Row → Option Accepted → (text : List ℕ) → List ℕ
+message_line r s row found text =
+    message_front s row found text ++ picture_front s row ++ message_title row text ++ bar s row
+    ++ drawn_marks s row.completed r.slots r.air found ++ message_end s row.first_shown
 
 -- what the title says of a refused order: when, and why
 unfoldable pub refusal_title : Row → (number : ℕ) → List ℕ
 refusal_title row number = lines.REFUSED_AT.now ++ slot_text row.start ++ lines.COLON.now ++ cause_text number
 
 -- its picture: a mark at the slot of the answer
-unfoldable pub refusal_picture : (slots : ℕ) → Row → (number : ℕ) → List ℕ
-refusal_picture slots row number =
-    picture_front slots row ++ refusal_title row number ++ lines.REFUSAL.now ++ decimal row.start
+unfoldable pub refusal_picture : Stretch → Row → (number : ℕ) → List ℕ
+refusal_picture s row number =
+    picture_front s row ++ refusal_title row number ++ lines.REFUSAL.now ++ decimal row.start
     ++ lines.REFUSAL_END.now
 
 -- what is said of a refused order: its name, and the cause
@@ -137,39 +144,45 @@ refusal_front row number =
     lines.LINE.now ++ name_text row ++ lines.REFUSED.now ++ cause_text number ++ lines.CAUSE_END.now
 
 -- the line of a refused order
-abbrev pub refusal_line : (slots : ℕ) → Row → (number : ℕ) → List ℕ
-refusal_line slots row number = refusal_front row number ++ refusal_picture slots row number
+abbrev pub refusal_line : Stretch → Row → (number : ℕ) → List ℕ
+refusal_line s row number = refusal_front row number ++ refusal_picture s row number
 
 -- the line of a row. A message that phones show has the text that they show, another one the text that it was to show
-abbrev pub line_by : Record → List ShownMessage → Row → Showing → List ℕ
-line_by r shown row shown_status.Yes =
-    message_line r row (accepted_named row.id row.serial r.log) (text_shown shown row.id row.serial)
-line_by r shown row shown_status.No =
-    message_line r row (accepted_named row.id row.serial r.log)
+abbrev pub line_by : Record → Stretch → List ShownMessage → Row → Showing → List ℕ
+line_by r s shown row shown_status.Yes =
+    message_line r s row (accepted_named row.id row.serial r.log) (text_shown shown row.id row.serial)
+line_by r s shown row shown_status.No =
+    message_line r s row (accepted_named row.id row.serial r.log)
     (text_asked r.log (accepted_named row.id row.serial r.log))
-line_by r shown row (shown_status.Refused number) = refusal_line r.slots row number
+line_by r s shown row (shown_status.Refused number) = refusal_line s row number
 
-abbrev pub line_of : Record → List ShownMessage → Row → List ℕ
-line_of r shown row = line_by r shown row row.shown
+abbrev pub line_of : Record → Stretch → List ShownMessage → Row → List ℕ
+line_of r s shown row = line_by r s shown row row.shown
 
--- the loads that are reserved over the slots, as a shape in a picture that is as wide as the run
-unfoldable pub load_width : (slots : ℕ) → List ℕ
-load_width slots = decimal slots ++ loads.LOAD_BOX.now
+-- the rows that are drawn
+abbrev pub rows_in : Record → Stretch → List ShownMessage → List Row
+rows_in r s shown = filter (is_drawn s) (cell_rows r shown)
+
+-- the loads that are reserved over the slots, as a shape in a picture that is as wide as the slots that are drawn
+unfoldable pub load_width : Stretch → List ℕ
+load_width s = decimal s.from ++ loads.LOAD_ORIGIN.now ++ decimal (width_of s) ++ loads.LOAD_BOX.now
 
 -- and as high as a full cell, whose load is at its upper edge; the line begins and ends at its bottom
-unfoldable pub load_front : (slots : ℕ) → List ℕ
-load_front slots = load_width slots ++ decimal loads.LOAD_HEIGHT ++ loads.LOAD_PATH.now ++ decimal loads.LOAD_HEIGHT
+unfoldable pub load_front : Stretch → List ℕ
+load_front s =
+    load_width s ++ decimal loads.LOAD_HEIGHT ++ loads.LOAD_PATH.now ++ decimal s.from ++ loads.LOAD_BOX.now
+    ++ decimal loads.LOAD_HEIGHT
 
-unfoldable pub load_end : (slots : ℕ) → List ℕ
-load_end slots =
-    loads.TO_SLOT.now ++ decimal slots ++ loads.TO_LOAD.now ++ decimal loads.LOAD_HEIGHT ++ loads.SHAPE_END.now
+unfoldable pub load_end : (to : ℕ) → List ℕ
+load_end to =
+    loads.TO_SLOT.now ++ decimal to ++ loads.TO_LOAD.now ++ decimal loads.LOAD_HEIGHT ++ loads.SHAPE_END.now
 
-abbrev pub load_shape : Record → List ℕ
-load_shape r = load_front r.slots ++ load_line r ++ load_end r.slots
+unfoldable pub load_shape : Record → Stretch → List ℕ
+load_shape r s = load_front s ++ load_line r s ++ load_end s.to
 
 -- the line of the loads under those of the rows
-abbrev pub load_picture : Record → List ℕ
-load_picture r = loads.LOAD.now ++ load_shape r ++ loads.LOAD_END.now
+abbrev pub load_picture : Record → Stretch → List ℕ
+load_picture r s = loads.LOAD.now ++ load_shape r s ++ loads.LOAD_END.now
 
 -- what the overview has of a cell after its name: its loads, how full it gets, and how many orders it refused
 unfoldable pub strip_facts : Facts → List ℕ
@@ -177,45 +190,48 @@ strip_facts facts =
     cells.STRIP_FACTS.now ++ fullest_text facts ++ facts_texts.REFUSED.now ++ decimal facts.refused
     ++ cells.STRIP_END.now
 
-abbrev pub strip_text : Record → Facts → List ℕ
-strip_text r facts = load_shape r ++ strip_facts facts
+abbrev pub strip_text : Record → Stretch → Facts → List ℕ
+strip_text r s facts = load_shape r s ++ strip_facts facts
 
 -- what its section has after its name: what counts of it, the rows of its report in their order, each a line, then its
 -- loads and the axis
-abbrev pub contents_text : Record → List ShownMessage → Facts → List ℕ
-contents_text r shown facts =
-    cells.NAME_END.now ++ facts_text facts ++ cells.FACTS_END.now ++ flat_map (line_of r shown) (cell_rows r shown)
-    ++ load_picture r ++ axis r.slots ++ cells.CELL_END.now
+abbrev pub contents_text : Record → Stretch → List ShownMessage → Facts → List ℕ
+contents_text r s shown facts =
+    cells.NAME_END.now ++ facts_text facts ++ cells.FACTS_END.now ++ flat_map (line_of r s shown) (rows_in r s shown)
+    ++ load_picture r s ++ axis s ++ cells.CELL_END.now
 
 -- what is drawn of a cell
-abbrev pub facts_in : Record → List ShownMessage → Facts
-facts_in r shown = facts_of (cell_rows r shown) (loads_in r)
+abbrev pub facts_in : Record → Stretch → List ShownMessage → Facts
+facts_in r s shown = facts_of (rows_in r s shown) s.from (loads_in r s)
 
-abbrev pub panel_of : Record → List ShownMessage → Panel
-panel_of r shown = record {
+abbrev pub panel_in : Record → Stretch → List ShownMessage → Panel
+panel_in r s shown = record {
   cell = r.cell;
-  strip = strip_text r (facts_in r shown);
-  contents = contents_text r shown (facts_in r shown);
+  strip = strip_text r s (facts_in r s shown);
+  contents = contents_text r s shown (facts_in r s shown);
 }
+
+abbrev pub panel_of : Option Part → Record → List ShownMessage → Panel
+panel_of part r shown = panel_in r (stretch_of part r.slots) shown
 
 -- the cells that are drawn: the one that is wanted, or all
 abbrev pub is_wanted : Option Cell → Cell → Bool
 is_wanted None cell = true
 is_wanted (Some wanted) cell = (wanted.lac == cell.lac) && (wanted.ci == cell.ci)
 
-abbrev pub panel_if : Option Cell → Record → List ShownMessage → List Panel
-panel_if wanted r shown = if is_wanted wanted r.cell then panel_of r shown ∷ [] else []
+abbrev pub panel_if : View → Record → List ShownMessage → List Panel
+panel_if view r shown = if is_wanted view.cell r.cell then panel_of view.part r shown ∷ [] else []
 
 -- the panels of cells, each with the reading of its blocks
-abbrev pub panels_of : Option Cell → List Record → List TapeReading → List Panel
-panels_of wanted [] readings = []
-panels_of wanted (r ∷ records) [] = []
-panels_of wanted (r ∷ records) (reading ∷ readings) =
-    panel_if wanted r reading.shown ++ panels_of wanted records readings
+abbrev pub panels_of : View → List Record → List TapeReading → List Panel
+panels_of view [] readings = []
+panels_of view (r ∷ records) [] = []
+panels_of view (r ∷ records) (reading ∷ readings) =
+    panel_if view r reading.shown ++ panels_of view records readings
 
 -- what is drawn of the cells
-abbrev pub sections_of : Option Cell → List Record → List TapeReading → List ℕ
-sections_of wanted records readings = sections_text (panels_of wanted records readings)
+abbrev pub sections_of : View → List Record → List TapeReading → List ℕ
+sections_of view records readings = sections_text (panels_of view records readings)
 
 -- the head of the page, and what its reader is told first
 unfoldable pub head : List ℕ
@@ -228,14 +244,23 @@ introduction = charts.INTRODUCTION.now
 abbrev pub slots_words : (slots : ℕ) → List ℕ
 slots_words slots = if slots == 1 then charts.SLOT.now else charts.SLOTS.now
 
-unfoldable pub chart_front : (slots : ℕ) → List ℕ
-chart_front slots =
-    head ++ decimal slots ++ slots_words slots ++ time_text slots ++ introduction
+unfoldable pub run_text : (slots : ℕ) → List ℕ
+run_text slots = decimal slots ++ slots_words slots ++ time_text slots ++ charts.RUN_END.now
+
+-- and which part of them is drawn
+unfoldable pub stretch_text : Stretch → List ℕ
+stretch_text s = charts.PART.now ++ slot_text s.from ++ charts.PART_TO.now ++ slot_text s.to ++ charts.PART_END.now
+
+abbrev pub part_text : Stretch → List ℕ
+part_text s = if s.is_part then stretch_text s else []
+
+unfoldable pub chart_front : (slots : ℕ) → Option Part → List ℕ
+chart_front slots part = head ++ run_text slots ++ part_text (stretch_of part slots) ++ introduction
 
 -- the chart of records, and of what handsets read of their blocks
-abbrev pub chart_text : (slots : ℕ) → Option Cell → List Record → List TapeReading → List ℕ
-chart_text slots wanted records readings =
-    chart_front slots ++ sections_of wanted records readings ++ charts.FOOT.now
+abbrev pub chart_text : (slots : ℕ) → View → List Record → List TapeReading → List ℕ
+chart_text slots view records readings =
+    chart_front slots view.part ++ sections_of view records readings ++ charts.FOOT.now
 
 -- the sections of a group of a network are folded under its number; there is nothing where no cell of it is drawn
 unfoldable pub group_front : (group : ℕ) → List ℕ
@@ -246,23 +271,23 @@ folded group [] = []
 folded group (octet ∷ sections) = group_front group ++ (octet ∷ sections) ++ charts.GROUP_FOOT.now
 
 -- the part of a group in the chart of its network: the front of the page is the first group's, and the end the last's
-abbrev pub front_if_first : (slots group : ℕ) → List ℕ
-front_if_first slots group = if group == 0 then chart_front slots else []
+abbrev pub front_if_first : (slots group : ℕ) → Option Part → List ℕ
+front_if_first slots group part = if group == 0 then chart_front slots part else []
 
 abbrev pub foot_if : (last : Bool) → List ℕ
 foot_if last = if last then charts.FOOT.now else []
 
-abbrev pub chart_part : (slots group : ℕ) → (last : Bool) → Option Cell → List Record → List TapeReading → List ℕ
-chart_part slots group last wanted records readings =
-    front_if_first slots group ++ folded group (sections_of wanted records readings) ++ foot_if last
+abbrev pub chart_part : (slots group : ℕ) → (last : Bool) → View → List Record → List TapeReading → List ℕ
+chart_part slots group last view records readings =
+    front_if_first slots group view.part ++ folded group (sections_of view records readings) ++ foot_if last
 
 -- a writer held so much before a call, and after it that with the chart of records and readings, or with a front of it
-abbrev pub WritesChart : {W : Type 0} → (held : W → Option (List ℕ)) → (slots : ℕ) → Option Cell → List Record
+abbrev pub WritesChart : {W : Type 0} → (held : W → Option (List ℕ)) → (slots : ℕ) → View → List Record
     → List Reading → (old new : Sink W) → Type 0
-WritesChart held slots wanted records readings old new =
-    Writes held (λ old new. Appends old new (chart_text slots wanted records (readings_of readings))) old new
+WritesChart held slots view records readings old new =
+    Writes held (λ old new. Appends old new (chart_text slots view records (readings_of readings))) old new
 
-abbrev pub WritesFront : {W : Type 0} → (held : W → Option (List ℕ)) → (slots : ℕ) → Option Cell → List Record
+abbrev pub WritesFront : {W : Type 0} → (held : W → Option (List ℕ)) → (slots : ℕ) → View → List Record
     → List Reading → (old new : Sink W) → Type 0
-WritesFront held slots wanted records readings old new =
-    Writes held (λ old new. AppendsFront old new (chart_text slots wanted records (readings_of readings))) old new
+WritesFront held slots view records readings old new =
+    Writes held (λ old new. AppendsFront old new (chart_text slots view records (readings_of readings))) old new

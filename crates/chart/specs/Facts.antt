@@ -1,5 +1,5 @@
 -- What counts of a cell (own): how many messages it took, how many orders it refused, and how full it gets.
-use Rattle.std.specs.Prelude.{ℕ, ◌-◌, ◌*◌, ◌==◌, Bool, true, false, List, ◌++◌, count_by, fold, length, max}
+use Rattle.std.specs.Prelude.{ℕ, ◌+◌, ◌-◌, ◌*◌, ◌==◌, Bool, true, false, List, ◌++◌, count_by, fold, length, max}
 use Rattle.std.specs.Fmt.{decimal}
 use Rattle.std.specs.Int.{div_ceil}
 use Rattle.std.specs.List.{position_from}
@@ -29,13 +29,13 @@ most_of loads = fold max 0 loads
 abbrev pub fullest_slot : List ℕ → ℕ
 fullest_slot loads = unwrap_or (position_from (λ load. load == most_of loads) 0 loads) 0
 
--- what counts of a cell with these rows of its report, which has reserved these loads at the slots
-abbrev pub facts_of : List Row → (loads : List ℕ) → Facts
-facts_of rows loads = record {
+-- what counts of a cell with these rows of its report, which has reserved these loads at the slots from this one on
+abbrev pub facts_of : List Row → (from : ℕ) → (loads : List ℕ) → Facts
+facts_of rows from loads = record {
   messages = length rows - count_by is_refusal rows;
   refused = count_by is_refusal rows;
   most = most_of loads;
-  slot = fullest_slot loads;
+  slot = from + fullest_slot loads;
 }
 
 -- how many hundredths of a cell a load takes, rounded up

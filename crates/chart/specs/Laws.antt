@@ -1,6 +1,6 @@
 -- What the marks, the loads, the sections and the axis of a chart promise (own).
-use Rattle.std.specs.Prelude.{◌≡◌, ◌↔◌, ℕ, ◌-◌, ◌*◌, ◌<◌, ◌≤◌, true, All, List, count_by, if◌then◌else◌, nat_le}
-use Rattle.std.specs.List.{range_with_len}
+use Rattle.std.specs.Prelude.{◌≡◌, ◌↔◌, ℕ, ◌+◌, ◌-◌, ◌*◌, ◌<◌, ◌≤◌, true, All, List, count_by, if◌then◌else◌, nat_le}
+use Rattle.std.specs.Prelude.{None, Some}
 use Rattle.admission.specs.declared.measure.TheConstants.{SCALE}
 use Rattle.scheduler.specs.Air.{Air}
 use Rattle.scheduler.specs.Completed.{completed}
@@ -10,20 +10,23 @@ use Rattle.bsc_table.specs.Record.{Record, accepted_in}
 use Rattle.handset.specs.Reception.{ShownMessage}
 use Rattle.report.specs.Rows.{message_row}
 use Rattle.chart.specs.Load.{height_of}
-use Rattle.chart.specs.Message.{are_many, end_within, is_marked}
+use Rattle.chart.specs.Message.{are_many, is_marked, marked_slots}
 use Rattle.chart.specs.Panels.{is_like}
 use Rattle.chart.specs.declared.panel.Panel.{Panel}
 use Rattle.chart.specs.declared.load.TheConstants.{LOAD_HEIGHT, LOAD_STEP}
 use Rattle.chart.specs.declared.time.TheConstants.{MOST_TICKS}
-use Rattle.chart.specs.Time.{seconds_at, step_of}
+use Rattle.chart.specs.Time.{first_number, seconds_at, step_in}
+use Rattle.chart.specs.View.{stretch_of}
+use Rattle.chart.specs.declared.view.Part.{Part}
+use Rattle.chart.specs.declared.view.Stretch.{Stretch}
 
--- how many marks a message has
-abbrev pub number_of_marks : (slots : ℕ) → Air → ScheduledMessage → ℕ
-number_of_marks slots air m = count_by (is_marked air m) (range_with_len m.start (end_within slots m - m.start))
+-- how many marks a message has at the slots that are drawn
+abbrev pub number_of_marks : Stretch → (slots : ℕ) → Air → ScheduledMessage → ℕ
+number_of_marks s slots air m = count_by (is_marked air m) (marked_slots s slots m)
 
 -- how many are drawn of a message of which this many broadcasts are whole
-abbrev pub number_drawn : (whole slots : ℕ) → Air → ScheduledMessage → ℕ
-number_drawn whole slots air m = if are_many whole then 0 else number_of_marks slots air m
+abbrev pub number_drawn : Stretch → (whole slots : ℕ) → Air → ScheduledMessage → ℕ
+number_drawn s whole slots air m = if are_many s whole then 0 else number_of_marks s slots air m
 
 -- an accepted message has as many marks as broadcasts of it were completed, if these are at most 400, and else none
 abbrev pub MarksAreCompleted : Type 0
@@ -31,8 +34,18 @@ MarksAreCompleted = (r : Record) (shown : List ShownMessage)
     → IsLegal r
     → r.clock ≡ r.slots
     → All (λ a. let whole = completed a.message r.air r.slots in
-    (number_drawn (message_row r shown a).completed r.slots r.air a.message ≡ (if nat_le whole 400 then whole else 0)))
+    (number_drawn (stretch_of None r.slots) (message_row r shown a).completed r.slots r.air a.message
+    ≡ (if nat_le whole 400 then whole else 0)))
     (accepted_in r.log)
+
+-- in a part of the run it has as many as were completed in it, however many these are
+abbrev pub MarksOfPartsAreCompleted : Type 0
+MarksOfPartsAreCompleted = (r : Record) (shown : List ShownMessage) (part : Part)
+    → IsLegal r
+    → r.clock ≡ r.slots
+    → All (λ a. let s = stretch_of (Some part) r.slots in
+    (number_drawn s (message_row r shown a).completed r.slots r.air a.message
+    ≡ completed a.message r.air s.to - completed a.message r.air s.from)) (accepted_in r.log)
 
 -- a full cell is as high as the picture in steps, is drawn at its top, an empty one at its bottom, and more never lower
 -- than less
@@ -44,6 +57,9 @@ HeightsAreOfLoads = (LOAD_HEIGHT * LOAD_STEP ≡ SCALE) × (height_of SCALE ≡ 
 abbrev pub LikeAreTheSame : Type 0
 LikeAreTheSame = (p other : Panel) → (is_like p other ≡ true) ↔ (other.contents ≡ p.contents)
 
--- an axis has a tick at each multiple of its step that the run lasts: one more than it may have would come later
+-- an axis has a tick at each multiple of its step within what is drawn: the one before its first comes earlier, and one
+-- more than it may have would come later
 abbrev pub TicksReachTheEnd : Type 0
-TicksReachTheEnd = (slots : ℕ) → slots < 65536 → seconds_at slots < MOST_TICKS * step_of (seconds_at slots)
+TicksReachTheEnd = (s : Stretch) → s.from ≤ s.to → s.to < 65536
+    → (((number : ℕ) → number < first_number s.from (step_in s) → number * step_in s * 13000 < s.from * 24480)
+    × (seconds_at s.to < (first_number s.from (step_in s) + MOST_TICKS) * step_in s))

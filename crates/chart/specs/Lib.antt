@@ -1,4 +1,5 @@
 pub mod Escape
+pub mod View
 pub mod Load
 pub mod Message
 pub mod ChartText

@@ -1,5 +1,6 @@
 -- What is drawn of an accepted message beside its row (own).
-use Rattle.std.specs.Prelude.{ℕ, ◌+◌, ◌-◌, ◌==◌, ◌&&◌, if◌then◌else◌, min, Option, Some, None, List, [], ◌++◌, find}
+use Rattle.std.specs.Prelude.{ℕ, ◌+◌, ◌-◌, ◌==◌, ◌&&◌, not, if◌then◌else◌, max, min, Option}
+use Rattle.std.specs.Prelude.{Some, None, List, [], ◌++◌, find}
 use Rattle.std.specs.Prelude.{Bool, false, ◌*◌, encode_utf8_all, nat_le, nat_lt, slice_get}
 use Rattle.std.specs.Fmt.{decimal}
 use Rattle.std.specs.List.{flat_map, range_with_len}
@@ -20,6 +21,8 @@ use Rattle.bsc_table.specs.declared.entry.Entry.{Entry}
 use Rattle.handset.specs.Reception.{ShownMessage}
 use Rattle.report.specs.declared.row.Demand.{Demand}
 use Rattle.report.specs.declared.row.Row.{Row}
+use Rattle.chart.specs.declared.view.Stretch.{Stretch}
+use Rattle.chart.specs.View.{holds}
 use Rattle.chart.specs.declared.message.TheConstants.{HIGH, NORMAL, BACKGROUND, MARK, MARK_END, MOST_MARKS}
 use Rattle.chart.specs.declared.message.TheConstants.{FIRST_END}
 use Rattle.chart.specs.declared.message.TheConstants.{EVERY_15_S, EVERY_30_S, EVERY_MINUTE, EVERY_2_MINUTES, RARER}
@@ -66,26 +69,35 @@ is_marked air m slot = option_map_or (airs_page m.entry m.pages) (slice_get air 
 abbrev pub mark_at : Air → ScheduledMessage → (slot : ℕ) → List ℕ
 mark_at air m slot = if is_marked air m slot then MARK.now ++ decimal (slot + 1) ++ MARK_END.now else []
 
-abbrev pub marks_of : (slots : ℕ) → Air → Option Accepted → List ℕ
-marks_of slots air None = []
-marks_of slots air (Some a) =
-    flat_map (mark_at air a.message) (range_with_len a.message.start (end_within slots a.message - a.message.start))
+-- the slots of its reservation that are drawn
+abbrev pub marked_from : Stretch → ScheduledMessage → ℕ
+marked_from s m = max m.start s.from
 
--- whether a message has so many whole broadcasts that one couldn't see a mark for each
-abbrev pub are_many : (whole : ℕ) → Bool
-are_many whole = nat_lt MOST_MARKS whole
+abbrev pub marked_to : Stretch → (slots : ℕ) → ScheduledMessage → ℕ
+marked_to s slots m = min (end_within slots m) s.to
+
+abbrev pub marked_slots : Stretch → (slots : ℕ) → ScheduledMessage → List ℕ
+marked_slots s slots m = range_with_len (marked_from s m) (marked_to s slots m - marked_from s m)
+
+abbrev pub marks_of : Stretch → (slots : ℕ) → Air → Option Accepted → List ℕ
+marks_of s slots air None = []
+marks_of s slots air (Some a) = flat_map (mark_at air a.message) (marked_slots s slots a.message)
+
+-- whether a message has so many whole broadcasts in a whole run that one couldn't see a mark for each
+abbrev pub are_many : Stretch → (whole : ℕ) → Bool
+are_many s whole = not s.is_part && nat_lt MOST_MARKS whole
 
 -- the marks that are drawn of a message of which this many broadcasts are whole: all, or none
-abbrev pub drawn_marks : (whole slots : ℕ) → Air → Option Accepted → List ℕ
-drawn_marks whole slots air found = if are_many whole then [] else marks_of slots air found
+abbrev pub drawn_marks : Stretch → (whole slots : ℕ) → Air → Option Accepted → List ℕ
+drawn_marks s whole slots air found = if are_many s whole then [] else marks_of s slots air found
 
 -- the mark where a phone shows a message first: at the end of the slot after whose blocks it does
 unfoldable pub first_mark_after : (slot : ℕ) → List ℕ
 first_mark_after slot = MARK.now ++ decimal (slot + 1) ++ FIRST_END.now
 
-abbrev pub first_mark : (first : Option ℕ) → List ℕ
-first_mark None = []
-first_mark (Some slot) = first_mark_after slot
+abbrev pub first_mark : Stretch → (first : Option ℕ) → List ℕ
+first_mark s None = []
+first_mark s (Some slot) = if holds s slot then first_mark_after slot else []
 
 -- its period in slots; 0 of what has none
 abbrev pub period_of : Option Demand → ℕ

@@ -1,7 +1,10 @@
 -- The times of slots, and the axis under a cell's lines (own).
-use Rattle.std.specs.Prelude.{ℕ, ◌*◌, ◌/◌, ◌%◌, Bool, nat_le, nat_lt, if◌then◌else◌, List, [], ◌++◌}
+use Rattle.std.specs.Prelude.{ℕ, ◌-◌, ◌*◌, ◌/◌, ◌%◌, Bool, nat_le, nat_lt, if◌then◌else◌, List, [], ◌++◌}
 use Rattle.std.specs.Fmt.{decimal}
+use Rattle.std.specs.Int.{div_ceil}
 use Rattle.std.specs.List.{flat_map, range_with_len}
+use Rattle.chart.specs.View.{width_of}
+use Rattle.chart.specs.declared.view.Stretch.{Stretch}
 use Rattle.chart.specs.declared.time.TheConstants as times
 
 -- a number below 100 in two digits
@@ -47,21 +50,29 @@ place_of seconds = seconds * 1300000 / 24480
 unfoldable pub place_text : (place : ℕ) → List ℕ
 place_text place = decimal (place / 100) ++ times.POINT.now ++ two_digits (place % 100)
 
--- a tick: where it stands, of how many slots, and then the slot that is on the air there, and the time
-unfoldable pub tick_front : (slots place : ℕ) → List ℕ
-tick_front slots place = times.TICK.now ++ place_text place ++ times.OF.now ++ decimal slots ++ times.TICK_PLACED.now
+-- a tick: where it stands, of how many slots that are drawn, and then the slot that is on the air there, and the time
+unfoldable pub tick_front : (width place : ℕ) → List ℕ
+tick_front width place = times.TICK.now ++ place_text place ++ times.OF.now ++ decimal width ++ times.TICK_PLACED.now
 
-unfoldable pub tick : (slots seconds : ℕ) → List ℕ
-tick slots seconds =
-    tick_front slots (place_of seconds) ++ decimal (place_of seconds / 100) ++ times.AT.now ++ clock_text seconds
-    ++ times.TICK_END.now
+unfoldable pub tick : Stretch → (seconds : ℕ) → List ℕ
+tick s seconds =
+    tick_front (width_of s) (place_of seconds - s.from * 100) ++ decimal (place_of seconds / 100) ++ times.AT.now
+    ++ clock_text seconds ++ times.TICK_END.now
 
--- it is within the run
-abbrev pub tick_within : (slots step number : ℕ) → List ℕ
-tick_within slots step number = if nat_le (number * step) (seconds_at slots) then tick slots (number * step) else []
+-- it comes no later than the end of what is drawn
+abbrev pub tick_within : Stretch → (step number : ℕ) → List ℕ
+tick_within s step number = if nat_le (number * step) (seconds_at s.to) then tick s (number * step) else []
 
-unfoldable pub ticks : (slots : ℕ) → List ℕ
-ticks slots = flat_map (tick_within slots (step_of (seconds_at slots))) (range_with_len 0 times.MOST_TICKS)
+-- the step of an axis, and the number of the first multiple that doesn't come before what is drawn
+abbrev pub step_in : Stretch → ℕ
+step_in s = step_of (seconds_at s.to - seconds_at s.from)
 
-unfoldable pub axis : (slots : ℕ) → List ℕ
-axis slots = times.AXIS.now ++ ticks slots ++ times.AXIS_END.now
+abbrev pub first_number : (from step : ℕ) → ℕ
+first_number from step = div_ceil (from * 24480) (step * 13000)
+
+unfoldable pub ticks : Stretch → List ℕ
+ticks s =
+    flat_map (tick_within s (step_in s)) (range_with_len (first_number s.from (step_in s)) times.MOST_TICKS)
+
+unfoldable pub axis : Stretch → List ℕ
+axis s = times.AXIS.now ++ ticks s ++ times.AXIS_END.now

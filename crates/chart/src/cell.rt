@@ -1,21 +1,22 @@
 //! What is drawn of a cell.
 
-ghost use Rattle.std.specs.Prelude.{◌≡◌, ◌≢◌, ◌≤◌, ◌++◌, length, IfErr, IfOk, OnOk};
+ghost use Rattle.std.specs.Prelude.{◌≡◌, ◌≢◌, ◌≤◌, ◌++◌, filter, length, IfErr, IfOk, OnOk};
 ghost use Rattle.admission.specs.declared.measure.TheConstants.{SCALE};
 ghost use Rattle.bsc_table.specs.Record.{Record, claims_in};
 ghost use Rattle.handset.specs.Keeping.{messages_shown};
-ghost use Rattle.report.specs.Rows.{cell_rows};
-ghost use Rattle.chart.specs.ChartText.{contents_text, panel_of, strip_facts, strip_text};
+ghost use Rattle.chart.specs.ChartText.{contents_text, panel_of, rows_in, strip_facts, strip_text};
 ghost use Rattle.chart.specs.LineSteps.{IsContext};
-ghost use Rattle.chart.specs.Load.{AreLoads};
+ghost use Rattle.chart.specs.Load.{AreLoadsFrom};
+ghost use Rattle.chart.specs.View.{is_drawn, width_of};
 
 use crate::facts::{Facts, REFUSED, facts_of, push_facts, push_fullest};
 use crate::kept::accepted_in;
 use crate::line::CellContext;
-use crate::load::{loads_of, push_loads, push_shape};
+use crate::load::{loads_of, loads_within, push_loads, push_shape};
 use crate::page::Page;
 use crate::panel::Panel;
 use crate::time::push_axis;
+use crate::view::{Part, Stretch, stretch_of};
 use bsc_table::CellRecord;
 use handset::Reading;
 use report::{ReportFault, Row, rows};
@@ -51,14 +52,20 @@ fn push_strip_facts(page: &mut Page, facts: Facts) -> Result<(), AllocError>
 }
 
 /// What a strip has after its name.
-fn strip_of(alloc: Global, slots: u16, loads: &[u64], facts: Facts) -> Result<Page, AllocError>
-    requires slots { length loads.now ≡ slots }
+fn strip_of(
+    alloc: Global,
+    stretch: Stretch,
+    loads: &[u64],
+    facts: Facts,
+) -> Result<Page, AllocError>
+    requires width { length loads.now ≡ width_of stretch }
+    requires ordered { stretch.from ≤ stretch.to }
     requires most { facts.most ≤ SCALE }
-    ensures { IfOk result (λ strip. (r : Record) → r.slots ≡ slots → AreLoads (claims_in r.log) loads.now
-        → strip ≡ strip_text r facts) }
+    ensures { IfOk result (λ strip. (r : Record) → AreLoadsFrom stretch.from (claims_in r.log) loads.now
+        → strip ≡ strip_text r stretch facts) }
 {
     let mut strip = Page::new(alloc);
-    push_shape(&mut strip, slots, loads)?;
+    push_shape(&mut strip, stretch, loads)?;
     push_strip_facts(&mut strip, facts)?;
     Ok(strip)
 }
@@ -72,53 +79,68 @@ fn contents_of(
     facts: Facts,
 ) -> Result<Page, AllocError>
     requires context { IsContext context.now }
-    requires slots { length loads.now ≡ context.now.run.now.slots }
-    requires loads { AreLoads (claims_in context.now.run.now.log) loads.now }
+    requires width { length loads.now ≡ width_of context.now.stretch }
+    requires ordered { context.now.stretch.from ≤ context.now.stretch.to }
+    requires loads { AreLoadsFrom context.now.stretch.from (claims_in context.now.run.now.log) loads.now }
     requires most { facts.most ≤ SCALE }
-    ensures { IfOk result (λ contents. rows.now ≡ cell_rows context.now.run.now (messages_shown context.now.shown.now)
-        → contents ≡ contents_text context.now.run.now (messages_shown context.now.shown.now) facts) }
+    ensures { IfOk result (λ contents. rows.now
+        ≡ rows_in context.now.run.now context.now.stretch (messages_shown context.now.shown.now)
+        → contents ≡ contents_text context.now.run.now context.now.stretch (messages_shown context.now.shown.now)
+        facts) }
 {
-    let slots = context.run.slots();
+    let stretch = context.stretch;
     let mut contents = Page::new(alloc);
     contents.markup(NAME_END)?;
     push_facts(&mut contents, facts)?;
     contents.markup(FACTS_END)?;
     context.push_lines(&mut contents, rows)?;
-    push_loads(&mut contents, slots, loads)?;
-    push_axis(&mut contents, slots)?;
+    push_loads(&mut contents, stretch, loads)?;
+    push_axis(&mut contents, stretch)?;
     contents.markup(CELL_END)?;
     Ok(contents)
+}
+
+/// Keeps the rows that are drawn.
+fn keep_drawn(rows: &mut Vec<Row>, stretch: Stretch)
+    ensures { rows.new.items ≡ filter (is_drawn stretch) rows.old.items }
+{
+    rows.retain(|row| stretch.is_drawn(row));
 }
 
 /// What is drawn of a cell.
 pub(crate) fn panel_of(
     alloc: Global,
+    part: Option<Part>,
     run: &CellRecord,
     reading: &Reading,
 ) -> Result<Panel, ReportFault>
     ensures panel { IfOk result (λ panel. panel
-        ≡ panel_of run.now (messages_shown reading.now.shown.items)) }
+        ≡ panel_of part run.now (messages_shown reading.now.shown.items)) }
     ensures cells { IfErr result (λ fault. fault ≡ ReportFault.Cells → run.now.cell ≢ reading.now.cell) }
     ensures faults { IfErr result (λ fault. fault ≢ ReportFault.WriteFailed) }
 {
     // The loads of accepted messages fit.
     bsc_table::legal_histories();
     let slots = run.slots();
-    let rows = match rows(alloc, slice::from_ref(run), slice::from_ref(reading)) {
+    let stretch = stretch_of(part, slots);
+    let mut rows = match rows(alloc, slice::from_ref(run), slice::from_ref(reading)) {
         Ok(rows) => rows,
         Err(fault) => return Err(fault),
     };
+    keep_drawn(&mut rows, stretch);
     let messages = accepted_in(alloc, run.log())?;
-    let loads = loads_of(alloc, &messages, slots)?;
-    let facts = facts_of(&rows, &loads);
+    let all_loads = loads_of(alloc, &messages, slots)?;
+    let loads = loads_within(&all_loads, stretch);
+    let facts = facts_of(&rows, stretch.from, loads);
     let context = CellContext {
         alloc,
+        stretch,
         run,
         shown: &reading.shown,
         messages: &messages,
     };
-    let strip = strip_of(alloc, slots, &loads, facts)?;
-    let contents = contents_of(alloc, &context, &rows, &loads, facts)?;
+    let strip = strip_of(alloc, stretch, loads, facts)?;
+    let contents = contents_of(alloc, &context, &rows, loads, facts)?;
     Ok(Panel {
         cell: run.cell(),
         strip,

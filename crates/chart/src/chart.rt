@@ -6,14 +6,15 @@ ghost use Rattle.handset.specs.Keeping.{messages_shown};
 ghost use Rattle.handset.specs.Tape.{readings_of};
 ghost use Rattle.report.specs.Rows.{AreOfOneCells};
 ghost use Rattle.chart.specs.ChartText.{chart_front, chart_part, chart_text, folded, foot_if, front_if_first};
-ghost use Rattle.chart.specs.ChartText.{group_front, head, introduction, is_wanted};
+ghost use Rattle.chart.specs.ChartText.{group_front, head, introduction, is_wanted, part_text, run_text, stretch_text};
 ghost use Rattle.chart.specs.ChartText.{panel_if, panels_of, sections_of, slots_words, WritesChart, WritesFront};
 
 use crate::cell::panel_of;
 use crate::page::Page;
 use crate::panel::Panel;
 use crate::section::push_all;
-use crate::time::push_time;
+use crate::time::{push_slot, push_time};
+use crate::view::{Part, Stretch, View, stretch_of};
 use bsc_table::CellRecord;
 use cbsp_wire::Cell;
 use device_ends::{Failed, Sink, write_all};
@@ -101,7 +102,19 @@ pub const SLOTS: &str = " slots of 1.883 s, ";
 pub const SLOT: &str = " slot of 1.883 s, ";
 
 /// What comes after their time.
-pub const INTRODUCTION: &str = r#" (h:mm:ss).</p>
+pub const RUN_END: &str = " (h:mm:ss).";
+
+/// What comes before the first slot of the part that is drawn.
+pub const PART: &str = " Drawn from slot ";
+
+/// What comes before the slot after its last one.
+pub const PART_TO: &str = " to slot ";
+
+/// What comes after it.
+pub const PART_END: &str = ", with all marks.";
+
+/// What the reader of the page is told then.
+pub const INTRODUCTION: &str = r#"</p>
 <p class="pace">A message is sent every <b class="f5"></b>15 s <b class="f4"></b>30 s <b class="f3"></b>minute
 <b class="f2"></b>2 minutes <b class="f1"></b>or less often</p>
 <p>A bar is a message from its start to its end, with a mark wherever a broadcast of it is whole, or with their number
@@ -135,17 +148,17 @@ fn is_wanted(wanted: Option<Cell>, cell: Cell) -> bool
 fn add_if_wanted(
     alloc: Global,
     panels: &mut Vec<Panel>,
-    wanted: Option<Cell>,
+    view: View,
     run: &CellRecord,
     reading: &Reading,
 ) -> Result<(), ReportFault>
     ensures panel { OnOk result (panels.new.items
-        ≡ panels.old.items ++ panel_if wanted run.now (messages_shown reading.now.shown.items)) }
+        ≡ panels.old.items ++ panel_if view run.now (messages_shown reading.now.shown.items)) }
     ensures cells { IfErr result (λ fault. fault ≡ ReportFault.Cells → run.now.cell ≢ reading.now.cell) }
     ensures faults { IfErr result (λ fault. fault ≢ ReportFault.WriteFailed) }
 {
-    if is_wanted(wanted, run.cell()) {
-        let panel = match panel_of(alloc, run, reading) {
+    if is_wanted(view.cell, run.cell()) {
+        let panel = match panel_of(alloc, view.part, run, reading) {
             Ok(panel) => panel,
             Err(fault) => return Err(fault),
         };
@@ -165,19 +178,19 @@ fn add(panels: &mut Vec<Panel>, panel: Panel) -> Result<(), AllocError>
 /// The panels of the cells that are wanted.
 fn panels_of(
     alloc: Global,
-    wanted: Option<Cell>,
+    view: View,
     records: &[CellRecord],
     readings: &[Reading],
 ) -> Result<Vec<Panel>, ReportFault>
     requires { length records.now ≡ length readings.now }
     ensures panels { IfOk result (λ panels. panels.items
-        ≡ panels_of wanted records.now (readings_of readings.now)) }
+        ≡ panels_of view records.now (readings_of readings.now)) }
     ensures cells { IsErrOf result ReportFault.Cells → ¬ AreOfOneCells records.now (readings_of readings.now) }
     ensures faults { IfErr result (λ fault. fault ≢ ReportFault.WriteFailed) }
 {
     let mut panels = Vec::new(alloc);
     for (place, record) in records.iter().enumerate() {
-        add_if_wanted(alloc, &mut panels, wanted, record, &readings[place])?;
+        add_if_wanted(alloc, &mut panels, view, record, &readings[place])?;
     }
     Ok(panels)
 }
@@ -186,17 +199,17 @@ fn panels_of(
 fn push_sections(
     alloc: Global,
     page: &mut Page,
-    wanted: Option<Cell>,
+    view: View,
     records: &[CellRecord],
     readings: &[Reading],
 ) -> Result<(), ReportFault>
     requires { length records.now ≡ length readings.now }
     ensures sections { OnOk result (page.new
-        ≡ page.old ++ sections_of wanted records.now (readings_of readings.now)) }
+        ≡ page.old ++ sections_of view records.now (readings_of readings.now)) }
     ensures cells { IsErrOf result ReportFault.Cells → ¬ AreOfOneCells records.now (readings_of readings.now) }
     ensures faults { IfErr result (λ fault. fault ≢ ReportFault.WriteFailed) }
 {
-    let panels = panels_of(alloc, wanted, records, readings)?;
+    let panels = panels_of(alloc, view, records, readings)?;
     push_all(alloc, page, &panels)?;
     Ok(())
 }
@@ -224,15 +237,48 @@ fn slots_words(slots: u16) -> &'static str
     if slots == 1 { SLOT } else { SLOTS }
 }
 
-/// Appends the front of the page.
-#[tactic(auto, unfolding(crate::specs::ChartText::chart_front))]
-fn push_front(page: &mut Page, slots: u16) -> Result<(), AllocError>
-    ensures { OnOk result (page.new ≡ page.old ++ chart_front slots) }
+/// Appends how long the runs are.
+#[tactic(auto, unfolding(crate::specs::ChartText::run_text))]
+fn push_run(page: &mut Page, slots: u16) -> Result<(), AllocError>
+    ensures { OnOk result (page.new ≡ page.old ++ run_text slots) }
 {
-    push_head(page)?;
     page.number(u64::from(slots))?;
     page.markup(slots_words(slots))?;
     push_time(page, u32::from(slots))?;
+    page.markup(RUN_END)
+}
+
+/// Appends which slots are drawn.
+#[tactic(auto, unfolding(crate::specs::ChartText::stretch_text))]
+fn push_stretch(page: &mut Page, stretch: Stretch) -> Result<(), AllocError>
+    ensures { OnOk result (page.new ≡ page.old ++ stretch_text stretch) }
+{
+    page.markup(PART)?;
+    push_slot(page, u32::from(stretch.from))?;
+    page.markup(PART_TO)?;
+    push_slot(page, u32::from(stretch.to))?;
+    page.markup(PART_END)
+}
+
+/// Appends which part is drawn, if it isn't all.
+fn push_part(page: &mut Page, stretch: Stretch) -> Result<(), AllocError>
+    ensures { OnOk result (page.new ≡ page.old ++ part_text stretch) }
+{
+    if stretch.is_part {
+        push_stretch(page, stretch)
+    } else {
+        Ok(())
+    }
+}
+
+/// Appends the front of the page.
+#[tactic(auto, unfolding(crate::specs::ChartText::chart_front))]
+fn push_front(page: &mut Page, slots: u16, part: Option<Part>) -> Result<(), AllocError>
+    ensures { OnOk result (page.new ≡ page.old ++ chart_front slots part) }
+{
+    push_head(page)?;
+    push_run(page, slots)?;
+    push_part(page, stretch_of(part, slots))?;
     push_introduction(page)
 }
 
@@ -240,11 +286,11 @@ fn push_front(page: &mut Page, slots: u16) -> Result<(), AllocError>
 fn page_of(
     alloc: Global,
     slots: u16,
-    wanted: Option<Cell>,
+    view: View,
     records: &[CellRecord],
     readings: &[Reading],
 ) -> Result<Page, ReportFault>
-    ensures page { IfOk result (λ page. page ≡ chart_text slots wanted records.now (readings_of readings.now)) }
+    ensures page { IfOk result (λ page. page ≡ chart_text slots view records.now (readings_of readings.now)) }
     ensures cells { IsErrOf result ReportFault.Cells → ¬ AreOfOneCells records.now (readings_of readings.now) }
     ensures faults { IfErr result (λ fault. fault ≢ ReportFault.WriteFailed) }
 {
@@ -252,8 +298,8 @@ fn page_of(
         return Err(ReportFault::Cells);
     }
     let mut page = Page::new(alloc);
-    push_front(&mut page, slots)?;
-    push_sections(alloc, &mut page, wanted, records, readings)?;
+    push_front(&mut page, slots, view.part)?;
+    push_sections(alloc, &mut page, view, records, readings)?;
     page.markup(FOOT)?;
     Ok(page)
 }
@@ -267,16 +313,16 @@ fn page_of(
 pub fn chart_octets(
     alloc: Global,
     slots: u16,
-    wanted: Option<Cell>,
+    view: View,
     records: &[CellRecord],
     readings: &[Reading],
 ) -> Result<Vec<u8>, ReportFault>
     ensures page { IfOk result (λ octets. octets.items
-        ≡ chart_text slots wanted records.now (readings_of readings.now)) }
+        ≡ chart_text slots view records.now (readings_of readings.now)) }
     ensures cells { IsErrOf result ReportFault.Cells → ¬ AreOfOneCells records.now (readings_of readings.now) }
     ensures faults { IfErr result (λ fault. fault ≢ ReportFault.WriteFailed) }
 {
-    let page = page_of(alloc, slots, wanted, records, readings)?;
+    let page = page_of(alloc, slots, view, records, readings)?;
     Ok(page.into_octets())
 }
 
@@ -303,11 +349,16 @@ fn push_group(page: &mut Page, group: u16) -> Result<(), AllocError>
 }
 
 /// Appends the front of the page, if the group is the first.
-fn push_front_if_first(page: &mut Page, slots: u16, group: u16) -> Result<(), AllocError>
-    ensures { OnOk result (page.new ≡ page.old ++ front_if_first slots group) }
+fn push_front_if_first(
+    page: &mut Page,
+    slots: u16,
+    group: u16,
+    part: Option<Part>,
+) -> Result<(), AllocError>
+    ensures { OnOk result (page.new ≡ page.old ++ front_if_first slots group part) }
 {
     if group == 0 {
-        push_front(page, slots)?;
+        push_front(page, slots, part)?;
     }
     Ok(())
 }
@@ -331,12 +382,12 @@ pub fn part_octets(
     slots: u16,
     group: u16,
     is_last: bool,
-    wanted: Option<Cell>,
+    view: View,
     records: &[CellRecord],
     readings: &[Reading],
 ) -> Result<Vec<u8>, ReportFault>
     ensures page { IfOk result (λ octets. octets.items
-        ≡ chart_part slots group is_last wanted records.now (readings_of readings.now)) }
+        ≡ chart_part slots group is_last view records.now (readings_of readings.now)) }
     ensures cells { IsErrOf result ReportFault.Cells → ¬ AreOfOneCells records.now (readings_of readings.now) }
     ensures faults { IfErr result (λ fault. fault ≢ ReportFault.WriteFailed) }
 {
@@ -344,9 +395,9 @@ pub fn part_octets(
         return Err(ReportFault::Cells);
     }
     let mut sections = Page::new(alloc);
-    push_sections(alloc, &mut sections, wanted, records, readings)?;
+    push_sections(alloc, &mut sections, view, records, readings)?;
     let mut page = Page::new(alloc);
-    push_front_if_first(&mut page, slots, group)?;
+    push_front_if_first(&mut page, slots, group, view.part)?;
     push_folded(&mut page, group, &sections)?;
     push_foot_if(&mut page, is_last)?;
     Ok(page.into_octets())
@@ -354,7 +405,8 @@ pub fn part_octets(
 
 /// Writes the chart of a run of `slots` slots: a page in HTML that stands alone, with a section for each cell, or for
 /// the wanted one alone: by its record and what a handset read of its blocks a line for each row of its report, in
-/// order, and the loads that it had reserved at each slot. Nothing is written before all of it is made.
+/// order, and the loads that it had reserved at each slot. Of a part of the run those rows have a line that touch it,
+/// bars and loads are cut to it, and a message has all of its marks. Nothing is written before all of it is made.
 ///
 /// # Errors
 ///
@@ -364,14 +416,14 @@ pub fn part_octets(
 pub fn write_chart<W: Write>(
     alloc: Global,
     slots: u16,
-    wanted: Option<Cell>,
+    view: View,
     records: &[CellRecord],
     readings: &[Reading],
     sink: &mut Sink<W>,
 ) -> Result<(), ReportFault>
-    ensures ok { OnOk result (WritesChart W.contents slots wanted records.now readings.now sink.old sink.new) }
+    ensures ok { OnOk result (WritesChart W.contents slots view records.now readings.now sink.old sink.new) }
     ensures front { IsErrOf result ReportFault.WriteFailed
-        → WritesFront W.contents slots wanted records.now readings.now sink.old sink.new }
+        → WritesFront W.contents slots view records.now readings.now sink.old sink.new }
     ensures cells { IsErrOf result ReportFault.Cells → ¬ AreOfOneCells records.now (readings_of readings.now) }
     ensures unwritten { IfErr result (λ fault. fault ≢ ReportFault.WriteFailed → sink.new ≡ sink.old) }
     ensures failed { IsErrOf result ReportFault.WriteFailed ↔ IsTrue (sink_failed sink.new) }
@@ -382,7 +434,7 @@ pub fn write_chart<W: Write>(
     if sink.failed() {
         return Err(ReportFault::WriteFailed);
     }
-    let page = match page_of(alloc, slots, wanted, records, readings) {
+    let page = match page_of(alloc, slots, view, records, readings) {
         Ok(page) => page,
         Err(fault) => return Err(fault),
     };

@@ -1,6 +1,6 @@
 //! What counts of a cell: how many messages it took, how many orders it refused, and how full it gets.
 
-ghost use Rattle.std.specs.Prelude.{◌≡◌, ◌<◌, ◌≤◌, ◌++◌, ◌==◌, count_by, length, All, OnOk};
+ghost use Rattle.std.specs.Prelude.{◌≡◌, ◌+◌, ◌<◌, ◌≤◌, ◌++◌, ◌==◌, count_by, length, All, OnOk};
 ghost use Rattle.std.specs.List.{position_from};
 ghost use Rattle.std.specs.Option.{unwrap_or};
 ghost use Rattle.admission.specs.declared.measure.TheConstants.{SCALE};
@@ -73,7 +73,8 @@ fn most_of(loads: &[u64]) -> u64
 /// The first slot with this load; 0 if there is none.
 fn slot_of(loads: &[u64], most: u64) -> u16
     requires { length loads.now < 65536 }
-    ensures { result ≡ unwrap_or (position_from (λ load. load == most) 0 loads.now) 0 }
+    ensures slot { result ≡ unwrap_or (position_from (λ load. load == most) 0 loads.now) 0 }
+    ensures within { result ≤ length loads.now }
 {
     for (slot, load) in loads.iter().enumerate() {
         if *load == most {
@@ -83,10 +84,10 @@ fn slot_of(loads: &[u64], most: u64) -> u16
     0
 }
 
-/// What counts of a cell with these rows of its report, which has reserved these loads at the slots.
-pub(crate) fn facts_of(rows: &[Row], loads: &[u64]) -> Facts
-    requires { length loads.now < 65536 }
-    ensures facts { result ≡ facts_of rows.now loads.now }
+/// What counts of a cell with these rows of its report, which has reserved these loads at the slots from this one on.
+pub(crate) fn facts_of(rows: &[Row], from: u16, loads: &[u64]) -> Facts
+    requires { from + length loads.now < 65536 }
+    ensures facts { result ≡ facts_of rows.now from loads.now }
     ensures within { All (λ load. load ≤ SCALE) loads.now → result.most ≤ SCALE }
 {
     let refused = count_refused(rows);
@@ -95,7 +96,7 @@ pub(crate) fn facts_of(rows: &[Row], loads: &[u64]) -> Facts
         messages: rows.len().saturating_sub(refused),
         refused,
         most,
-        slot: slot_of(loads, most),
+        slot: from + slot_of(loads, most),
     }
 }
 

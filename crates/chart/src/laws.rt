@@ -1,7 +1,8 @@
 //! Laws of a chart.
 
 ghost use Rattle.chart.specs.Escape.{EscapedIsPlain};
-ghost use Rattle.chart.specs.Laws.{HeightsAreOfLoads, LikeAreTheSame, MarksAreCompleted, TicksReachTheEnd};
+ghost use Rattle.chart.specs.Laws.{HeightsAreOfLoads, LikeAreTheSame, MarksAreCompleted, MarksOfPartsAreCompleted};
+ghost use Rattle.chart.specs.Laws.{TicksReachTheEnd};
 
 /// States, as its contract, what texts, marks, loads, sections and axes are in a page. Does nothing: its body names the
 /// laws that carry it.
@@ -12,13 +13,16 @@ pub fn chart_laws()
     // A message has as many marks as broadcasts of it were completed, and none if these are over 400.
     ensures marks { MarksAreCompleted }
 
+    // In a part of the run it has as many as broadcasts of it were completed in that.
+    ensures parts { MarksOfPartsAreCompleted }
+
     // The picture of the loads is as high as a full cell, and in proportion.
     ensures heights { HeightsAreOfLoads }
 
     // Cells have one section exactly if what stands in theirs is the same.
     ensures sections { LikeAreTheSame }
 
-    // An axis has all ticks that the run lasts.
+    // An axis has all ticks of what is drawn.
     ensures ticks { TicksReachTheEnd }
 {
     bsc_table::guarantee();

@@ -21,6 +21,8 @@ mod page;
 pub mod panel;
 pub mod section;
 pub mod time;
+pub mod view;
 
 pub use chart::{chart_octets, part_octets, write_chart};
 pub use laws::chart_laws;
+pub use view::{Part, View};

@@ -9,7 +9,8 @@ ghost use Rattle.std.specs.Option.{option_map};
 ghost use Rattle.handset.specs.Keeping.{messages_shown};
 ghost use Rattle.chart.specs.ChartText.{bar, bar_front, first_text, line_of, many_class, many_text, message_end};
 ghost use Rattle.chart.specs.ChartText.{message_front, message_line, message_name, message_title, name_text};
-ghost use Rattle.chart.specs.ChartText.{number_text, picture_front, refusal_front, refusal_line, refusal_picture};
+ghost use Rattle.chart.specs.ChartText.{number_text, picture_front, picture_size, refusal_front, refusal_line};
+ghost use Rattle.chart.specs.ChartText.{refusal_picture};
 ghost use Rattle.chart.specs.ChartText.{every_text, refusal_title, shown_after, slots_text, standing_text, unseen_text};
 
 use crate::cause::push_cause;
@@ -21,6 +22,7 @@ use crate::message::{
 };
 use crate::page::Page;
 use crate::time::{push_slot, push_time_in_brackets};
+use crate::view::Stretch;
 use bsc_table::CellRecord;
 use handset::Shown;
 use report::{Row, Showing};
@@ -59,8 +61,11 @@ pub const REFUSED: &str = "</b> <span class=\"cause\">refused: ";
 /// What comes after its cause.
 pub const CAUSE_END: &str = "</span></p>\n";
 
-/// The front of a line's picture, up to its width.
-pub const PICTURE: &str = "<svg viewBox=\"0 0 ";
+/// The front of a line's picture, up to its first slot.
+pub const PICTURE: &str = "<svg viewBox=\"";
+
+/// What comes between its first slot and its width.
+pub const ORIGIN: &str = " 0 ";
 
 /// What comes before its title.
 pub const TITLE: &str = " 10\" preserveAspectRatio=\"none\" role=\"img\"><title>";
@@ -135,13 +140,23 @@ fn push_name(page: &mut Page, row: &Row) -> Result<(), AllocError>
     page.digits(row.serial.number().to_be_bytes().as_slice())
 }
 
-/// Appends the front of a row's picture, up to its name in the title and what its identifier means.
-#[tactic(auto, unfolding(crate::specs::ChartText::picture_front))]
-fn push_picture_front(page: &mut Page, slots: u16, row: &Row) -> Result<(), AllocError>
-    ensures { OnOk result (page.new ≡ page.old ++ picture_front slots row.now) }
+/// Appends the size of a row's picture.
+#[tactic(auto, unfolding(crate::specs::ChartText::picture_size))]
+fn push_picture_size(page: &mut Page, stretch: Stretch) -> Result<(), AllocError>
+    ensures { OnOk result (page.new ≡ page.old ++ picture_size stretch) }
 {
     page.markup(PICTURE)?;
-    page.number(u64::from(slots))?;
+    page.number(u64::from(stretch.from))?;
+    page.markup(ORIGIN)?;
+    page.number(u64::from(stretch.width()))
+}
+
+/// Appends the front of a row's picture, up to its name in the title and what its identifier means.
+#[tactic(auto, unfolding(crate::specs::ChartText::picture_front))]
+fn push_picture_front(page: &mut Page, stretch: Stretch, row: &Row) -> Result<(), AllocError>
+    ensures { OnOk result (page.new ≡ page.old ++ picture_front stretch row.now) }
+{
+    push_picture_size(page, stretch)?;
     page.markup(TITLE)?;
     push_name(page, row)?;
     push_meaning(page, row.id)
@@ -215,32 +230,32 @@ fn push_message_title(page: &mut Page, row: &Row, all_text: &str) -> Result<(), 
 }
 
 /// The class of a bar of which this many broadcasts are whole, where they are too many for marks.
-fn many_class(whole: u16) -> &'static str
-    ensures { result.now ≡ many_class whole }
+fn many_class(stretch: Stretch, whole: u16) -> &'static str
+    ensures { result.now ≡ many_class stretch whole }
 {
-    if are_many(whole) { MANY } else { "" }
+    if are_many(stretch, whole) { MANY } else { "" }
 }
 
 /// Appends the front of the bar of an accepted message, up to its start.
 #[tactic(auto, unfolding(crate::specs::ChartText::bar_front))]
-fn push_bar_front(page: &mut Page, row: &Row) -> Result<(), AllocError>
-    ensures { OnOk result (page.new ≡ page.old ++ bar_front row.now) }
+fn push_bar_front(page: &mut Page, stretch: Stretch, row: &Row) -> Result<(), AllocError>
+    ensures { OnOk result (page.new ≡ page.old ++ bar_front stretch row.now) }
 {
     page.markup(BAR)?;
     page.markup(pace(row))?;
-    page.markup(many_class(row.completed))?;
+    page.markup(many_class(stretch, row.completed))?;
     page.markup(BAR_START)
 }
 
-/// Appends the bar of an accepted message.
+/// Appends the bar of an accepted message, as far as it is drawn.
 #[tactic(auto, unfolding(crate::specs::ChartText::bar))]
-fn push_bar(page: &mut Page, row: &Row) -> Result<(), AllocError>
-    ensures { OnOk result (page.new ≡ page.old ++ bar row.now) }
+fn push_bar(page: &mut Page, stretch: Stretch, row: &Row) -> Result<(), AllocError>
+    ensures { OnOk result (page.new ≡ page.old ++ bar stretch row.now) }
 {
-    push_bar_front(page, row)?;
-    page.number(u64::from(row.start))?;
+    push_bar_front(page, stretch, row)?;
+    page.number(u64::from(stretch.bar_from(row)))?;
     page.markup(WIDTH)?;
-    page.number(u64::from(u32::from(row.end).saturating_sub(row.start)))?;
+    page.number(u64::from(stretch.bar_width(row)))?;
     page.markup(BAR_END)
 }
 
@@ -271,10 +286,10 @@ fn push_number(page: &mut Page, whole: u16) -> Result<(), AllocError>
 }
 
 /// Appends it, where they are too many for marks.
-fn push_many(page: &mut Page, whole: u16) -> Result<(), AllocError>
-    ensures { OnOk result (page.new ≡ page.old ++ many_text whole) }
+fn push_many(page: &mut Page, stretch: Stretch, whole: u16) -> Result<(), AllocError>
+    ensures { OnOk result (page.new ≡ page.old ++ many_text stretch whole) }
 {
-    if are_many(whole) {
+    if are_many(stretch, whole) {
         push_number(page, whole)
     } else {
         Ok(())
@@ -295,15 +310,16 @@ fn unseen_text(shown: Showing) -> &'static str
 #[tactic(auto, unfolding(crate::specs::ChartText::message_front))]
 fn push_message_front(
     page: &mut Page,
+    stretch: Stretch,
     row: &Row,
     found: Option<KeptMessage>,
     text: &str,
 ) -> Result<(), AllocError>
     ensures { OnOk result (page.new ≡ page.old
-        ++ message_front row.now (option_map accepted_kept found) text.now) }
+        ++ message_front stretch row.now (option_map accepted_kept found) text.now) }
 {
     push_message_name(page, row, found)?;
-    push_many(page, row.completed)?;
+    push_many(page, stretch, row.completed)?;
     page.markup(unseen_text(row.shown))?;
     page.markup(TEXT)?;
     page.text(text)?;
@@ -312,11 +328,11 @@ fn push_message_front(
 
 /// Appends the end of the line of an accepted message: the mark where a phone shows it first.
 #[tactic(auto, unfolding(crate::specs::ChartText::message_end))]
-fn push_message_end(page: &mut Page, first: Option<u16>) -> Result<(), AllocError>
-    ensures { OnOk result (page.new ≡ page.old ++ message_end first) }
+fn push_message_end(page: &mut Page, stretch: Stretch, first: Option<u16>) -> Result<(), AllocError>
+    ensures { OnOk result (page.new ≡ page.old ++ message_end stretch first) }
 {
     page.markup(MARKS_END)?;
-    push_first_mark(page, first)?;
+    push_first_mark(page, stretch, first)?;
     page.markup(LINE_END)
 }
 
@@ -345,21 +361,27 @@ fn push_refusal_title(page: &mut Page, row: &Row, cause: u8) -> Result<(), Alloc
 
 /// Appends the picture of a refused order.
 #[tactic(auto, unfolding(crate::specs::ChartText::refusal_picture))]
-fn push_refusal_picture(page: &mut Page, slots: u16, row: &Row, cause: u8) -> Result<(), AllocError>
-    ensures { OnOk result (page.new ≡ page.old ++ refusal_picture slots row.now cause) }
+fn push_refusal_picture(
+    page: &mut Page,
+    stretch: Stretch,
+    row: &Row,
+    cause: u8,
+) -> Result<(), AllocError>
+    ensures { OnOk result (page.new ≡ page.old ++ refusal_picture stretch row.now cause) }
 {
-    push_picture_front(page, slots, row)?;
+    push_picture_front(page, stretch, row)?;
     push_refusal_title(page, row, cause)?;
     page.markup(REFUSAL)?;
     page.number(u64::from(row.start))?;
     page.markup(REFUSAL_END)
 }
 
-/// What the lines of a cell have in common: its record, what a handset shows of its blocks, and the messages that its
-/// log accepted.
+/// What the lines of a cell have in common: the slots that are drawn, its record, what a handset shows of its blocks,
+/// and the messages that its log accepted.
 #[derive(Clone, Copy)]
 pub(crate) struct CellContext<'a> {
     pub(crate) alloc: Global,
+    pub(crate) stretch: Stretch,
     pub(crate) run: &'a CellRecord,
     pub(crate) shown: &'a [Shown],
     pub(crate) messages: &'a [KeptMessage],
@@ -381,7 +403,7 @@ impl<'a> CellContext<'a> {
     /// Appends the line of an accepted message that phones show.
     fn push_seen(&self, page: &mut Page, row: &Row) -> Result<(), AllocError>
         requires { IsContext self.now }
-        ensures { OnOk result (page.new ≡ page.old ++ message_line self.now.run.now row.now
+        ensures { OnOk result (page.new ≡ page.old ++ message_line self.now.run.now self.now.stretch row.now
             (accepted_named row.now.id row.now.serial self.now.run.now.log)
             (text_shown (messages_shown self.now.shown.now) row.now.id row.now.serial)) }
     {
@@ -392,7 +414,7 @@ impl<'a> CellContext<'a> {
     /// Appends the line of one that none shows.
     fn push_unseen(&self, page: &mut Page, row: &Row) -> Result<(), AllocError>
         requires { IsContext self.now }
-        ensures { OnOk result (page.new ≡ page.old ++ message_line self.now.run.now row.now
+        ensures { OnOk result (page.new ≡ page.old ++ message_line self.now.run.now self.now.stretch row.now
             (accepted_named row.now.id row.now.serial self.now.run.now.log)
             (text_asked self.now.run.now.log
             (accepted_named row.now.id row.now.serial self.now.run.now.log))) }
@@ -404,32 +426,32 @@ impl<'a> CellContext<'a> {
     /// Appends the line of an accepted message with this text.
     fn push_message(&self, page: &mut Page, row: &Row, text: &str) -> Result<(), AllocError>
         requires { IsContext self.now }
-        ensures { OnOk result (page.new ≡ page.old ++ message_line self.now.run.now row.now
+        ensures { OnOk result (page.new ≡ page.old ++ message_line self.now.run.now self.now.stretch row.now
             (accepted_named row.now.id row.now.serial self.now.run.now.log) text.now) }
     {
         let found = self.named(row);
-        push_message_front(page, row, found, text)?;
-        push_picture_front(page, self.run.slots(), row)?;
+        push_message_front(page, self.stretch, row, found, text)?;
+        push_picture_front(page, self.stretch, row)?;
         push_message_title(page, row, text)?;
-        push_bar(page, row)?;
-        push_drawn_marks(page, row.completed, self.run.air(), found)?;
-        push_message_end(page, row.first_shown)
+        push_bar(page, self.stretch, row)?;
+        push_drawn_marks(page, self.stretch, row.completed, self.run.air(), found)?;
+        push_message_end(page, self.stretch, row.first_shown)
     }
 
     /// Appends the line of a refused order.
     fn push_refusal(&self, page: &mut Page, row: &Row, cause: u8) -> Result<(), AllocError>
         ensures { OnOk result (page.new ≡ page.old
-            ++ refusal_line self.now.run.now.slots row.now cause) }
+            ++ refusal_line self.now.stretch row.now cause) }
     {
         push_refusal_front(page, row, cause)?;
-        push_refusal_picture(page, self.run.slots(), row, cause)
+        push_refusal_picture(page, self.stretch, row, cause)
     }
 
     /// Appends the line of a row.
     fn push_line(&self, page: &mut Page, row: &Row) -> Result<(), AllocError>
         requires { IsContext self.now }
         ensures { OnOk result (page.new ≡ page.old
-            ++ line_of self.now.run.now (messages_shown self.now.shown.now) row.now) }
+            ++ line_of self.now.run.now self.now.stretch (messages_shown self.now.shown.now) row.now) }
     {
         match row.shown {
             Showing::Yes => self.push_seen(page, row),
@@ -442,7 +464,7 @@ impl<'a> CellContext<'a> {
     pub(crate) fn push_lines(&self, page: &mut Page, rows: &[Row]) -> Result<(), AllocError>
         requires { IsContext self.now }
         ensures { OnOk result (page.new ≡ page.old
-            ++ flat_map (line_of self.now.run.now (messages_shown self.now.shown.now)) rows.now) }
+            ++ flat_map (line_of self.now.run.now self.now.stretch (messages_shown self.now.shown.now)) rows.now) }
     {
         for row in rows {
             self.push_line(page, row)?;

@@ -9,12 +9,14 @@ ghost use Rattle.bsc_table.specs.Record.{Record, claim_of, claims_in, claims_of}
 ghost use Rattle.bsc_table.specs.Room.{ClaimsFit};
 ghost use Rattle.chart.specs.ChartText.{load_end, load_front, load_picture, load_shape, load_width};
 ghost use Rattle.chart.specs.Kept.{accepted_kept, all_kept, HavePeriods};
-ghost use Rattle.chart.specs.Load.{height_of, step_at, step_text, AreLoads};
+ghost use Rattle.chart.specs.Load.{height_of, step_at, step_text, AreLoads, AreLoadsFrom};
+ghost use Rattle.chart.specs.View.{width_of};
 ghost use Rattle.chart.specs.declared.load.TheConstants.{LOAD_HEIGHT};
 ghost use Rattle.chart.specs.Message.{end_within};
 
 use crate::kept::KeptMessage;
 use crate::page::Page;
+use crate::view::Stretch;
 use admission::SCALE;
 use std::alloc::{AllocError, Global};
 
@@ -25,17 +27,19 @@ pub const LOAD_HEIGHT: u64 = 1008;
 /// How much load is drawn one step higher.
 pub const LOAD_STEP: u64 = SCALE / LOAD_HEIGHT;
 
-/// The front of the line of the loads, up to the width of their picture.
-pub const LOAD: &str =
-    "<div class=\"line\"><p>Reserved load</p>\n<svg class=\"loads\" viewBox=\"0 0 ";
+/// The front of the line of the loads, up to the first slot of their picture.
+pub const LOAD: &str = "<div class=\"line\"><p>Reserved load</p>\n<svg class=\"loads\" viewBox=\"";
 
-/// What comes between its width and its height.
+/// What comes between its first slot and its width.
+pub const LOAD_ORIGIN: &str = " 0 ";
+
+/// What comes between its width and its height, and between the first slot and the height at which the line begins.
 pub const LOAD_BOX: &str = " ";
 
-/// What comes between its height and that at which the line begins: the bottom's.
+/// What comes between its height and the first slot, at which the line begins at the bottom.
 pub const LOAD_PATH: &str =
     "\" preserveAspectRatio=\"none\" role=\"img\"><title>Reserved load</title>\n\
-    <path class=\"load\" d=\"M0 ";
+    <path class=\"load\" d=\"M";
 
 /// What comes before a slot to which the line goes on.
 pub const TO_SLOT: &str = "H";
@@ -124,6 +128,31 @@ pub(crate) fn loads_of(
     Ok(loads)
 }
 
+/// The loads from a slot to another one.
+fn loads_between(loads: &[u64], stretch: Stretch) -> &[u64]
+    requires ordered { stretch.from ≤ stretch.to }
+    requires within { stretch.to ≤ length loads.now }
+    ensures width { length result.now ≡ width_of stretch }
+    ensures loads { (claims : List Claim) → AreLoads claims loads.now → AreLoadsFrom stretch.from claims result.now }
+    ensures within { All (λ load. load ≤ SCALE) loads.now → All (λ load. load ≤ SCALE) result.now }
+{
+    &loads[usize::from(stretch.from)..usize::from(stretch.to)]
+}
+
+/// The loads at the slots that are drawn.
+pub(crate) fn loads_within(loads: &[u64], stretch: Stretch) -> &[u64]
+    requires ordered { stretch.from ≤ stretch.to }
+    requires within { stretch.to ≤ length loads.now }
+    ensures width { length result.now ≡ width_of stretch }
+    ensures loads { (claims : List Claim) → AreLoads claims loads.now → AreLoadsFrom stretch.from claims result.now }
+    ensures all { (claims : List Claim) → AreLoads claims loads.now
+        → result.now ≡ map (claimed_at claims) (range_with_len stretch.from (width_of stretch)) }
+    ensures within { All (λ load. load ≤ SCALE) loads.now → All (λ load. load ≤ SCALE) result.now }
+{
+    let drawn = loads_between(loads, stretch);
+    drawn
+}
+
 /// How far below the picture's top a load is drawn, in whole steps: a full cell at the top, none at the bottom.
 fn height_of(load: u64) -> u64
     ensures { result ≡ height_of load }
@@ -144,14 +173,29 @@ fn push_step(page: &mut Page, slot: usize, before: u64, load: u64) -> Result<(),
     page.number(height_of(load))
 }
 
-/// Appends the line over all slots.
-fn push_line(page: &mut Page, loads: &[u64]) -> Result<(), AllocError>
-    ensures { OnOk result ((claims : List Claim) → AreLoads claims loads.now
-        → page.new ≡ page.old ++ flat_map (step_at claims) (range_with_len 0 (length loads.now))) }
+/// Appends the line at the slot that comes so many after another one.
+fn push_step_after(
+    page: &mut Page,
+    from: u16,
+    place: usize,
+    before: u64,
+    load: u64,
+) -> Result<(), AllocError>
+    requires { from + place < 65536 }
+    ensures { OnOk result (page.new ≡ page.old ++ step_text (from + place) before load) }
+{
+    push_step(page, usize::from(from) + place, before, load)
+}
+
+/// Appends the line over the slots from this one on.
+fn push_line(page: &mut Page, from: u16, loads: &[u64]) -> Result<(), AllocError>
+    requires { from + length loads.now < 65536 }
+    ensures { OnOk result ((claims : List Claim) → AreLoadsFrom from claims loads.now
+        → page.new ≡ page.old ++ flat_map (step_at from claims) (range_with_len from (length loads.now))) }
 {
     let mut before = 0;
-    for (slot, load) in loads.iter().enumerate() {
-        push_step(page, slot, before, *load)?;
+    for (place, load) in loads.iter().enumerate() {
+        push_step_after(page, from, place, before, *load)?;
         before = *load;
     }
     Ok(())
@@ -166,54 +210,61 @@ fn push_bottom(page: &mut Page) -> Result<(), AllocError>
 
 /// Appends the size of the picture of the loads, up to its height.
 #[tactic(auto, unfolding(crate::specs::ChartText::load_width))]
-fn push_width(page: &mut Page, slots: u16) -> Result<(), AllocError>
-    ensures { OnOk result (page.new ≡ page.old ++ load_width slots) }
+fn push_width(page: &mut Page, stretch: Stretch) -> Result<(), AllocError>
+    ensures { OnOk result (page.new ≡ page.old ++ load_width stretch) }
 {
-    page.number(u64::from(slots))?;
+    page.number(u64::from(stretch.from))?;
+    page.markup(LOAD_ORIGIN)?;
+    page.number(u64::from(stretch.width()))?;
     page.markup(LOAD_BOX)
 }
 
 /// Appends the front of the picture, up to the begin of the line.
 #[tactic(auto, unfolding(crate::specs::ChartText::load_front))]
-fn push_front(page: &mut Page, slots: u16) -> Result<(), AllocError>
-    ensures { OnOk result (page.new ≡ page.old ++ load_front slots) }
+fn push_front(page: &mut Page, stretch: Stretch) -> Result<(), AllocError>
+    ensures { OnOk result (page.new ≡ page.old ++ load_front stretch) }
 {
-    push_width(page, slots)?;
+    push_width(page, stretch)?;
     push_bottom(page)?;
     page.markup(LOAD_PATH)?;
+    page.number(u64::from(stretch.from))?;
+    page.markup(LOAD_BOX)?;
     push_bottom(page)
 }
 
 /// Appends the end of the picture of the loads.
 #[tactic(auto, unfolding(crate::specs::ChartText::load_end))]
-fn push_end(page: &mut Page, slots: u16) -> Result<(), AllocError>
-    ensures { OnOk result (page.new ≡ page.old ++ load_end slots) }
+fn push_end(page: &mut Page, to: u16) -> Result<(), AllocError>
+    ensures { OnOk result (page.new ≡ page.old ++ load_end to) }
 {
     page.markup(TO_SLOT)?;
-    page.number(u64::from(slots))?;
+    page.number(u64::from(to))?;
     page.markup(TO_LOAD)?;
     push_bottom(page)?;
     page.markup(SHAPE_END)
 }
 
-/// Appends the loads that are reserved at each slot as a shape, from the width of its picture on.
-pub(crate) fn push_shape(page: &mut Page, slots: u16, loads: &[u64]) -> Result<(), AllocError>
-    requires { length loads.now ≡ slots }
-    ensures { OnOk result ((r : Record) → r.slots ≡ slots → AreLoads (claims_in r.log) loads.now
-        → page.new ≡ page.old ++ load_shape r) }
+/// Appends the loads that are reserved at the slots that are drawn as a shape, from the first slot of its picture on.
+#[tactic(auto, unfolding(crate::specs::ChartText::load_shape))]
+pub(crate) fn push_shape(page: &mut Page, stretch: Stretch, loads: &[u64]) -> Result<(), AllocError>
+    requires width { length loads.now ≡ width_of stretch }
+    requires ordered { stretch.from ≤ stretch.to }
+    ensures { OnOk result ((r : Record) → AreLoadsFrom stretch.from (claims_in r.log) loads.now
+        → page.new ≡ page.old ++ load_shape r stretch) }
 {
-    push_front(page, slots)?;
-    push_line(page, loads)?;
-    push_end(page, slots)
+    push_front(page, stretch)?;
+    push_line(page, stretch.from, loads)?;
+    push_end(page, stretch.to)
 }
 
-/// Appends the line of the loads that are reserved at each slot.
-pub(crate) fn push_loads(page: &mut Page, slots: u16, loads: &[u64]) -> Result<(), AllocError>
-    requires { length loads.now ≡ slots }
-    ensures { OnOk result ((r : Record) → r.slots ≡ slots → AreLoads (claims_in r.log) loads.now
-        → page.new ≡ page.old ++ load_picture r) }
+/// Appends the line of the loads that are reserved at the slots that are drawn.
+pub(crate) fn push_loads(page: &mut Page, stretch: Stretch, loads: &[u64]) -> Result<(), AllocError>
+    requires width { length loads.now ≡ width_of stretch }
+    requires ordered { stretch.from ≤ stretch.to }
+    ensures { OnOk result ((r : Record) → AreLoadsFrom stretch.from (claims_in r.log) loads.now
+        → page.new ≡ page.old ++ load_picture r stretch) }
 {
     page.markup(LOAD)?;
-    push_shape(page, slots, loads)?;
+    push_shape(page, stretch, loads)?;
     page.markup(LOAD_END)
 }

@@ -16,6 +16,7 @@ ghost use Rattle.chart.specs.Message.{text_of_contents, text_shown};
 use crate::kept::KeptMessage;
 use crate::load::end_within;
 use crate::page::Page;
+use crate::view::Stretch;
 use bsc_table::{Aired, Category, Command, Entry};
 use cbs_page::{Content, Dcs, PageView, Serial, push_page_text};
 use handset::Shown;
@@ -208,56 +209,65 @@ pub(crate) fn pace(row: &Row) -> &'static str
     }
 }
 
-/// Whether a message has so many whole broadcasts that one couldn't see a mark for each.
-pub(crate) fn are_many(whole: u16) -> bool
-    ensures { result ≡ are_many whole }
+/// Whether a message has so many whole broadcasts in a whole run that one couldn't see a mark for each.
+pub(crate) fn are_many(stretch: Stretch, whole: u16) -> bool
+    ensures { result ≡ are_many stretch whole }
 {
-    whole > MOST_MARKS
+    !stretch.is_part && whole > MOST_MARKS
 }
 
-/// Appends the marks of a message of which this many broadcasts are whole: all, or none where they are too many.
+/// Appends the marks of a message of which this many broadcasts are whole: all that are drawn, or none where they are
+/// too many.
 pub(crate) fn push_drawn_marks(
     page: &mut Page,
+    stretch: Stretch,
     whole: u16,
     air: &[Option<Aired>],
     found: Option<KeptMessage>,
 ) -> Result<(), AllocError>
     requires { IfSome found (λ k. 0 < k.period) }
     ensures { OnOk result (page.new ≡ page.old
-        ++ drawn_marks whole (length air.now) (air_pairs air.now) (option_map accepted_kept found)) }
+        ++ drawn_marks stretch whole (length air.now) (air_pairs air.now) (option_map accepted_kept found)) }
 {
-    if are_many(whole) {
+    if are_many(stretch, whole) {
         return Ok(());
     }
-    push_marks(page, air, found)
+    push_marks(page, stretch, air, found)
 }
 
 /// Appends the marks of a message: one for each broadcast, after the slot that makes it whole.
 fn push_marks(
     page: &mut Page,
+    stretch: Stretch,
     air: &[Option<Aired>],
     found: Option<KeptMessage>,
 ) -> Result<(), AllocError>
     requires { IfSome found (λ k. 0 < k.period) }
     ensures { OnOk result (page.new ≡ page.old
-        ++ marks_of (length air.now) (air_pairs air.now) (option_map accepted_kept found)) }
+        ++ marks_of stretch (length air.now) (air_pairs air.now) (option_map accepted_kept found)) }
 {
     let Some(kept) = found else {
         return Ok(());
     };
-    for slot in kept.start as usize..end_within(&kept, air.len()) {
+    let from = (kept.start as usize).max(usize::from(stretch.from));
+    let to = end_within(&kept, air.len()).min(usize::from(stretch.to));
+    for slot in from..to {
         push_mark(page, air, &kept, slot)?;
     }
     Ok(())
 }
 
 /// Appends the mark where a phone shows a message first: at the end of the slot after whose blocks it does.
-pub(crate) fn push_first_mark(page: &mut Page, first: Option<u16>) -> Result<(), AllocError>
-    ensures { OnOk result (page.new ≡ page.old ++ first_mark first) }
+pub(crate) fn push_first_mark(
+    page: &mut Page,
+    stretch: Stretch,
+    first: Option<u16>,
+) -> Result<(), AllocError>
+    ensures { OnOk result (page.new ≡ page.old ++ first_mark stretch first) }
 {
     match first {
-        None => Ok(()),
-        Some(slot) => push_first_mark_after(page, slot),
+        Some(slot) if stretch.holds(slot) => push_first_mark_after(page, slot),
+        _ => Ok(()),
     }
 }
 

@@ -47,8 +47,8 @@ pub const STRIP: &str = "<a href=\"#c";
 /// What comes before the name of its cells.
 pub const STRIP_NAME: &str = "\"><b>";
 
-/// What comes before its loads, up to their width.
-pub const STRIP_PICTURE: &str = "</b>\n<svg class=\"loads\" viewBox=\"0 0 ";
+/// What comes before its loads, up to their first slot.
+pub const STRIP_PICTURE: &str = "</b>\n<svg class=\"loads\" viewBox=\"";
 
 /// The front of the overview.
 pub const OVERVIEW: &str = "<nav aria-label=\"Cells\">\n";

@@ -1,11 +1,14 @@
 //! The times of slots, and the axis under a cell's lines.
 
-ghost use Rattle.std.specs.Prelude.{◌≡◌, ◌++◌, OnOk};
+ghost use Rattle.std.specs.Prelude.{◌≡◌, ◌<◌, ◌≤◌, ◌++◌, OnOk};
 ghost use Rattle.std.specs.List.{flat_map, range_with_len};
-ghost use Rattle.chart.specs.Time.{axis, clock_text, has_few, place_text, seconds_at, slot_text, step_of, tick};
+ghost use Rattle.chart.specs.Time.{axis, clock_text, first_number, has_few, place_text, seconds_at, slot_text, step_in};
+ghost use Rattle.chart.specs.Time.{step_of, tick};
+ghost use Rattle.chart.specs.declared.time.TheConstants.{MOST_TICKS};
 ghost use Rattle.chart.specs.Time.{tick_front, tick_within, ticks, time_in_brackets, time_text, two_digits};
 
 use crate::page::Page;
+use crate::view::Stretch;
 use std::alloc::AllocError;
 
 /// Between hours, minutes and seconds.
@@ -146,69 +149,94 @@ fn push_place(page: &mut Page, place: u64) -> Result<(), AllocError>
     push_two_digits(page, place % 100)
 }
 
-/// Appends the front of a tick: where it stands of the slots of the run.
+/// Appends the front of a tick: where it stands of the slots that are drawn.
 #[tactic(auto, unfolding(crate::specs::Time::tick_front))]
-fn push_tick_front(page: &mut Page, slots: u16, place: u64) -> Result<(), AllocError>
-    ensures { OnOk result (page.new ≡ page.old ++ tick_front slots place) }
+fn push_tick_front(page: &mut Page, width: u16, place: u64) -> Result<(), AllocError>
+    ensures { OnOk result (page.new ≡ page.old ++ tick_front width place) }
 {
     page.markup(TICK)?;
     push_place(page, place)?;
     page.markup(OF)?;
-    page.number(u64::from(slots))?;
+    page.number(u64::from(width))?;
     page.markup(TICK_PLACED)
 }
 
 /// Appends the tick of a time.
 #[tactic(auto, unfolding(crate::specs::Time::tick))]
-fn push_tick(page: &mut Page, slots: u16, seconds: u32) -> Result<(), AllocError>
-    ensures { OnOk result (page.new ≡ page.old ++ tick slots seconds) }
+fn push_tick(page: &mut Page, stretch: Stretch, seconds: u32) -> Result<(), AllocError>
+    ensures { OnOk result (page.new ≡ page.old ++ tick stretch seconds) }
 {
     // In hundredths of a slot.
     let place = u64::from(seconds) * 1_300_000 / 24480;
-    push_tick_front(page, slots, place)?;
+    let drawn = place.saturating_sub(u64::from(stretch.from) * 100);
+    push_tick_front(page, stretch.width(), drawn)?;
     page.number(place / 100)?;
     page.markup(AT)?;
     push_clock(page, u64::from(seconds))?;
     page.markup(TICK_END)
 }
 
-/// Appends the tick of this number, if it is within the run.
-fn push_tick_within(page: &mut Page, slots: u16, step: u16, number: u16) -> Result<(), AllocError>
-    ensures { OnOk result (page.new ≡ page.old ++ tick_within slots step number) }
+/// Appends the tick of this number, unless it comes after what is drawn.
+fn push_tick_within(
+    page: &mut Page,
+    stretch: Stretch,
+    step: u16,
+    number: u16,
+) -> Result<(), AllocError>
+    ensures { OnOk result (page.new ≡ page.old ++ tick_within stretch step number) }
 {
     let seconds = u32::from(number) * u32::from(step);
-    if u64::from(seconds) > seconds_at(u32::from(slots)) {
+    if u64::from(seconds) > seconds_at(u32::from(stretch.to)) {
         return Ok(());
     }
-    push_tick(page, slots, seconds)
+    push_tick(page, stretch, seconds)
 }
 
-/// Appends this many ticks at most, from the begin of the run on.
-fn push_ticks_by(page: &mut Page, slots: u16, step: u16, most: u16) -> Result<(), AllocError>
+/// Appends the most ticks that an axis may have, from this number on.
+fn push_ticks_by(page: &mut Page, stretch: Stretch, step: u16, first: u16) -> Result<(), AllocError>
+    requires { first < 65000 }
     ensures { OnOk result (page.new ≡ page.old
-        ++ flat_map (tick_within slots step) (range_with_len 0 most)) }
+        ++ flat_map (tick_within stretch step) (range_with_len first MOST_TICKS)) }
 {
-    for number in 0..most {
-        push_tick_within(page, slots, step, number)?;
+    for number in first..first + MOST_TICKS {
+        push_tick_within(page, stretch, step, number)?;
     }
     Ok(())
 }
 
+/// The number of the first multiple of a step that doesn't come before a slot.
+fn first_number(from: u16, step: u16) -> u16
+    requires { 10 ≤ step }
+    ensures number { result ≡ first_number from step }
+    ensures within { result < 65000 }
+{
+    (u64::from(from) * 24480).div_ceil(u64::from(step) * 13000) as u16
+}
+
+/// The seconds from one tick to the next.
+fn step_in(stretch: Stretch) -> u16
+    ensures step { result ≡ step_in stretch }
+    ensures long { 10 ≤ result }
+{
+    let end = seconds_at(u32::from(stretch.to));
+    step_of(end.saturating_sub(seconds_at(u32::from(stretch.from))))
+}
+
 /// Appends the ticks of an axis.
 #[tactic(auto, unfolding(crate::specs::Time::ticks))]
-fn push_ticks(page: &mut Page, slots: u16) -> Result<(), AllocError>
-    ensures { OnOk result (page.new ≡ page.old ++ ticks slots) }
+fn push_ticks(page: &mut Page, stretch: Stretch) -> Result<(), AllocError>
+    ensures { OnOk result (page.new ≡ page.old ++ ticks stretch) }
 {
-    let step = step_of(seconds_at(u32::from(slots)));
-    push_ticks_by(page, slots, step, MOST_TICKS)
+    let step = step_in(stretch);
+    push_ticks_by(page, stretch, step, first_number(stretch.from, step))
 }
 
 /// Appends the axis.
 #[tactic(auto, unfolding(crate::specs::Time::axis))]
-pub(crate) fn push_axis(page: &mut Page, slots: u16) -> Result<(), AllocError>
-    ensures { OnOk result (page.new ≡ page.old ++ axis slots) }
+pub(crate) fn push_axis(page: &mut Page, stretch: Stretch) -> Result<(), AllocError>
+    ensures { OnOk result (page.new ≡ page.old ++ axis stretch) }
 {
     page.markup(AXIS)?;
-    push_ticks(page, slots)?;
+    push_ticks(page, stretch)?;
     page.markup(AXIS_END)
 }

@@ -12,6 +12,8 @@ use Rattle.alert_book.specs.declared.network.Origin.TheVariants as origin
 use Rattle.cbs_page.specs.Serial.{serial_number, AreSerialFields}
 use Rattle.byteorder.specs.Endian.{big_number}
 use Rattle.cbsp_wire.specs.declared.message.Cell.{Cell}
+use Rattle.chart.specs.declared.view.Part.{Part}
+use Rattle.chart.specs.declared.view.View.{View}
 use Rattle.gsmtap.specs.declared.capture.Settings.{Settings}
 use Rattle.gsmtap.specs.declared.capture.Slots.{Slots}
 use Rattle.gsmtap.specs.declared.capture.Slots.TheVariants.{All, Used}
@@ -177,10 +179,32 @@ pub record IsCell (text : List ℕ) (cell : Cell) : Type 0 where
 abbrev pub GivesCell : (words : List (List ℕ)) → Cell → Type 0
 GivesCell words cell = (text : List ℕ) × GivesValue words (codes "--cell") text × IsCell text cell
 
+-- the words give an edge of the part of a run that is drawn, or none
+abbrev pub GivesEdge : (words : List (List ℕ)) (name : List ℕ) (slot edge : ℕ) → Type 0
+GivesEdge words name slot edge = GivesNumber words name edge ⊎ ((is_given words name ≡ false) × (edge ≡ slot))
+
+-- the words give the part of a run of this many slots that is drawn, which begins at slot 0 and ends with the run where
+-- they don't say else; or they give none
+pub record IsDrawnPart (words : List (List ℕ)) (slots : ℕ) (part : Part) : Type 0 where
+  pub from_given : GivesEdge words (codes "--from") 0 part.from
+  pub to_given : GivesEdge words (codes "--to") slots part.to
+  pub some : part.from < part.to
+  pub within : part.to ≤ slots
+
+abbrev pub GivesPart : (words : List (List ℕ)) (slots : ℕ) → Option Part → Type 0
+GivesPart words slots None =
+    (is_given words (codes "--from") ≡ false) × (is_given words (codes "--to") ≡ false)
+GivesPart words slots (Some part) = IsDrawnPart words slots part
+
 -- the words give one cell that is wanted, or none
 abbrev pub GivesWanted : (words : List (List ℕ)) → Option Cell → Type 0
 GivesWanted words None = is_given words (codes "--cell") ≡ false
 GivesWanted words (Some cell) = GivesCell words cell
+
+-- the words give what is drawn
+abbrev pub GivesView : (words : List (List ℕ)) → View → Type 0
+GivesView words view =
+    (slots : ℕ) × GivesSlots words slots × GivesWanted words view.cell × GivesPart words slots view.part
 
 -- a text writes an IPv4 address: its four octets, the highest first, with dots between them
 pub record IsAddress (text : List ℕ) (address : ℕ) : Type 0 where
@@ -254,8 +278,8 @@ GivesProduct words product.Tapes sessions =
     ⊎ ((slice_get words 1 ≡ Some (codes "live")) × GivesThreads words (codes "--sessions") sessions)
 GivesProduct words (product.Report columns) sessions =
     (slice_get words 1 ≡ Some (codes "report")) × (sessions ≡ 1) × (columns ≡ columns_given words)
-GivesProduct words (product.Chart wanted) sessions =
-    (slice_get words 1 ≡ Some (codes "chart")) × (sessions ≡ 1) × GivesWanted words wanted
+GivesProduct words (product.Chart view) sessions =
+    (slice_get words 1 ≡ Some (codes "chart")) × (sessions ≡ 1) × GivesView words view
 
 -- the words ask for this to be made of such a run
 pub record AsksForRun (words : List (List ℕ)) (run : Run) (made : Product) : Type 0 where

@@ -4,7 +4,8 @@ ghost use Rattle.std.specs.Prelude.{◌≡◌, ◌<◌, ◌∷◌, ◌++◌, ◌
 ghost use Rattle.std.specs.Prelude.{slice_get};
 ghost use Rattle.warnc_cli.specs.CommandLine.{asks_for_text, begins_with, is_given, is_text_word, GivesNumber};
 ghost use Rattle.warnc_cli.specs.CommandLine.{GivesChannel, GivesChannelType, GivesSlots, GivesThreads, GivesValue};
-ghost use Rattle.warnc_cli.specs.CommandLine.{GivesArfcn, GivesCell, GivesFirstSlot, GivesFrom, GivesWanted};
+ghost use Rattle.warnc_cli.specs.CommandLine.{GivesArfcn, GivesCell, GivesEdge, GivesFirstSlot, GivesFrom};
+ghost use Rattle.warnc_cli.specs.CommandLine.{GivesPart, GivesView, GivesWanted};
 ghost use Rattle.warnc_cli.specs.CommandLine.{IsAddress, IsCell};
 ghost use Rattle.warnc_cli.specs.CommandLine.{columns_given, slots_given, GivesBooks, GivesOrigin, GivesPages};
 ghost use Rattle.warnc_cli.specs.CommandLine.{pages_given, GivesProduct, GivesTapeSlots, IsNumber};
@@ -14,6 +15,7 @@ use crate::start::start_in;
 use alert_book::Origin;
 use cbs_page::{MAX_PAGES, Serial};
 use cbsp_wire::Cell;
+use chart::{Part, View};
 use clap::builder::ValueParser;
 use clap::{Arg, ArgAction, Command, Error, value_parser};
 use gsmtap::{Channel, ChannelType, Sender, Settings, Slots, Wanted};
@@ -144,7 +146,7 @@ fn task_in<'a, S: AsStr>(words: &'a [S]) -> Option<Task<'a>>
         ),
         "chart" => run_in(
             words,
-            Product::Chart(wanted_in(words)?),
+            Product::Chart(view_in(words)?),
             Sessions { number: 1 },
         ),
         "verify" => Some(Task::Verify {
@@ -276,6 +278,42 @@ fn wanted_in<S: AsStr>(words: &[S]) -> Option<Option<Cell>>
     }
     let cell = cell_in(words)?;
     Some(Some(cell))
+}
+
+/// What the words want to be drawn.
+fn view_in<S: AsStr>(words: &[S]) -> Option<View>
+    ensures { IfSome result (GivesView (map S.text words.now)) }
+{
+    let slots = slots_in(words)?;
+    let cell = wanted_in(words)?;
+    let part = part_in(words, slots)?;
+    Some(View { cell, part })
+}
+
+/// The part of a run of this many slots that the words want, if they want one.
+fn part_in<S: AsStr>(words: &[S], slots: u16) -> Option<Option<Part>>
+    ensures { IfSome result (GivesPart (map S.text words.now) slots) }
+{
+    if !is_given(words, "--from") && !is_given(words, "--to") {
+        return Some(None);
+    }
+    let from = edge_in(words, "--from", 0)?;
+    let to = edge_in(words, "--to", slots)?;
+    if from >= to || to > slots {
+        return None;
+    }
+    Some(Some(Part { from, to }))
+}
+
+/// The slot that the words give under a name, or this one if they give none.
+fn edge_in<S: AsStr>(words: &[S], name: &str, slot: u16) -> Option<u16>
+    ensures { IfSome result (GivesEdge (map S.text words.now) name.now slot) }
+{
+    if is_given(words, name) {
+        number_of(words, name)
+    } else {
+        Some(slot)
+    }
 }
 
 /// The cell that a text writes.
@@ -598,6 +636,8 @@ fn chart<'a>(alloc: Global) -> Result<Command<'a>, AllocError> {
         .arg(group(alloc))?
         .arg(network(alloc)?)?
         .arg(charted_cell(alloc))?
+        .arg(charted_from(alloc))?
+        .arg(charted_to(alloc))?
         .arg(workers(alloc))
 }
 
@@ -788,6 +828,28 @@ fn charted_cell<'a>(alloc: Global) -> Arg<'a> {
         "LAC-CI",
         "Draws this cell alone, as 1-2; all if it isn't given",
     )
+}
+
+/// The option of the first slot that is drawn.
+fn charted_from<'a>(alloc: Global) -> Arg<'a> {
+    optional(
+        alloc,
+        "from",
+        "SLOT",
+        "Draws the run from this slot on, with all marks [0]",
+    )
+    .value_parser(value_parser!(u16))
+}
+
+/// The option of the slot before which the drawing ends.
+fn charted_to<'a>(alloc: Global) -> Arg<'a> {
+    optional(
+        alloc,
+        "to",
+        "SLOT",
+        "Draws it up to this slot, with all marks [SLOTS]",
+    )
+    .value_parser(value_parser!(u16))
 }
 
 /// The option of the number of slots of a run that is checked.

@@ -170,10 +170,17 @@ pub fn run_between<
     }
 }
 
-/// What is wrong with words that the parser takes and that are no task: the cell, the address or the time.
+/// Whether the words ask for a chart.
+fn is_chart<S: AsStr>(words: &[S]) -> bool {
+    words.get(1).map(|word| word.as_str()) == Some("chart")
+}
+
+/// What is wrong with words that the parser takes and that are no task: the cell, the address, the part or the time.
 fn wrong_value<S: AsStr>(words: &[S]) -> &'static str {
     if is_given(words, "--start") {
         "no such time: --start is as 2026-11-28T20:00:00Z, from 1970 to 2105"
+    } else if is_chart(words) && (is_given(words, "--from") || is_given(words, "--to")) {
+        "no such cell or part: --cell is as 1-2, --from is before --to, --to at most --slots"
     } else if is_given(words, "--from") {
         "no such cell or address: --cell is as 1-2, --from as 127.0.0.1"
     } else {

@@ -322,6 +322,116 @@ past <title>4400 0010: from slot 0 -> yes
 past <title>4371 0020 (Level 2: extreme, immediate, observed): refused at slot 0 -> yes
 past </html> -> yes
 
+# a part: bars, loads, marks and the axis are cut to it, and only what touches it has a line; a slot lasts 24480/13 ms,
+# so slot 10 begins after 18.83 s, slot 12 after 22.60 s and slot 30 after 56.49 s, and 20 s are 10.62 slots
+in cell,1,1
+in write,0,a,1,0,1,en,2,8,0,*,One
+in write,0,b,2,0,2,en,2,8,1,*,Two
+in write,12,c,3,0,3,en,2,1,0,*,Three
+in write,30,d,4,0,4,en,2,8,0,*,Four
+in write,40,e,5,0,5,en,2,1,0,*,Five
+args chart --slots 64 --from 10 --to 30
+run -> 0
+past <p>A run of 64 slots of 1.883 s, 0:02:00 (h:mm:ss). Drawn from slot 10 (0:00:18) to slot 30 (0:00:56), with all \
+marks.</p> -> yes
+past is full.</p> -> yes
+out -> <details open id=\"c1-1\">
+out -> <summary><h2>Cell 1-1</h2> messages: 1, refused: 1, fullest: 13 % at 0:00:18</summary>
+out -> <div class=\"line\"><p><b>1 0010</b> <i>normal</i> <bdi>One</bdi></p>
+out -> <svg viewBox=\"10 0 20 10\" preserveAspectRatio=\"none\" role=\"img\"><title>1 0010: from slot 0 (0:00:00) to slot 64 \
+(0:02:00), every 8 slots, whole broadcasts: 8, first shown after slot 0 (0:00:01)
+out -> One</title>
+out -> <rect class=\"bar f5\" height=\"10\" x=\"10\" width=\"20\"/>
+out -> <path class=\"whole\" d=\"M17 0v10M25 0v10\"/>
+out -> <path class=\"shown\" d=\"\"/></svg></div>
+out -> <div class=\"line\"><p><b>3 0030</b> <span class=\"cause\">refused: BSC capacity exceeded (06)</span></p>
+out -> <svg viewBox=\"10 0 20 10\" preserveAspectRatio=\"none\" role=\"img\"><title>3 0030: refused at slot 12 (0:00:22): BSC \
+capacity exceeded (06)</title>
+out -> <path class=\"refusal\" d=\"M12 0v10\"/></svg></div>
+out -> <div class=\"line\"><p>Reserved load</p>
+out -> <svg class=\"loads\" viewBox=\"10 0 20 1008\" preserveAspectRatio=\"none\" role=\"img\"><title>Reserved load</title>
+out -> <path class=\"load\" d=\"M10 1008H10V882H30V1008z\"/></svg></div>
+out -> <div class=\"line\"><p>Slot, time</p><p class=\"axis\">
+out -> <span style=\"--at:calc(100%*0.62/20)\">10<br>0:00:20</span>
+out -> <span style=\"--at:calc(100%*5.93/20)\">15<br>0:00:30</span>
+out -> <span style=\"--at:calc(100%*11.24/20)\">21<br>0:00:40</span>
+out -> <span style=\"--at:calc(100%*16.55/20)\">26<br>0:00:50</span>
+out -> </p></div>
+out -> </details>
+out -> </body>
+out -> </html>
+# only one of the edges is given; what begins and ends at an edge has a line
+args chart --slots 64 --from 40
+run -> 0
+past Drawn from slot 40 (0:01:15) to slot 64 (0:02:00), with all marks.</p> -> yes
+past <summary><h2>Cell 1-1</h2> messages: 2, refused: 1, fullest: 25 % at 0:01:15</summary> -> yes
+past <path class=\"whole\" d=\"M41 0v10M49 0v10M57 0v10\"/> -> yes
+past <rect class=\"bar f5\" height=\"10\" x=\"40\" width=\"24\"/> -> yes
+past <path class=\"refusal\" d=\"M40 0v10\"/></svg></div> -> yes
+past </html> -> yes
+args chart --slots 64 --to 1
+run -> 0
+past Drawn from slot 0 (0:00:00) to slot 1 (0:00:01), with all marks.</p> -> yes
+past <summary><h2>Cell 1-1</h2> messages: 2, refused: 0, fullest: 25 % at 0:00:00</summary> -> yes
+past <rect class=\"bar f5\" height=\"10\" x=\"0\" width=\"1\"/> -> yes
+out -> <path class=\"whole\" d=\"M1 0v10\"/>
+out -> <path class=\"shown\" d=\"M1 0v6\"/></svg></div>
+past <path class=\"whole\" d=\"\"/> -> yes
+past </html> -> yes
+args chart --slots 64 --from 11 --to 11
+fails -> 2 warnc: no such cell or part: --cell is as 1-2, --from is before --to, --to at most --slots
+args chart --slots 64 --from 12 --to 11 --cell 1-1
+fails -> 2 warnc: no such cell or part: --cell is as 1-2, --from is before --to, --to at most --slots
+args chart --slots 64 --from 0 --to 65 --network
+fails -> 2 warnc: no such cell or part: --cell is as 1-2, --from is before --to, --to at most --slots
+args chart --slots 64 --from 64 --group 0
+fails -> 2 warnc: no such cell or part: --cell is as 1-2, --from is before --to, --to at most --slots
+args chart --slots 64 --to 0
+fails -> 2 warnc: no such cell or part: --cell is as 1-2, --from is before --to, --to at most --slots
+args chart --slots 64 --from 1:00
+usage -> 2 error:
+args report --slots 64 --to 1
+usage -> 2 error:
+args chart --slots 64 --from 1
+reads 0 9 -> 3 warnc: read failed
+writer 16 1
+run -> 3
+err -> warnc: write failed
+out -> <!DOCTYPE html>
+
+# in a part there is a mark for each broadcast, also of more than 400
+in cell,1,1
+in write,0,a,1,0,1,en,0,1,0,*,One
+args chart --slots 1000 --from 100 --to 601
+run -> 0
+past <i>high</i> <bdi>One</bdi> -> yes
+past <rect class=\"bar f5\" height=\"10\" x=\"100\" width=\"501\"/> -> yes
+past M600 0v10M601 0v10\"/> -> yes
+past </html> -> yes
+
+# cells that look the same in a part have one section there
+in cell,1,1
+in cell,1,2
+in cell,1,3
+in write,0,a,1,0,1,en,2,8,0,*,One
+in write,0,b,2,0,2,en,2,8,1,1-2,Two
+in write,20,c,3,0,3,en,2,8,1,1-3,Three
+args chart --slots 64 --from 10 --to 30
+run -> 0
+past <nav aria-label=\"Cells\"> -> yes
+out -> <a href=\"#c1-1\"><b>1-1 and 1 more</b>
+out -> <svg class=\"loads\" viewBox=\"10 0 20 1008\" preserveAspectRatio=\"none\" role=\"img\"><title>Reserved load</title>
+out -> <path class=\"load\" d=\"M10 1008H10V882H30V1008z\"/></svg>
+out -> <i>13 % at 0:00:18, refused: 0</i></a>
+out -> <a href=\"#c1-3\"><b>1-3</b>
+out -> <svg class=\"loads\" viewBox=\"10 0 20 1008\" preserveAspectRatio=\"none\" role=\"img\"><title>Reserved load</title>
+out -> <path class=\"load\" d=\"M10 1008H10V882H20V756H28V882H30V1008z\"/></svg>
+out -> <i>25 % at 0:00:37, refused: 0</i></a>
+out -> </nav>
+past <summary><h2>Cells 1-1 to 1-2, 2 cells</h2> messages: 1, refused: 0, fullest: 13 % at 0:00:18</summary> -> yes
+past <summary><h2>Cell 1-3</h2> messages: 2, refused: 0, fullest: 25 % at 0:00:37</summary> -> yes
+past </html> -> yes
+
 # a cell that the book doesn't have, and a book without cells
 in cell,1,1
 args chart --slots 4 --cell=1-2
@@ -363,5 +473,5 @@ usage -> 2 error:
 
 #[test]
 fn books_give_charts(rt: HostRuntime) -> Result<(), Fail> {
-    expect_rows(&rt, CHART, 320)
+    expect_rows(&rt, CHART, 419)
 }

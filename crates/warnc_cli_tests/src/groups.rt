@@ -89,6 +89,13 @@ past <summary><h2>Cells 1-1 to 1-63, 63 cells</h2> messages: 0, refused: 0, full
 past <summary><h2>Group 1</h2></summary> -> yes
 past <summary><h2>Cell 1-64</h2> messages: 1, refused: 0, fullest: 50 % at 0:00:00</summary> -> yes
 past </html> -> yes
+args chart --slots 2 --network --from 1
+run -> 0
+past Drawn from slot 1 (0:00:01) to slot 2 (0:00:03), with all marks.</p> -> yes
+past <summary><h2>Cell 1-0</h2> messages: 1, refused: 0, fullest: 50 % at 0:00:01</summary> -> yes
+past <summary><h2>Cell 1-64</h2> messages: 1, refused: 0, fullest: 50 % at 0:00:01</summary> -> yes
+past <rect class=\"bar f5\" height=\"10\" x=\"1\" width=\"1\"/> -> yes
+past </html> -> yes
 args chart --slots 2 --group 1
 run -> 0
 past is full.</p> -> yes
@@ -165,5 +172,5 @@ fails -> 1 warnc: no such group: the network has 2
 
 #[test]
 fn groups_of_networks_are_run(rt: HostRuntime) -> Result<(), Fail> {
-    expect_rows(&rt, GROUPS, 139)
+    expect_rows(&rt, GROUPS, 146)
 }

@@ -135,6 +135,10 @@ args chart --slots 2
 run -> 0
 keep
 scarce 21 4800 -> worked
+args chart --slots 2 --from 1 --to 2
+run -> 0
+keep
+scarce 21 4800 -> worked
 args chart --slots 2 --group 0
 run -> 0
 keep

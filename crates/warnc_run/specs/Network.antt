@@ -30,8 +30,8 @@ abbrev pub octets_of_group : Product → (slots groups group : ℕ) → List Rec
 octets_of_group product.Tapes slots groups group records = octets_of product.Tapes (origin.Group group) slots records
 octets_of_group (product.Report columns) slots groups group records =
     octets_of (product.Report columns) (origin.Group group) slots records
-octets_of_group (product.Chart wanted) slots groups group records =
-    chart_part slots group (group + 1 == groups) wanted records (map reading_of_record records)
+octets_of_group (product.Chart view) slots groups group records =
+    chart_part slots group (group + 1 == groups) view records (map reading_of_record records)
 
 -- the part of the group of this number
 pub record IsPartOf (runs : GroupRuns) (group : ℕ) (input output : List ℕ) : Type 0 where

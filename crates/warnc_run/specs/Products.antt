@@ -1,6 +1,6 @@
 -- What is made of the octets that are read: of the run of a book, or of a group's, its tapes, the report of them, or
 -- their chart. Own.
-use Rattle.std.specs.Prelude.{◌≡◌, ◌==◌, ℕ, Bool, true, List, Option, All, length, map}
+use Rattle.std.specs.Prelude.{◌≡◌, ◌==◌, ℕ, Bool, true, List, All, length, map}
 use Rattle.std.specs.List.{flat_map}
 use Rattle.alert_book.specs.declared.network.Origin.{Origin}
 use Rattle.alert_book.specs.declared.network.Origin.TheVariants as origin
@@ -13,8 +13,8 @@ use Rattle.book_runs.specs.Run.{Exchange}
 use Rattle.bsc_table.specs.Promised.{IsServed}
 use Rattle.bsc_table.specs.Record.{Record}
 use Rattle.cbch_blocks.specs.RecordBlocks.{blocks_of, tape_of_record}
-use Rattle.cbsp_wire.specs.declared.message.Cell.{Cell}
 use Rattle.chart.specs.ChartText.{chart_text}
+use Rattle.chart.specs.declared.view.View.{View}
 use Rattle.handset.specs.Reception.{shown_in}
 use Rattle.handset.specs.Tape.{TapeReading}
 use Rattle.report.specs.ReportText.{text_with}
@@ -57,8 +57,8 @@ is_headed (origin.Group group) = group == 0
 abbrev pub octets_of : Product → (from : Origin) (slots : ℕ) → List Record → List ℕ
 octets_of product.Tapes from slots records = flat_map tape_of_record records
 octets_of (product.Report columns) from slots records = text_with columns (is_headed from) (own_rows records)
-octets_of (product.Chart wanted) from slots records =
-    chart_text slots wanted records (map reading_of_record records)
+octets_of (product.Chart view) from slots records =
+    chart_text slots view records (map reading_of_record records)
 
 -- what is written for the octets that were read: they are a book, or a network book whose group has one, and this is
 -- what is made of its run, and nothing else
@@ -85,6 +85,6 @@ IsCompiled slots = IsCompiledFrom origin.Book slots
 abbrev pub IsReportedFrom : (from : Origin) (slots : ℕ) → Columns → (input output : List ℕ) → Type 0
 IsReportedFrom from slots columns = IsOutput (product.Report columns) from slots 1
 
--- what `warnc chart` writes, of the wanted cell alone if one is wanted
-abbrev pub IsChartedFrom : (from : Origin) (slots : ℕ) (wanted : Option Cell) (input output : List ℕ) → Type 0
-IsChartedFrom from slots wanted = IsOutput (product.Chart wanted) from slots 1
+-- what `warnc chart` writes: of all cells or one, the whole run or a part of it
+abbrev pub IsChartedFrom : (from : Origin) (slots : ℕ) → View → (input output : List ℕ) → Type 0
+IsChartedFrom from slots view = IsOutput (product.Chart view) from slots 1

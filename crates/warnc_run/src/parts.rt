@@ -97,7 +97,7 @@ impl NetworkRun<'_> {
         match self.made {
             Product::Tapes => unreachable!(),
             Product::Report(columns) => Text::Report(columns, group == 0),
-            Product::Chart(wanted) => Text::ChartPart(group, group + 1 == self.groups, wanted),
+            Product::Chart(view) => Text::ChartPart(group, group + 1 == self.groups, view),
         }
     }
 

@@ -11,7 +11,7 @@ use crate::network::write_network;
 use crate::run::{Books, Run};
 use crate::text::write_text_from;
 use alert_book::Origin;
-use cbsp_wire::Cell;
+use chart::View;
 use device_ends::{Sink, Source};
 use order_desk::Gate;
 use report::Columns;
@@ -28,8 +28,8 @@ pub enum Product {
     Tapes,
     /// The report of what became of each order in each cell, with these columns, as CSV.
     Report(Columns),
-    /// The chart of its cells, or of this one alone, as a page in HTML.
-    Chart(Option<Cell>),
+    /// The chart of what is to be drawn of it, as a page in HTML.
+    Chart(View),
 }
 
 /// Why nothing, or not all, is written.

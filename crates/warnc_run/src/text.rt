@@ -19,8 +19,7 @@ use crate::run::{Books, Run, Sessions, Workers};
 use crate::tapes::records_after;
 use alert_book::{Book, Origin};
 use bsc_table::CellRecord;
-use cbsp_wire::Cell;
-use chart::{chart_octets, part_octets};
+use chart::{View, chart_octets, part_octets};
 use device_ends::{Failed, Sink, Source, write_all};
 use handset::{Reading, read_tape};
 use order_desk::{Gate, Open};
@@ -36,10 +35,10 @@ use std::thread::Threads;
 pub(crate) enum Text {
     /// The report with these columns, with the line of the columns' names over it or without.
     Report(Columns, bool),
-    /// The chart of all cells, or of the wanted one alone.
-    Chart(Option<Cell>),
-    /// The part of a group in the chart of its network: its number, whether it is the last one, and the wanted cell.
-    ChartPart(u16, bool, Option<Cell>),
+    /// The chart of what is to be drawn.
+    Chart(View),
+    /// The part of a group in the chart of its network: its number, whether it is the last one, and what is drawn.
+    ChartPart(u16, bool, View),
 }
 
 /// Reads a book, or the book of a group, and writes the text of its run. Nothing is written before all of it is made.
@@ -80,7 +79,7 @@ fn text_of_product(made: Product, origin: Origin) -> Text
     match made {
         Product::Tapes => unreachable!(),
         Product::Report(columns) => Text::Report(columns, is_headed(origin)),
-        Product::Chart(wanted) => Text::Chart(wanted),
+        Product::Chart(view) => Text::Chart(view),
     }
 }
 
@@ -137,21 +136,21 @@ fn text_of_records<T: AllocGlobal + Threads + Wait + Sync>(
             let octets = text_with(rt.alloc(), columns, headed, &rows)?;
             Ok(octets)
         }
-        Text::Chart(wanted) => {
+        Text::Chart(view) => {
             let readings = readings_by(rt, records, workers)?;
-            match chart_octets(rt.alloc(), slots, wanted, records, &readings) {
+            match chart_octets(rt.alloc(), slots, view, records, &readings) {
                 Ok(octets) => Ok(octets),
                 Err(fault) => Err(of_memory(fault)),
             }
         }
-        Text::ChartPart(group, is_last, wanted) => {
+        Text::ChartPart(group, is_last, view) => {
             let readings = readings_by(rt, records, workers)?;
             match part_octets(
                 rt.alloc(),
                 slots,
                 group,
                 is_last,
-                wanted,
+                view,
                 records,
                 &readings,
             ) {

@@ -2,6 +2,7 @@
 
 use crate::gate::{Crossing, Manner, Shortage};
 use alert_book::Origin;
+use chart::View;
 use device_ends::memory::{MemoryReader, MemoryWriter};
 use device_ends::{Sink, Source, write_all};
 use report::Columns;
@@ -14,6 +15,12 @@ use test_support::Words;
 use warnc_run::{
     Books, Product, ProductFault, Run, RunFault, Sessions, Workers, compile_stream, live_stream,
     run_book, run_product,
+};
+
+/// A chart of all.
+const WHOLE: View = View {
+    cell: None,
+    part: None,
 };
 
 /// What is called.
@@ -37,11 +44,11 @@ impl Engine {
             "records" => Engine::Records,
             "report" => Engine::Product(Books::One(Origin::Book), Product::Report(Columns::Plain)),
             "full" => Engine::Product(Books::One(Origin::Book), Product::Report(Columns::Full)),
-            "chart" => Engine::Product(Books::One(Origin::Book), Product::Chart(None)),
+            "chart" => Engine::Product(Books::One(Origin::Book), Product::Chart(WHOLE)),
             "network-tapes" => Engine::Product(Books::EachGroup, Product::Tapes),
             "network-report" => Engine::Product(Books::EachGroup, Product::Report(Columns::Plain)),
             "network-full" => Engine::Product(Books::EachGroup, Product::Report(Columns::Full)),
-            "network-chart" => Engine::Product(Books::EachGroup, Product::Chart(None)),
+            "network-chart" => Engine::Product(Books::EachGroup, Product::Chart(WHOLE)),
             _ => Engine::Live,
         }
     }
