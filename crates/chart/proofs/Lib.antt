@@ -1,6 +1,7 @@
 mod AxisLaws
 mod CountLaws
 mod EscapeLaws
+mod FullestLaws
 mod KeptLaws
 mod LoadLaws
 mod MarkLaws

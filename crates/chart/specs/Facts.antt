@@ -8,8 +8,11 @@ use Rattle.admission.specs.declared.measure.TheConstants.{SCALE}
 use Rattle.report.specs.declared.row.Row.{Row}
 use Rattle.report.specs.declared.row.Showing.{Showing}
 use Rattle.report.specs.declared.row.Showing.TheVariants as shown_status
+use Rattle.bsc_table.specs.Record.{Record}
 use Rattle.chart.specs.declared.facts.Facts.{Facts}
 use Rattle.chart.specs.declared.facts.TheConstants as texts
+use Rattle.chart.specs.declared.fullest.Fullest.{Fullest}
+use Rattle.chart.specs.Load.{all_loads}
 use Rattle.chart.specs.Time.{time_text}
 
 -- whether a row is of a refused order
@@ -41,6 +44,11 @@ facts_of rows from loads = record {
 -- how many hundredths of a cell a load takes, rounded up
 abbrev pub hundredths : (load : ℕ) → ℕ
 hundredths load = div_ceil (load * 100) SCALE
+
+-- how full a cell gets in its run: the greatest of the loads that it has reserved at the slots, and the first slot at
+-- which it has
+abbrev pub fullest_in : Record → Fullest
+fullest_in r = record { share = hundredths (most_of (all_loads r)); slot = fullest_slot (all_loads r) }
 
 -- how full a cell gets, and when
 unfoldable pub fullest_text : Facts → List ℕ

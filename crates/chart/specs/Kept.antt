@@ -1,8 +1,9 @@
 -- What is kept of an accepted message as a log is walked (own). The contracts of private functions alone speak of it.
-use Rattle.std.specs.Prelude.{◌<◌, List, map, All}
+use Rattle.std.specs.Prelude.{ℕ, ◌<◌, ◌&&◌, nat_le, nat_lt, if◌then◌else◌, List, map, All}
 use Rattle.bsc_table.specs.declared.entry.Entry.{Entry}
 use Rattle.bsc_table.specs.Record.{Accepted, is_stop_of, rank_of, stop_after}
 use Rattle.chart.specs.declared.kept.KeptMessage.{KeptMessage}
+use Rattle.chart.specs.declared.load.Reserved.{Reserved}
 
 -- the message that is kept so
 abbrev pub accepted_kept : KeptMessage → Accepted
@@ -33,3 +34,10 @@ HavePeriods kept = All (λ k. 0 < k.period) kept
 -- what is kept of it after one more entry
 abbrev pub kept_stopped : Entry → KeptMessage → KeptMessage
 kept_stopped e k = record k { stop = stop_after k.stop (is_stop_of k.id k.serial e) e.slot }
+
+-- what a message reserves at a slot of its reservation
+abbrev pub load_within : Reserved → (slot : ℕ) → ℕ
+load_within reserved slot =
+    if nat_le reserved.accepted slot && nat_lt slot reserved.end
+    then (if nat_lt slot reserved.start then reserved.excess else reserved.load)
+    else 0

@@ -1,17 +1,20 @@
--- What the marks, the loads, the sections and the axis of a chart promise (own).
+-- What the marks, the loads, the fullest slots, the sections and the axis of a chart promise (own).
 use Rattle.std.specs.Prelude.{◌≡◌, ◌↔◌, ℕ, ◌+◌, ◌-◌, ◌*◌, ◌<◌, ◌≤◌, true, All, List, count_by, if◌then◌else◌, nat_le}
 use Rattle.std.specs.Prelude.{None, Some}
 use Rattle.admission.specs.declared.measure.TheConstants.{SCALE}
 use Rattle.scheduler.specs.Air.{Air}
 use Rattle.scheduler.specs.Completed.{completed}
 use Rattle.scheduler.specs.Message.{ScheduledMessage}
+use Rattle.bsc_table.specs.Claim.{claimed_at}
 use Rattle.bsc_table.specs.Legal.{IsLegal}
-use Rattle.bsc_table.specs.Record.{Record, accepted_in}
+use Rattle.bsc_table.specs.Record.{Record, accepted_in, claims_in}
 use Rattle.handset.specs.Reception.{ShownMessage}
 use Rattle.report.specs.Rows.{message_row}
+use Rattle.chart.specs.Facts.{fullest_in, hundredths}
 use Rattle.chart.specs.Load.{height_of}
 use Rattle.chart.specs.Message.{are_many, is_marked, marked_slots}
 use Rattle.chart.specs.Panels.{is_like}
+use Rattle.chart.specs.declared.fullest.Fullest.{Fullest}
 use Rattle.chart.specs.declared.panel.Panel.{Panel}
 use Rattle.chart.specs.declared.load.TheConstants.{LOAD_HEIGHT, LOAD_STEP}
 use Rattle.chart.specs.declared.time.TheConstants.{MOST_TICKS}
@@ -63,3 +66,16 @@ abbrev pub TicksReachTheEnd : Type 0
 TicksReachTheEnd = (s : Stretch) → s.from ≤ s.to → s.to < 65536
     → (((number : ℕ) → number < first_number s.from (step_in s) → number * step_in s * 13000 < s.from * 24480)
     × (seconds_at s.to < (first_number s.from (step_in s) + MOST_TICKS) * step_in s))
+
+-- a slot of a cell's run that has this share reserved: no slot has a greater load, and each before it a smaller one
+pub record IsFullest (r : Record) (fullest : Fullest) : Type 0 where
+  pub within : fullest.slot < r.slots
+  pub share : fullest.share ≡ hundredths (claimed_at (claims_in r.log) fullest.slot)
+  pub greatest : (slot : ℕ) → slot < r.slots
+      → claimed_at (claims_in r.log) slot ≤ claimed_at (claims_in r.log) fullest.slot
+  pub first : (slot : ℕ) → slot < fullest.slot
+      → claimed_at (claims_in r.log) slot < claimed_at (claims_in r.log) fullest.slot
+
+-- how full a cell gets is at such a slot
+abbrev pub FullestHasMost : Type 0
+FullestHasMost = (r : Record) → 0 < r.slots → IsFullest r (fullest_in r)

@@ -22,6 +22,10 @@ AreLoadsFrom from claims loads =
 abbrev pub loads_in : Record → Stretch → List ℕ
 loads_in r s = map (claimed_at (claims_in r.log)) (range_with_len s.from (width_of s))
 
+-- the loads that are reserved at all slots of a run
+abbrev pub all_loads : Record → List ℕ
+all_loads r = map (claimed_at (claims_in r.log)) (range_with_len 0 r.slots)
+
 -- what is drawn before a slot: nothing before the first one
 abbrev pub claimed_before : (from : ℕ) → List Claim → (slot : ℕ) → ℕ
 claimed_before from claims slot = if slot == from then 0 else claimed_at claims (slot - 1)

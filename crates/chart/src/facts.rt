@@ -59,7 +59,7 @@ fn count_refused(rows: &[Row]) -> usize
 }
 
 /// The greatest of these loads; 0 if there are none.
-fn most_of(loads: &[u64]) -> u64
+pub(crate) fn most_of(loads: &[u64]) -> u64
     ensures most { result ≡ most_of loads.now }
     ensures within { All (λ load. load ≤ SCALE) loads.now → result ≤ SCALE }
 {
@@ -71,7 +71,7 @@ fn most_of(loads: &[u64]) -> u64
 }
 
 /// The first slot with this load; 0 if there is none.
-fn slot_of(loads: &[u64], most: u64) -> u16
+pub(crate) fn slot_of(loads: &[u64], most: u64) -> u16
     requires { length loads.now < 65536 }
     ensures slot { result ≡ unwrap_or (position_from (λ load. load == most) 0 loads.now) 0 }
     ensures within { result ≤ length loads.now }
@@ -101,7 +101,7 @@ pub(crate) fn facts_of(rows: &[Row], from: u16, loads: &[u64]) -> Facts
 }
 
 /// How many hundredths of a cell a load takes, rounded up.
-fn hundredths(load: u64) -> u64
+pub(crate) fn hundredths(load: u64) -> u64
     requires { load ≤ SCALE }
     ensures { result ≡ hundredths load }
 {

@@ -1,11 +1,12 @@
 //! Laws of a chart.
 
 ghost use Rattle.chart.specs.Escape.{EscapedIsPlain};
-ghost use Rattle.chart.specs.Laws.{HeightsAreOfLoads, LikeAreTheSame, MarksAreCompleted, MarksOfPartsAreCompleted};
+ghost use Rattle.chart.specs.Laws.{FullestHasMost, HeightsAreOfLoads, LikeAreTheSame, MarksAreCompleted};
+ghost use Rattle.chart.specs.Laws.{MarksOfPartsAreCompleted};
 ghost use Rattle.chart.specs.Laws.{TicksReachTheEnd};
 
-/// States, as its contract, what texts, marks, loads, sections and axes are in a page. Does nothing: its body names the
-/// laws that carry it.
+/// States, as its contract, what texts, marks, loads, sections and axes are in a page, and where a cell is fullest.
+/// Does nothing: its body names the laws that carry it.
 pub fn chart_laws()
     // No text begins or ends a tag, or the value of an attribute.
     ensures escaped { EscapedIsPlain }
@@ -24,6 +25,9 @@ pub fn chart_laws()
 
     // An axis has all ticks of what is drawn.
     ensures ticks { TicksReachTheEnd }
+
+    // A cell is fullest at the first slot with a load that no slot exceeds.
+    ensures fullest { FullestHasMost }
 {
     bsc_table::guarantee();
     bsc_table::legal_histories();

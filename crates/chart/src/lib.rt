@@ -2,6 +2,7 @@
 //! refused order a mark, and the loads that a cell has reserved a line.
 //!
 //! [`write_chart`] writes it, [`chart_octets`] makes it, and [`part_octets`] makes the part of a network's group.
+//! [`fullest_of`] says how full a cell gets, for other tables.
 //! `specs/ChartText.antt` says which octets: of each cell the lines are those of the rows of its report, in order, and
 //! every text of a message goes through `specs/Escape.antt`. Cells that look the same have one section
 //! (`specs/Panels.antt`).
@@ -11,6 +12,7 @@ pub mod cause;
 pub mod cell;
 pub mod chart;
 pub mod facts;
+pub mod fullest;
 pub mod identifier;
 mod kept;
 mod laws;
@@ -24,5 +26,6 @@ pub mod time;
 pub mod view;
 
 pub use chart::{chart_octets, part_octets, write_chart};
+pub use fullest::{Fullest, fullest_of};
 pub use laws::chart_laws;
 pub use view::{Part, View};

@@ -1,14 +1,15 @@
 //! The loads that a cell has reserved, over the slots of its run.
 
-ghost use Rattle.std.specs.Prelude.{◌≡◌, ◌+◌, ◌<◌, ◌≤◌, ◌++◌, ℕ, List, length, map, slice_index, All, IfOk, OnOk};
+ghost use Rattle.std.specs.Prelude.{◌≡◌, ◌+◌, ◌<◌, ◌≤◌, ◌++◌, ◌&&◌, ℕ, nat_le, nat_lt, if◌then◌else◌, List, length};
+ghost use Rattle.std.specs.Prelude.{map, slice_index, All, IfOk, OnOk};
 ghost use Rattle.std.specs.Fmt.{decimal};
 ghost use Rattle.std.specs.List.{flat_map, range_with_len};
 ghost use Rattle.admission.specs.declared.measure.TheConstants.{SCALE};
-ghost use Rattle.bsc_table.specs.Claim.{Claim, claim_at, claim_share_at, claimed_at};
+ghost use Rattle.bsc_table.specs.Claim.{Claim, claim_at, claimed_at};
 ghost use Rattle.bsc_table.specs.Record.{Record, claim_of, claims_in, claims_of};
 ghost use Rattle.bsc_table.specs.Room.{ClaimsFit};
 ghost use Rattle.chart.specs.ChartText.{load_end, load_front, load_picture, load_shape, load_width};
-ghost use Rattle.chart.specs.Kept.{accepted_kept, all_kept, HavePeriods};
+ghost use Rattle.chart.specs.Kept.{accepted_kept, all_kept, load_within, HavePeriods};
 ghost use Rattle.chart.specs.Load.{height_of, step_at, step_text, AreLoads, AreLoadsFrom};
 ghost use Rattle.chart.specs.View.{width_of};
 ghost use Rattle.chart.specs.declared.load.TheConstants.{LOAD_HEIGHT};
@@ -65,16 +66,51 @@ pub(crate) fn end_within(kept: &KeptMessage, slots: usize) -> usize
     }
 }
 
-/// What a message reserves at a slot of its reservation.
-fn share_at(kept: &KeptMessage, slot: usize) -> u64
-    requires { 0 < kept.now.period }
-    ensures { result ≡ claim_share_at slot (claim_of (accepted_kept kept.now)) }
+/// The slots that a message reserves: up to its start its excess, and then its load.
+#[derive(Clone, Copy)]
+struct Reserved {
+    /// The slot at which it was accepted.
+    accepted: usize,
+    /// The slot from which it is broadcast.
+    start: usize,
+    /// The first slot after its reservation, or after the run.
+    end: usize,
+    excess: u64,
+    load: u64,
+}
+
+/// Adds a load to those of the slots from one on, up to, and without, another one.
+fn add_load(loads: &mut [u64], from: usize, to: usize, load: u64)
+    requires within { to ≤ length loads.old }
+    requires room { (slot : ℕ) → slot < length loads.old → from ≤ slot → slot < to
+        → slice_index loads.old slot + load ≤ SCALE }
+    ensures same { length loads.new ≡ length loads.old }
+    ensures each { (slot : ℕ) → slot < length loads.old
+        → slice_index loads.new slot ≡ slice_index loads.old slot
+        + (if nat_le from slot && nat_lt slot to then load else 0) }
 {
-    if (slot as u64) < u64::from(kept.start) {
-        kept.excess
-    } else {
-        kept.load()
+    for slot in from..to {
+        loads[slot] += load;
     }
+}
+
+/// Adds what is reserved at each slot to what others reserve.
+fn add_reserved(loads: &mut [u64], reserved: Reserved)
+    requires within { reserved.end ≤ length loads.old }
+    requires room { (slot : ℕ) → slot < length loads.old
+        → slice_index loads.old slot + load_within reserved slot ≤ SCALE }
+    ensures same { length loads.new ≡ length loads.old }
+    ensures each { (slot : ℕ) → slot < length loads.old
+        → slice_index loads.new slot ≡ slice_index loads.old slot + load_within reserved slot }
+{
+    let start = reserved.start.max(reserved.accepted).min(reserved.end);
+    add_load(loads, reserved.accepted, start, reserved.excess);
+    add_load(
+        loads,
+        start.max(reserved.accepted),
+        reserved.end,
+        reserved.load,
+    );
 }
 
 /// Adds what a message reserves at each slot to what others do.
@@ -87,10 +123,14 @@ fn add_claim(loads: &mut [u64], kept: &KeptMessage)
         → slice_index loads.new slot ≡ slice_index loads.old slot
         + claim_at slot (claim_of (accepted_kept kept.now)) }
 {
-    let end = end_within(kept, loads.len());
-    for slot in usize::from(kept.accepted)..end {
-        loads[slot] += share_at(kept, slot);
-    }
+    let reserved = Reserved {
+        accepted: usize::from(kept.accepted),
+        start: kept.start as usize,
+        end: end_within(kept, loads.len()),
+        excess: kept.excess,
+        load: kept.load(),
+    };
+    add_reserved(loads, reserved);
 }
 
 /// What these messages reserve at each slot of a run, all together. The only error is out of memory.

@@ -2,6 +2,7 @@ use Rattle.std.proofs.Common.{arith, refl}
 use Rattle.std.proofs.lemmas.Slice.Eq.{bytes_eq-Decides}
 use Rattle.chart.proofs.AxisLaws.{ticks_reach_the_end}
 use Rattle.chart.proofs.EscapeLaws.{escaped_is_plain}
+use Rattle.chart.proofs.FullestLaws.{fullest_has_most}
 use Rattle.chart.proofs.MarkLaws.{marks_are_completed, marks_of_parts_are_completed, Laws}
 use Rattle.chart.proofs.laws.chart_laws.Goals as goal
 
@@ -18,5 +19,6 @@ returns c = let laws : Laws = record {
   parts = marks_of_parts_are_completed laws;
   sections = λ p other. bytes_eq-Decides other.contents p.contents;
   ticks = ticks_reach_the_end;
+  fullest = fullest_has_most;
   heights = (refl, refl, refl, λ load more less. omega (arith, less));
 }
