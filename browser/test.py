@@ -125,6 +125,11 @@ def first_slots(tape):
 PAST = "cell broadcast not operational"
 
 
+def remarks_in(table):
+    """Returns the rows of the table of `check --slots` without those of how full cells get."""
+    return [it for it in records(table) if not it[-1].startswith("fullest: ")]
+
+
 def well_judged(row, fate, said, declared):
     """Whether what the page counts of an order is what `check --slots` says of it."""
     is_stop = row[0] == "stop"
@@ -352,7 +357,7 @@ def what_would_go_unsaid_is_noted(page, program, _):
     page.run("showPane('book')")
     load(page, SILENT, 400)
     table = ran(program, ["check", "--slots", 400], SILENT.encode())[1].decode()
-    head, *rows = records(table)
+    head, *rows = remarks_in(table)
     wrong = [f"the book has none that {it}" for it in KINDS if not any(row[3].startswith(it) for row in rows)]
     if page.run("return state.remarks") != [dict(zip(head, it)) for it in rows]:
         wrong.append("the remarks are others")
@@ -482,7 +487,7 @@ def work_is_cancelled(page, program, _):
         setBook(state.text.replace(',m1,', ',second,'), 'edit')""")
     page.until("state.done === state.text && !under && !isAskingMore")
     book = page.run("return state.text").encode()
-    head, *rows = records(ran(program, ["check", "--slots", 4096], book)[1].decode())
+    head, *rows = remarks_in(ran(program, ["check", "--slots", 4096], book)[1].decode())
     if page.run("return state.remarks") != [dict(zip(head, it)) for it in rows]:
         wrong.append("the remarks are another book's")
     drawn = page.run("showPane('book'); return document.querySelectorAll('#b-grid td').length")

@@ -47,7 +47,8 @@ const jobs = {
     },
 
     // What would go unsaid of a book without a fault, and what its texts cost.
-    remarks: ({ text, slots }) => tableBy(["check", "--slots", slots], text),
+    remarks: ({ text, slots }) => (
+        tableBy(["check", "--slots", slots], text).filter(({ says }) => !says.startsWith("fullest: "))),
     costs: ({ text }) => tableBy(["texts"], text),
 
     channel({ text, slots, cell }) {

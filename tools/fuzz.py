@@ -421,7 +421,8 @@ def remarks_in(out):
     is_right = rows[:1] == [REMARK_NAMES] and out.endswith(b"\n") and all(
         len(row) == 4 and row[3] and (row[0].isdigit() and row[1] and not row[2] or
                                       row[:2] == ["", ""] and re.fullmatch(r"\d+-\d+", row[2])) for row in rows[1:])
-    return len(rows) - 1 if is_right else None
+    # how full cells get is no remark
+    return sum(not re.fullmatch(r"fullest: \d+ % at slot \d+", row[3]) for row in rows[1:]) if is_right else None
 
 
 def is_of_check(run, out):

@@ -1,7 +1,8 @@
 #!/usr/bin/env python3
 """Remarks on books and their runs as docs/formats.md says: a second program against which `warnc check --slots` is
-compared. Which writes and updates a cell accepted, and with which cause one refused an order, it takes from `warnc
-report`; which order asked which cell, and at which slot, it finds by itself, as a session goes on by the replies.
+compared. Which writes and updates a cell accepted, from which slot on, and with which cause one refused an order, it
+takes from `warnc report`; which order asked which cell, and at which slot, it finds by itself, as a session goes on by
+the replies, and so what each message reserves.
 
 Usage: remarks_reference.py PROGRAM [RUNS]    random books of few slots and cells, with orders that go back in time or
                                               stop what isn't live, cells that are declared late, and identifiers and
@@ -13,6 +14,8 @@ import io
 import random
 import subprocess
 import sys
+from dataclasses import dataclass
+from fractions import Fraction
 
 import books
 import gsm
@@ -22,6 +25,7 @@ TEXTS = ("Stay in!", " ", "Go up to the roof " * 8, "\n \n", "Вода подн�
          "Don’t go out – " * 7, "Woda idzie, idźcie w górę! " * 2, "Don’t go", "№1 ", "€" * 60 + "…")
 NAMES = ("", ",", '"', " é")
 PAST, UNKNOWN = 0x0A, 0x02
+BACKGROUND = 1
 # 3GPP TS 48.049, 8.2
 CAUSES = {
     0x02: "message reference not identified", 0x06: "BSC capacity exceeded", 0x07: "cell memory exceeded",
@@ -52,12 +56,36 @@ def random_book(rng):
     return rows
 
 
+@dataclass
+class Reserved:
+    """What a message reserves of a cell: from its start to its end its load, and before, from the slot at which it was
+    accepted, what that is more than the load of the message behind which it waits, if it does."""
+
+    accepted: int
+    start: int
+    period: int
+    end: int
+    load: Fraction
+    behind: "Reserved"
+
+    def stop(self, slot):
+        """Has it end after the period that is under way."""
+        begun = max(0, slot - self.start)
+        self.end = min(self.start, slot) + -(-begun // self.period) * self.period
+
+    def at(self, slot):
+        if not self.accepted <= slot or self.end is not None and slot >= self.end:
+            return 0
+        return self.load if slot >= self.start else max(0, self.load - (self.behind.load if self.behind else self.load))
+
+
 class Walk:
-    """The session's way through a cell: its clock, the rows of the report that are left, and for each name the update
-    number of its version that is live there."""
+    """The session's way through a cell: its clock, the rows of the report that are left, for each name the update
+    number of its version that is live there, and what each message reserves, by its identifier and serial number."""
 
     def __init__(self, slots, reported):
         self.slots, self.reported, self.clock, self.live = slots, reported, 0, {}
+        self.reserved = {}
 
     def answer(self, order):
         """Returns the slot at which the cell did what was ordered, the cause with which it refused it, one of which is
@@ -70,11 +98,33 @@ class Walk:
         row = self.reported[0] if self.reported else None
         cause = self.cause_of_stop(order, live) if order.verb == "stop" else self.cause_of_next()
         if cause is None:
+            self.reserve(order, live, slot, row)
             self.live[name] = None if order.verb == "stop" else order.alert.update
             return slot, None, order.verb != "stop" and row["shown"] == "no"
         if cause == UNKNOWN:
             self.live[name] = None
         return None, cause, False
+
+    def reserve(self, order, live, slot, row):
+        """Keeps what a message reserves that the cell accepted or stopped at a slot; `live` is the update number of the
+        version before."""
+        key = order.alert.identifier, order.alert.scope, order.alert.code
+        old = None if order.verb == "write" else self.reserved[(*key, live)]
+        if old:
+            old.stop(slot)
+        if order.verb == "stop":
+            return
+        sending, start = order.sending, int(row["start"])
+        load = Fraction(len(gsm.pieces_of(sending.text)[0]), sending.period)
+        behind = None if old is None or start == slot else old if old.start <= slot else old.behind
+        self.reserved[(*key, order.alert.update)] = Reserved(
+            slot, start, sending.period, start + sending.broadcasts * sending.period if sending.broadcasts else None,
+            0 if sending.category == BACKGROUND else load, behind)
+
+    def fullest(self):
+        """Returns the greatest share of the cell that is reserved at a slot, in hundredths, and the first such slot."""
+        loads = [sum(it.at(slot) for it in self.reserved.values()) for slot in range(self.slots)]
+        return -(-max(loads) * 100 // 1), loads.index(max(loads))
 
     def cause_of_next(self):
         shown = self.reported.pop(0)["shown"]
@@ -134,7 +184,7 @@ def says_of_text(text):
 
 
 def table_of(rows, report, slots):
-    """Returns the lines of the table, and how many remarks it has."""
+    """Returns the lines of the table, and how many remarks it has. Behind the remarks is how full each cell gets."""
     cells = [it for it in rows if isinstance(it, tuple)]
     reported = {cell: [] for cell in cells}
     for it in csv.DictReader(io.StringIO(report, newline="")):
@@ -152,7 +202,11 @@ def table_of(rows, report, slots):
         if it.verb == "write":
             earlier.append(((it.alert.identifier, it.alert.scope, it.alert.code), row))
     lines += [books.line(["", "", f"{lac}-{ci}", "gets nothing"]) for lac, ci in silent]
-    return books.line("row name cell says".split()) + "".join(lines), len(lines)
+    count = len(lines)
+    for lac, ci in cells:
+        share, slot = walks[lac, ci].fullest()
+        lines.append(books.line(["", "", f"{lac}-{ci}", f"fullest: {share} % at slot {slot}"]))
+    return books.line("row name cell says".split()) + "".join(lines), count
 
 
 def run(program, words, octets):

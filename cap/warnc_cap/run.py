@@ -18,7 +18,7 @@ CAUSES = {"02": "message reference not identified", "06": "BSC capacity exceeded
 STOP = "stop"
 # Remarks that become no note: refusals are told by their causes, a message that is never shown has nothing under
 # `first_shown` of the receipt, and the texts of messages go out as their senders wrote them. Nor is a cell that gets
-# nothing a note: a warning is for some cells, and all others would be named each time.
+# nothing a note: a warning is for some cells, and all others would be named each time; nor how full a cell gets.
 PASSED_OVER = ("refused in ", "never shown in ", "UCS-2 because of ")
 # so many cells that refuse most are run until they settle, before all are
 MOST_CROWDED = 4 * MOST_CELLS

@@ -21,7 +21,7 @@ complete -c warnc -n __fish_use_subcommand -a whole -d 'Reads tapes, and writes 
 complete -c warnc -n __fish_use_subcommand -a groups -d 'Reads a network book, and writes how many groups of 64 cells it has'
 complete -c warnc -n __fish_use_subcommand -a help -d 'Prints what a command takes'
 
-complete -c warnc -n '__fish_seen_subcommand_from check' -x -l slots -d 'Runs a book without a fault for this many slots, 1 to 65535, and writes what is remarked of the run'
+complete -c warnc -n '__fish_seen_subcommand_from check' -x -l slots -d 'Runs a book without a fault for this many slots, 1 to 65535, and writes what is remarked of the run and how full each cell gets'
 complete -c warnc -n '__fish_seen_subcommand_from check' -l strict -d 'Ends with 1 if there is a remark, as with a fault'
 complete -c warnc -n '__fish_seen_subcommand_from texts' -x -l pages -d 'Writes, too, to how many characters each text is cut so that it takes at most this many pages, 1 to 15' \
     -a '1 2 3 4 5 6 7 8 9 10 11 12 13 14 15'

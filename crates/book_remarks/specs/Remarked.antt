@@ -1,5 +1,5 @@
 -- What `warnc check --slots` makes of the octets that it reads: the faults of a book's rows, or if there is none, what
--- is remarked of the book and of its run. Own.
+-- is remarked of the book and of its run, and how full its cells get. Own.
 use Rattle.std.specs.Prelude.{◌≡◌, ⊤, ◌⊎◌, ℕ, ◌<◌, Bool, true, false, List, Option, IfSome, length}
 use Rattle.device_ends.specs.Moves.{AppendsFront, WritesOutput}
 use Rattle.alert_book.specs.declared.network.Origin.TheVariants as origin
@@ -10,18 +10,19 @@ use Rattle.warnc_run.specs.declared.fault.RunFault.{RunFault}
 use Rattle.warnc_run.specs.Faults.{StopsRun}
 use Rattle.warnc_run.specs.Products.{RunOf}
 use Rattle.book_remarks.specs.Remarks.{remarks_in}
-use Rattle.book_remarks.specs.RemarksText.{remarks_text}
+use Rattle.book_remarks.specs.RemarksText.{checked_run_text}
 use Rattle.book_remarks.specs.declared.fault.RemarkFault.{RemarkFault}
 use Rattle.book_remarks.specs.declared.fault.RemarkFault.TheVariants as faults
 
--- the octets are a book with a run of these slots, of which there are this many remarks, and this is their table
+-- the octets are a book with a run of these slots, of which there are this many remarks, and this is the table of them
+-- and of how full each cell gets
 pub record IsRemarked (slots : ℕ) (input : List ℕ) (count : ℕ) (output : List ℕ) : Type 0 where
   pub rows : Rows
   pub read : AreRowsOf input rows
   pub records : List Record
   pub run : RunOf origin.Book slots 1 input records
   pub counted : length (remarks_in rows.orders records) ≡ count
-  pub written : output ≡ remarks_text (remarks_in rows.orders records)
+  pub written : output ≡ checked_run_text (remarks_in rows.orders records) records
 
 -- there is one at least
 abbrev pub HasRemarks : (slots count : ℕ) → (input output : List ℕ) → Type 0

@@ -4,6 +4,9 @@ use Rattle.std.specs.Fmt.{decimal}
 use Rattle.std.specs.List.{flat_map}
 use Rattle.csv.specs.Writing.{default_writer, row_text}
 use Rattle.cbsp_wire.specs.declared.message.Cell.{Cell}
+use Rattle.bsc_table.specs.Record.{Record}
+use Rattle.chart.specs.declared.fullest.Fullest.{Fullest}
+use Rattle.chart.specs.Facts.{fullest_in}
 use Rattle.report.specs.Cause.{cause_words}
 use Rattle.book_remarks.specs.declared.says.Says.{Says}
 use Rattle.book_remarks.specs.declared.says.Says.TheVariants as says
@@ -53,3 +56,18 @@ remark_line remark = line (remark_fields remark)
 
 abbrev pub remarks_text : List Remark → List ℕ
 remarks_text all = header_line ++ flat_map remark_line all
+
+-- How full cells get, which is no remark.
+
+abbrev pub fullest_words : Fullest → List ℕ
+fullest_words fullest = codes "fullest: " ++ (decimal fullest.share ++ (codes " % at slot " ++ decimal fullest.slot))
+
+abbrev pub fullest_fields : Cell → Fullest → List (List ℕ)
+fullest_fields cell fullest = [] ∷ [] ∷ cell_text cell ∷ fullest_words fullest ∷ []
+
+abbrev pub fullest_line : Record → List ℕ
+fullest_line r = line (fullest_fields r.cell (fullest_in r))
+
+-- what is remarked, and then how full each cell gets
+abbrev pub checked_run_text : List Remark → List Record → List ℕ
+checked_run_text all records = remarks_text all ++ flat_map fullest_line records

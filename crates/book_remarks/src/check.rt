@@ -1,4 +1,5 @@
-//! The command `check --slots`: a book to the faults of its rows, or to what is remarked of its run.
+//! The command `check --slots`: a book to the faults of its rows, or to what is remarked of its run and how full its
+//! cells get.
 
 ghost use Rattle.std.specs.Prelude.{◌≡◌, ◌↔◌, ◌+◌, ◌<◌, ◌≤◌, false, true, length, IfErr, IfOk, IfSome, IsErrOf, IsTrue};
 ghost use Rattle.std.specs.Prelude.{OnOk};
@@ -15,7 +16,7 @@ ghost use Rattle.book_remarks.specs.declared.fault.RemarkFault.TheVariants as fa
 
 use crate::fault::RemarkFault;
 use crate::remarks::remarks_of;
-use crate::text::text_of;
+use crate::text::run_text_of;
 use alert_book::{MAX_INPUT, Origin, read_rows};
 use book_check::table_of;
 use bsc_table::CellRecord;
@@ -27,7 +28,7 @@ use std::sync::Wait;
 use std::thread::Threads;
 use warnc_run::{RunFault, Workers, run_book};
 
-/// The table of remarks.
+/// The table of remarks and of how full cells get.
 #[derive(Drop)]
 struct Remarked {
     text: Vec<u8>,
@@ -37,7 +38,7 @@ struct Remarked {
 
 /// Reads a book up to its end, and writes a table as CSV: that of [`check_stream`](book_check::check_stream) if a row
 /// has a fault; else the book is run with one session and `slots` slots, and what is remarked of it is written
-/// ([`remarks_of`]). Nothing is written before all is known.
+/// ([`remarks_of`]), and how full each cell gets ([`run_text_of`]). Nothing is written before all is known.
 ///
 /// # Errors
 ///
@@ -136,7 +137,7 @@ fn remarked_of<T: AllocGlobal + Threads + Wait + Sync>(
     let Ok(remarks) = remarks_of(alloc, rows.orders(), &records) else {
         return Err(RemarkFault::Refused);
     };
-    let Ok(text) = text_of(alloc, &remarks) else {
+    let Ok(text) = run_text_of(alloc, &remarks, &records) else {
         return Err(RemarkFault::Refused);
     };
     Ok(Remarked {

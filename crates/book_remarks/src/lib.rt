@@ -2,8 +2,8 @@
 //! refused ones, and cells that get nothing.
 //!
 //! [`remarks_of`] finds them, by the rows of a book and the records of its run: what became of each order in each cell
-//! (`marks_from`) is read of the cells' logs. [`remark_stream`] is the engine of `check --slots`, from a reader to a
-//! writer.
+//! (`marks_from`) is read of the cells' logs. [`run_text_of`] is their text, with how full each cell gets.
+//! [`remark_stream`] is the engine of `check --slots`, from a reader to a writer.
 #![tactic(auto)]
 
 mod check;
@@ -21,4 +21,4 @@ pub use laws::remark_laws;
 pub use mark::Mark;
 pub use remarks::{Remark, remarks_of};
 pub use says::{CellMark, Says};
-pub use text::text_of;
+pub use text::{run_text_of, text_of};

@@ -1,15 +1,17 @@
-//! The text of remarks, in memory.
+//! The text of remarks, and of how full cells get, in memory.
 
 ghost use Rattle.std.specs.Prelude.{◌≡◌, ◌++◌, ℕ, List, codes, IfOk, OnOk, string_bytes};
 ghost use Rattle.std.specs.List.{flat_map};
 ghost use Rattle.book_remarks.specs.TableSteps.{IsTable};
-ghost use Rattle.book_remarks.specs.RemarksText.{cell_text, cells_word, remark_line, remarks_text, says_text};
-ghost use Rattle.book_remarks.specs.RemarksText.{spaced_cell};
+ghost use Rattle.book_remarks.specs.RemarksText.{cell_text, cells_word, fullest_line, fullest_words, remark_line};
+ghost use Rattle.book_remarks.specs.RemarksText.{remarks_text, checked_run_text, says_text, spaced_cell};
 
 use crate::remarks::Remark;
 use crate::says::Says;
 use crate::table::Table;
+use bsc_table::CellRecord;
 use cbsp_wire::Cell;
+use chart::{Fullest, fullest_of};
 use itoa::Buffer;
 use report::cause_words;
 use std::alloc::{AllocError, Global};
@@ -101,6 +103,51 @@ fn push_remark(alloc: Global, table: &mut Table, remark: &Remark) -> Result<(), 
     }
 }
 
+/// Appends the lines of remarks.
+fn push_remarks(alloc: Global, table: &mut Table, remarks: &[Remark]) -> Result<(), AllocError>
+    ensures { OnOk result ((octets : List ℕ) → IsTable table.old octets
+        → IsTable table.new (octets ++ flat_map remark_line remarks.now)) }
+{
+    for remark in remarks {
+        push_remark(alloc, table, remark)?;
+    }
+    Ok(())
+}
+
+/// How full a cell gets, in words.
+fn fullest_words(alloc: Global, fullest: Fullest) -> Result<String, AllocError>
+    ensures { IfOk result (λ text. string_bytes text ≡ fullest_words fullest) }
+{
+    let Fullest { share, slot } = fullest;
+    format!(in alloc; "fullest: {share} % at slot {slot}")
+}
+
+/// Appends the line of how full a cell gets.
+fn push_fullest(alloc: Global, table: &mut Table, run: &CellRecord) -> Result<(), AllocError>
+    ensures { OnOk result ((octets : List ℕ) → IsTable table.old octets
+        → IsTable table.new (octets ++ fullest_line run.now)) }
+{
+    let fullest = fullest_of(alloc, run)?;
+    let name = cell_text(alloc, run.cell())?;
+    let said = fullest_words(alloc, fullest)?;
+    table.push_fields("", "", &name, &said)
+}
+
+/// Appends the lines of how full cells get.
+fn push_each_fullest(
+    alloc: Global,
+    table: &mut Table,
+    records: &[CellRecord],
+) -> Result<(), AllocError>
+    ensures { OnOk result ((octets : List ℕ) → IsTable table.old octets
+        → IsTable table.new (octets ++ flat_map fullest_line records.now)) }
+{
+    for run in records {
+        push_fullest(alloc, table, run)?;
+    }
+    Ok(())
+}
+
 /// The text of remarks, as CSV: a line of the columns' names, and a line for each.
 ///
 /// # Errors
@@ -110,8 +157,25 @@ pub fn text_of(alloc: Global, remarks: &[Remark]) -> Result<Vec<u8>, AllocError>
     ensures { IfOk result (λ octets. octets.items ≡ remarks_text remarks.now) }
 {
     let mut table = Table::new(alloc)?;
-    for remark in remarks {
-        push_remark(alloc, &mut table, remark)?;
-    }
+    push_remarks(alloc, &mut table, remarks)?;
+    table.into_octets()
+}
+
+/// The text of remarks, and then of each cell of a run a line of the most load that it has reserved, in hundredths of
+/// the cell, and of the first slot at which it has.
+///
+/// # Errors
+///
+/// Out of memory.
+pub fn run_text_of(
+    alloc: Global,
+    remarks: &[Remark],
+    records: &[CellRecord],
+) -> Result<Vec<u8>, AllocError>
+    ensures { IfOk result (λ octets. octets.items ≡ checked_run_text remarks.now records.now) }
+{
+    let mut table = Table::new(alloc)?;
+    push_remarks(alloc, &mut table, remarks)?;
+    push_each_fullest(alloc, &mut table, records)?;
     table.into_octets()
 }

@@ -117,6 +117,41 @@ run write,0,c,4371,0,2,en,2,2,0,*,C| -> 5,c,,refused in 1 cell: message referenc
     5,c,,same identifier and serial number as row 4
 ";
 
+/// How full cells get, in hundredths rounded up: a message of P pages takes P of the slots of its period.
+const FULLEST: &str = "
+before cell,1,1|cell,1,2|write,0,fire,4370,0,1,en,2,4,0,*,Stay in!|
+full  -> ,,1-1,fullest: 25 % at slot 0|,,1-2,fullest: 25 % at slot 0
+strict  -> none
+full cell,7,65535| -> ,,7-65535,gets nothing|,,1-1,fullest: 25 % at slot 0|,,1-2,fullest: 25 % at slot 0|\
+    ,,7-65535,fullest: 0 % at slot 0
+
+# A quarter and a third, from slot 8 on; a half and a quarter up to slot 8, and then no more than a quarter.
+full write,8,b,4371,0,2,en,2,3,0,1-2,Go| -> ,,1-1,fullest: 25 % at slot 0|,,1-2,fullest: 59 % at slot 8
+full write,0,b,4371,0,2,en,2,2,4,1-1,Go|write,8,c,4372,0,3,en,2,4,0,1-2,Go| -> \
+    ,,1-1,fullest: 75 % at slot 0|,,1-2,fullest: 50 % at slot 8
+full write,23,b,4371,0,2,en,0,8,0,*,Go|stop,23,fire,1-1| -> ,,1-1,fullest: 38 % at slot 23|\
+    ,,1-2,fullest: 38 % at slot 23
+
+# Two of four slots in UCS-2, of which a page has 41 characters; a full cell; and one that is full after a stop.
+full write,5,b,4371,0,2,pl,2,4,0,1-1,óóóóóóóóóóóóóóóóóóóóóóóóóóóóóóóóóóóóóóóóóó| -> \
+    ,,1-1,fullest: 75 % at slot 5|,,1-2,fullest: 25 % at slot 0
+full write,1,b,4371,0,2,en,2,4,0,*,Go|write,2,c,4372,0,3,en,2,2,0,*,Go| -> ,,1-1,fullest: 100 % at slot 2|\
+    ,,1-2,fullest: 100 % at slot 2
+full stop,9,fire,1-1|write,12,b,4371,0,2,en,2,1,0,1-1,Go| -> ,,1-1,fullest: 100 % at slot 12|\
+    ,,1-2,fullest: 25 % at slot 0
+
+# Background reserves nothing, nor does what a cell refuses.
+full write,0,b,4371,0,2,en,1,1,0,*,Go| -> ,,1-1,fullest: 25 % at slot 0|,,1-2,fullest: 25 % at slot 0
+full write,3,b,4371,0,2,en,2,1,0,1-1,Go| -> 4,b,,refused in 1 cell: BSC capacity exceeded|\
+    ,,1-1,fullest: 25 % at slot 0|,,1-2,fullest: 25 % at slot 0
+
+# An update at slot 9 begins at once beside the quarter that is reserved up to slot 12. Where that has no room, it waits
+# up to slot 12, and until then reserves what it takes more.
+full update,9,fire,en,2,2,0,1-1,Out!| -> ,,1-1,fullest: 75 % at slot 9|,,1-2,fullest: 25 % at slot 0
+full write,0,b,4371,0,2,en,2,2,0,1-1,Go|update,9,fire,en,2,2,0,1-1,Out!| -> \
+    ,,1-1,fullest: 100 % at slot 9|,,1-2,fullest: 25 % at slot 0
+";
+
 /// Books with faults, and none at all.
 const FAULTS: &str = "
 run cell,1| -> Faults(1) row,line,column,field,value,says|1,1,1,VERB,cell,\"2 columns, cell has 3\"
@@ -129,13 +164,14 @@ before cell,1,1|write,0,fire,4370,0,1,en,2,4,0,*,Stay in!|
 strict  -> none
 strict stop,8,fire,*|stop,8,fire,*|stop,30,fire,*| -> Remarks(2) 4,fire,,orders nothing|5,fire,,orders nothing
 
-# Ends that fail, with 10 octets at a time: a table of 19 octets has two pieces.
+# Ends that fail, with 10 octets at a time: a table of 49 octets has five pieces.
 most 10
 reads 0 -> ReadFailed, true, 0
 reads 3 -> ReadFailed, true, 0
 writes 0 -> WriteFailed, true, 0
 writes 1 -> WriteFailed, true, 10
-writes 2 -> none
+writes 4 -> WriteFailed, true, 40
+writes 5 -> none
 writes 2 stop,30,fire,*| -> WriteFailed, true, 20
 writes 3 sell| -> WriteFailed, true, 30
 ";
@@ -151,6 +187,11 @@ fn refusals_are_remarked(rt: HostRuntime) -> Result<(), Fail> {
 }
 
 #[test]
+fn fullest_slots_are_told(rt: HostRuntime) -> Result<(), Fail> {
+    expect_rows(&rt, FULLEST, 13)
+}
+
+#[test]
 fn faults_and_failed_ends_are_told(rt: HostRuntime) -> Result<(), Fail> {
-    expect_rows(&rt, FAULTS, 15)
+    expect_rows(&rt, FAULTS, 16)
 }

@@ -8,9 +8,11 @@
 //!
 //! What comes of a book:
 //!
-//! - `run ROWS`: `none`, or what is remarked, its line ends as bars; or the fault and what was written;
-//! - `strict ROWS`: the same where there are to be no remarks; `line ROWS`: the line of its fault, as the program
-//!   prints it;
+//! - `run ROWS`: `none`, or what is remarked, its line ends as bars, without how full cells get; or the fault and what
+//!   was written;
+//! - `full ROWS`: all lines, those too;
+//! - `strict ROWS`: the same as `run` where there are to be no remarks; `line ROWS`: the line of its fault, as the
+//!   program prints it;
 //! - `reads NUMBER ROWS`: the fault where the reader fails after NUMBER calls; `writes NUMBER ROWS`: where the writer
 //!   does, and how many octets are out.
 
@@ -57,12 +59,36 @@ fn tell_lines(told: &mut String, lines: &str) -> Result<(), Fail> {
     Ok(())
 }
 
+/// Whether a line says how full a cell gets.
+fn is_fullest(line: &str) -> bool {
+    line.starts_with(",,") && line.contains(",fullest: ")
+}
+
+/// Tells the lines of remarks, without those of how full cells get.
+fn tell_remarks(told: &mut String, lines: &str) -> Result<(), Fail> {
+    let mut is_more = false;
+    for line in lines.trim_end_matches('\n').split('\n') {
+        if line.is_empty() || is_fullest(line) {
+            continue;
+        }
+        if is_more {
+            told.push('|')?;
+        }
+        told.push_str(line)?;
+        is_more = true;
+    }
+    if !is_more {
+        told.push_str("none")?;
+    }
+    Ok(())
+}
+
 /// Tells what was written: of remarks what stands below the columns' names.
-fn tell_text(told: &mut String, text: &[u8]) -> Result<(), Fail> {
+fn tell_text(told: &mut String, verb: &str, text: &[u8]) -> Result<(), Fail> {
     let text = std::str::from_utf8(text).map_err(|_| Fail::new("the table isn't UTF-8"))?;
     match text.strip_prefix(NAMES) {
-        Some("") => Ok(told.push_str("none")?),
-        Some(remarks) => tell_lines(told, remarks),
+        Some(lines) if verb == "full" => tell_lines(told, lines),
+        Some(lines) => tell_remarks(told, lines),
         None => tell_lines(told, text),
     }
 }
@@ -70,7 +96,7 @@ fn tell_text(told: &mut String, text: &[u8]) -> Result<(), Fail> {
 /// Tells what comes of a book.
 fn tell(told: &mut String, verb: &str, outcome: &Outcome) -> Result<(), Fail> {
     let Some(fault) = outcome.fault else {
-        return tell_text(told, &outcome.text);
+        return tell_text(told, verb, &outcome.text);
     };
     match verb {
         "reads" => Ok(write!(
@@ -88,7 +114,7 @@ fn tell(told: &mut String, verb: &str, outcome: &Outcome) -> Result<(), Fail> {
         "line" => Ok(write!(told, "{fault}")?),
         _ => {
             write!(told, "{fault:?} ")?;
-            tell_text(told, &outcome.text)
+            tell_text(told, verb, &outcome.text)
         }
     }
 }

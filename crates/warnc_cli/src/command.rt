@@ -858,7 +858,7 @@ fn checked_slots<'a>(alloc: Global) -> Arg<'a> {
         alloc,
         "slots",
         "SLOTS",
-        "Runs a book without a fault for this many slots,\n1 to 65535, and writes what is remarked of the run",
+        "Runs a book without a fault for this many slots,\n1 to 65535, and writes what is remarked of the run\nand how full each cell gets",
     )
     .value_parser(value_parser!(u16).range(1..=65535))
 }

@@ -41,22 +41,26 @@ in stop,30,a,*
 run -> 0
 out -> row,name,cell,says
 out -> 3,a,,past the end
+out -> ,,1-1,fullest: 50 % at slot 0
 args check --slots=24 --strict
 run -> 1
 out -> row,name,cell,says
 out -> 3,a,,past the end
+out -> ,,1-1,fullest: 50 % at slot 0
 err -> warnc: remarks: 1
 args check --strict --slots 31
 run -> 0
 out -> row,name,cell,says
+out -> ,,1-1,fullest: 50 % at slot 0
 reads 0 55 -> 3 warnc: read failed
 args check --slots 24
 worked row,name,cell,says
 worked 3,a,,past the end
+worked ,,1-1,fullest: 50 % at slot 0
 writer 10 3
 run -> 3
 err -> warnc: write failed
-all -> 30 of 37
+all -> 30 of 67
 in cell,1
 in stop,0,b,*
 run -> 1
@@ -110,7 +114,7 @@ fn books_are_checked(rt: HostRuntime) -> Result<(), Fail> {
 
 #[test]
 fn runs_are_remarked(rt: HostRuntime) -> Result<(), Fail> {
-    expect_rows(&rt, REMARKS, 34)
+    expect_rows(&rt, REMARKS, 37)
 }
 
 #[test]
