@@ -314,7 +314,7 @@ says --from <IPV4> -> yes
 
 #[test]
 fn tapes_give_captures(rt: HostRuntime) -> Result<(), Fail> {
-    expect_rows(&rt, PCAP, 80)
+    expect_rows(&rt, PCAP, 121)
 }
 
 #[test]

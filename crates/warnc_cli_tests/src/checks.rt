@@ -114,7 +114,7 @@ fn books_are_checked(rt: HostRuntime) -> Result<(), Fail> {
 
 #[test]
 fn runs_are_remarked(rt: HostRuntime) -> Result<(), Fail> {
-    expect_rows(&rt, REMARKS, 37)
+    expect_rows(&rt, REMARKS, 38)
 }
 
 #[test]

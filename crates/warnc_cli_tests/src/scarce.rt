@@ -282,7 +282,7 @@ fn a_report_without_memory_is_status_4(rt: HostRuntime) -> Result<(), Fail> {
 
 #[test]
 fn a_chart_without_memory_is_status_4(rt: HostRuntime) -> Result<(), Fail> {
-    expect_rows(&rt, CHART, 14)
+    expect_rows(&rt, CHART, 18)
 }
 
 #[test]
