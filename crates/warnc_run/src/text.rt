@@ -145,15 +145,7 @@ fn text_of_records<T: AllocGlobal + Threads + Wait + Sync>(
         }
         Text::ChartPart(group, is_last, view) => {
             let readings = readings_by(rt, records, workers)?;
-            match part_octets(
-                rt.alloc(),
-                slots,
-                group,
-                is_last,
-                view,
-                records,
-                &readings,
-            ) {
+            match part_octets(rt.alloc(), slots, group, is_last, view, records, &readings) {
                 Ok(octets) => Ok(octets),
                 Err(fault) => Err(of_memory(fault)),
             }
