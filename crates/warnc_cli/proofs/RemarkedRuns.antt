@@ -20,8 +20,8 @@ use Rattle.warnc_cli.specs.Status.{status_of_remark_fault}
 use Rattle.warnc_cli.specs.Tasks.{IsRemarkable, IsUnremarked, KeepsUnseen, WritesDifferences, WritesFirstGroups}
 use Rattle.warnc_cli.specs.declared.command.Task.TheVariants as task
 
-some_octets : (lines : List ℕ) → 0 < length (header_line ++ lines)
-some_octets lines = omega arith
+some_octets : (lines cells : List ℕ) → 0 < length ((header_line ++ lines) ++ cells)
+some_octets lines cells = omega arith
 
 -- the table of remarks has the names of its columns
 pub some_remarks : (slots : ℕ) (strict : Bool) (left old new : Option (List ℕ))
@@ -30,13 +30,13 @@ pub some_remarks : (slots : ℕ) (strict : Bool) (left old new : Option (List �
 some_remarks slots false left old new written =
     let remarked = written.of_some.2.1 in (
       written.of_some.1,
-      subst (λ (octets : List ℕ). 0 < length octets) (sym remarked.written) (some_octets _),
+      subst (λ (octets : List ℕ). 0 < length octets) (sym remarked.written) (some_octets _ _),
       written.of_some.3,
     )
 some_remarks slots true left old new written =
     let remarked = written.of_some.2 in (
       written.of_some.1,
-      subst (λ (octets : List ℕ). 0 < length octets) (sym remarked.written) (some_octets _),
+      subst (λ (octets : List ℕ). 0 < length octets) (sym remarked.written) (some_octets _ _),
       written.of_some.3,
     )
 

@@ -2,7 +2,7 @@
 use Rattle.std.specs.Prelude.{◌≡◌, ℕ, ◌+◌, ◌≤◌, ◌||◌, ◌⊎◌, Bool, false, true, if◌then◌else◌, nat_eq, List, ◌∷◌, ◌++◌}
 use Rattle.std.specs.Prelude.{Some}
 use Rattle.std.specs.Prelude.{codes}
-use Rattle.std.specs.Prelude.{slice_get, ◌<◌, [], Option, None, ℤ, pos, int_div, Ok}
+use Rattle.std.specs.Prelude.{slice_get, ◌<◌, ◌*◌, [], Option, None, ℤ, pos, int_div, Ok}
 use Rattle.std.specs.List.{list_any, starts_with}
 use Rattle.std.specs.Str.{bytes_eq}
 use Rattle.std.specs.Str.Parse.{IsNumeral, digits_value, without_leading_plus}
