@@ -96,7 +96,10 @@ def by_reference(file, asked):
 def without_numbers(answers):
     """Returns tapes and who sends, without how many packets there are and where."""
     tapes, table = answers
-    return tapes, table if isinstance(table, str) else sorted(it.rsplit(b",", 3)[0] for it in table.splitlines())
+    if isinstance(table, str):
+        return tapes, table
+    rows = [it.split(b",") for it in table.splitlines()]
+    return tapes, sorted(b",".join(it[:3] + it[6:]) for it in rows)
 
 
 def wrote(words, octets=b""):

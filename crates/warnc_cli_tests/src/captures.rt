@@ -131,7 +131,7 @@ args pcap --slots 2
 usage -> 2 error:
 args pcap --help
 run -> 0
-says --used -> yes
+past --used -> yes
 says --start <TIME> -> yes
 ";
 
