@@ -11,7 +11,9 @@ and the ticks of the axes have to be at round times.
 No two sections may have the same contents, and the overview has to have a strip for each, with the numbers that its
 heading has. In the chart of a network each group has to hold its own cells. Chromium, where it is installed, opens each
 page: it has to find the same bars, and no element that the program didn't write, whatever the texts say; and at three
-widths nothing may be wider than the window.
+widths nothing may be wider than the window. The chart of a part of the run, by `--from` and `--to`, has to have the
+bars, marks and loads of the whole one that are in it. What titles say that identifiers mean has to be what Wireshark
+says, where it is installed.
 """
 import csv
 import fractions
@@ -42,6 +44,15 @@ MOST_MARKS = 400
 # what the identifiers mean in the words of the page for browsers
 WORDS = os.path.join("browser", "words.js")
 ETWS = ("earthquake", "tsunami", "earthquake and tsunami", "test", "other")
+# what Wireshark's names of identifiers have, and our words for it
+WIRESHARK = {
+    "for earthquake warning": "ETWS: earthquake", "for tsunami warning": "ETWS: tsunami",
+    "earthquake and tsunami combined": "ETWS: earthquake and tsunami", "ETWS Identifier for test": "ETWS: test",
+    "other emergency types": "ETWS: other", "Presidential": "EU-Alert level 1: presidential",
+    "Child Abduction": "Child abduction: EU-Amber", "Required Monthly Test": "Test: monthly",
+    "CMAS Exercise": "Exercise", "operator defined use": "Operator's own use",
+    "Public Safety Alerts": "Level 4: public safety, EU-Info", "State/Local WEA Test": "Test: state or local",
+}
 # what is said before the text of a message that no phone shows
 UNSEEN = "not shown:"
 TEXTS = [
@@ -204,6 +215,32 @@ def meanings():
     others = {number + (1 if number in (4396, 4398) else 13): f"{words}, in an additional language"
               for number, words in table.items()}
     return table | others | {4352 + number: f"ETWS: {words}" for number, words in enumerate(ETWS)}
+
+
+def meaning_by_wireshark(text):
+    """Returns what a name that Wireshark gives an identifier comes to in our words."""
+    text, is_additional = re.subn(" for additional languages$", "", text)
+    levels = re.search(r"CMAS (\w+) Alerts with Severity of (\w+), Urgency of (\w+), and Certainty of (\w+)$", text)
+    if levels:
+        # EU-Alert has its second level for CMAS's extreme alerts, and its third for the severe ones
+        level = "Level 2" if levels[1] == "Extreme" else "Level 3"
+        words = f"{level}: {', '.join(levels.groups()[1:]).lower()}"
+    else:
+        words = next((ours for part, ours in WIRESHARK.items() if part in text), None)
+    return words + ", in an additional language" * is_additional if words else None
+
+
+def wrong_meanings():
+    """Yields the identifiers whose meaning isn't that of Wireshark."""
+    if not shutil.which("tshark"):
+        print("chart_check.py: SKIPPED what identifiers mean: tshark isn't installed")
+        return
+    said = subprocess.run(["tshark", "-G", "values"], capture_output=True, check=True).stdout.decode()
+    table = {int(number): meaning_by_wireshark(text)
+             for number, text in re.findall(r"^V\tlte-rrc\.messageIdentifier\t(\d+)\t(.*)$", said, re.M)}
+    for number in range(4352, 4400):
+        if meanings().get(number) != table.get(number):
+            yield f"identifier {number} means {meanings().get(number)}, but by Wireshark {table.get(number)}"
 
 
 def title_of(row, text):
@@ -411,6 +448,53 @@ def differences(program, browser, book, options, slots=SLOTS_BY_HAND):
         yield from wrong_facts(page)
 
 
+def heights_of(line, last):
+    """Returns the height of a line of loads at each slot up to the last one, by slot."""
+    first = int(re.match(r"M(\d+) ", line)[1])
+    steps = [(first, FULL), *((int(a), int(b)) for a, b in re.findall(r"H(\d+)V(\d+)", line))]
+    return {slot: height for (begin, height), (end, _) in itertools.pairwise([*steps, (last, FULL)])
+            for slot in range(begin, end)}
+
+
+def cut(line, first, last):
+    """Returns what a line of the whole chart comes to in a part: its title, and its bar and marks, or its refusal."""
+    if "refusal" in line:
+        return line["title"], line["refusal"]
+    begin, end = line["bar"][0], sum(line["bar"])
+    marks = [int(it) for it in re.findall(r"M(\d+) 0v10", line["whole"])]
+    begin = max(begin, first)
+    return line["title"], (begin, max(0, min(end, last) - begin)), [it for it in marks if first < it <= last]
+
+
+def lines_by_cell(page):
+    return {name: cell["lines"] for cell in page.cells for name in names_of(cell["name"])}
+
+
+def wrong_part(program, book, chance, slots=SLOTS_BY_HAND):
+    """Yields in what the chart of a part of a run differs from that of the whole run."""
+    first = chance.randrange(slots)
+    last = chance.randint(first + 1, slots)
+    words = ["chart", "--slots", str(slots)]
+    whole = lines_by_cell(Page(run(program, words, book.encode()).decode()))
+    part = lines_by_cell(Page(run(program, [*words, "--from", str(first), "--to", str(last)], book.encode()).decode()))
+    spans = {}
+    for row in rows_of(program, ["report", "--full", "--slots", str(slots)], book.encode()):
+        spans.setdefault(f"Cell {row['lac']}-{row['ci']}", []).append((int(row["start"]), int(row["end"])))
+    if list(part) != list(whole):
+        yield f"slots {first} to {last}: the cells {list(part)}, of the whole run {list(whole)}"
+    for name in part:
+        *lines, loads, _ = whole[name]
+        *drawn, drawn_loads, _ = part[name]
+        wanted = [cut(line, first, last) for line, (start, end) in zip(lines, spans.get(name, []), strict=True)
+                  if (first <= start <= last if start == end else min(start, end) < last and first < max(start, end))]
+        found_lines = [cut(line, -1, slots + 1) for line in drawn]
+        if found_lines != wanted:
+            yield f"slots {first} to {last}: {name} has {found_lines}, of the whole run {wanted}"
+        heights = heights_of(loads["load"], slots)
+        if heights_of(drawn_loads["load"], last) != {slot: heights[slot] for slot in range(first, last)}:
+            yield f"slots {first} to {last}: {name} has the loads {drawn_loads['load']}, the whole run {loads['load']}"
+
+
 def book_by_hand():
     """Returns the book of which docs/ has a picture."""
     with open(os.path.join(TOP, "examples", "picture.csv"), encoding="utf-8") as it:
@@ -446,6 +530,8 @@ def main(words):
     wrong = [it for number, (book, options) in enumerate(books)
              for it in differences(program, browser if number < BROWSED else None, book, options,
                                    SLOTS_LONG if number % 4 == 3 else SLOTS_BY_HAND)]
+    wrong += wrong_meanings()
+    wrong += [it for book, options in books if not options for it in wrong_part(program, book, chance)]
     print("\n".join(wrong) or f"{len(books)} charts are as their reports{', in the browser too' if browser else ''}")
     return 1 if wrong else 0
 
