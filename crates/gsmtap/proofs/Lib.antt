@@ -7,3 +7,7 @@ pub mod ThereAndBack
 pub mod Senders
 pub mod Hearing
 pub mod Once
+pub mod Times
+pub mod OptionWalk
+pub mod TapesLaws
+pub mod TapesFaults

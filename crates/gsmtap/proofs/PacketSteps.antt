@@ -6,7 +6,7 @@ use Rattle.std.proofs.lemmas.Grind.{flat_map-append}
 use Rattle.std.proofs.lemmas.List.{length-append, length-replicate, length_push}
 use Rattle.gsmtap.specs.File.{Packet}
 use Rattle.gsmtap.specs.HeardSteps.{IsHearingFault, for_counting, hearing_of}
-use Rattle.gsmtap.specs.PieceSteps.{BeginsWithPiece, IsFrontFault, meant}
+use Rattle.gsmtap.specs.PieceSteps.{BeginsWithPiece, IsFrontFault, meant, packet_of}
 use Rattle.gsmtap.specs.Pieces.{BringAll, Brings, IsCutPiece, IsWrongPiece, least, meaning, packets_in}
 use Rattle.gsmtap.specs.Section.{Meaning, Section}
 use Rattle.gsmtap.specs.Taken.{AreKnown, AreTaken, EndsWith, HasWrongPacket, IsFileFault, IsFileWith, Opens, Taking}
@@ -32,7 +32,7 @@ count_few found.Nothing = omega arith
 count_few found.Wrong = omega arith
 
 least_is : (format : Format) → 12 ≤ least format
-least_is (Classic link) = omega arith
+least_is (Classic link unit) = omega arith
 least_is Pcapng = omega arith
 
 -- what is left is shorter by a block's frame at least
@@ -144,7 +144,7 @@ pub one_more : {S : Type 0} (by : Taking S) (here : Section) (octets : List ℕ)
     AreTaken by here octets new rest (number + count_of what) next
 one_more by here octets there left number known piece rest new (found.Packet packet) next sofar begins is comes =
     packet_more by here octets there left number known piece rest new
-    (record { link = packet.link; octets = packet.octets.now }) next sofar begins (sym is) comes
+    (packet_of packet) next sofar begins (sym is) comes
 one_more by here octets there left number known piece rest new found.Nothing next sofar begins is comes =
     let same : known ≡ next = cc in
     let many : number ≡ number + 0 = omega arith in
@@ -214,7 +214,7 @@ wrong_found by here octets there left number known piece rest new (found.Packet 
     of_kind =
     packet_kind by here octets (number + 1) why
     (wrong_packet by here octets there left number known piece rest new
-    (record { link = packet.link; octets = packet.octets.now }) why sofar begins (sym is) comes) of_kind
+    (packet_of packet) why sofar begins (sym is) comes) of_kind
 wrong_found by here octets there left number known piece rest new found.Nothing why sofar begins is comes of_kind =
     absurd of_kind
 wrong_found by here octets there left number known piece rest new found.Wrong why sofar begins is comes of_kind =

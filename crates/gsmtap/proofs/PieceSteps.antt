@@ -61,7 +61,7 @@ by-front (Some order) n octets fits = rw (number-front order 4 n octets (omega a
 
 length-front : (format : Format) (order : OctetOrder) (n : ℕ) (octets : List ℕ) → least format ≤ n →
     n ≤ length octets → length_in format order (take n octets) ≡ length_in format order octets
-length-front (Classic link) order n octets fits inside =
+length-front (Classic link unit) order n octets fits inside =
     ap (λ said. Some (16 + said)) (number-front order 8 n octets (omega arith))
 length-front Pcapng order n octets fits inside =
     by-front (order_in order (take n octets)) n octets fits
@@ -82,7 +82,7 @@ by-least (Some order) octets size is =
 
 size-least : (format : Format) (order : OctetOrder) (octets : List ℕ) (size : ℕ) →
     length_in format order octets ≡ Some size → least format ≤ size
-size-least (Classic link) order octets size is =
+size-least (Classic link unit) order octets size is =
     let sum : 16 + number_in order (drop 8 octets) ≡ size = cc in omega arith
 size-least Pcapng order octets size is = by-least (order_in order octets) octets size is
 

@@ -10,7 +10,7 @@ use Rattle.gsmtap.specs.Taken.{Opens, after_packets, taken}
 use Rattle.gsmtap.specs.TapeOfCapture.{after_packet, after_sent, blocks_in, for_tape, nothing_known, slots_taken}
 use Rattle.gsmtap.specs.declared.track.Track.{Track}
 use Rattle.byteorder.specs.Numbers.{big_number-reads_back}
-use Rattle.gsmtap.specs.File.{Packet, link_number, link_numbered, octet_order_of}
+use Rattle.gsmtap.specs.File.{Packet, link_number, link_numbered, octet_order_of, packet_time, unit_of}
 use Rattle.gsmtap.specs.Pieces.{BringAll, Brings, packets_in as brought_in}
 use Rattle.gsmtap.specs.Section.{Section}
 use Rattle.std.proofs.lemmas.Grind.{flat_map-append}
@@ -30,6 +30,7 @@ use Rattle.gsmtap.specs.Track.{Known, ahead, followed, nearest, place_in, put, p
 use Rattle.gsmtap.specs.Tap.{anyone, block_of, datagram_of, internet_of, payload_of, sent_in}
 use Rattle.gsmtap.specs.declared.file.Link.TheVariants.{Internet}
 use Rattle.gsmtap.specs.declared.file.OctetOrder.TheVariants.{LowFirst}
+use Rattle.gsmtap.specs.declared.file.Unit.TheVariants.{Microsecond}
 use Rattle.gsmtap.specs.declared.pieces.Format.TheVariants.{Classic}
 use Rattle.gsmtap.specs.declared.packet.Channel.{Channel}
 use Rattle.gsmtap.specs.declared.packet.Channel.TheVariants.{BesideSdcch4, BesideSdcch8}
@@ -43,6 +44,10 @@ header_order = refl
 header_link : link_number LowFirst file_header ≡ 228
 unfolding file_header
 header_link = refl
+
+header_unit : unit_of LowFirst file_header ≡ Microsecond
+unfolding file_header
+header_unit = refl
 
 header_long : length file_header ≡ 24
 unfolding file_header
@@ -90,16 +95,20 @@ sent_there channel place block long =
     (block_there channel place block long))
 
 -- a packet of the capture
-abbrev pub packet_at : Channel → Place → List ℕ → Packet
-packet_at channel place block = record { link = 228; octets = inside_of channel place block }
+abbrev pub packet_at : Start → Channel → Place → List ℕ → Packet
+packet_at start channel place block = record {
+  link = 228;
+  time = Some (packet_time LowFirst Microsecond (packet start channel place block));
+  octets = inside_of channel place block;
+}
 
 -- the section that the capture is
 abbrev pub whole_file : Section
-whole_file = record { format = Classic 228; order = LowFirst; interfaces = [] }
+whole_file = record { format = Classic 228 Microsecond; order = LowFirst; interfaces = [] }
 
 packet_brings : (start : Start) (channel : Channel) (place : Place) (block : List ℕ) → length block ≡ 23 →
     Brings whole_file (packet start channel place block)
-    (record { section = whole_file; packet = Some (packet_at channel place block) })
+    (record { section = whole_file; packet = Some (packet_at start channel place block) })
 unfolding packet record_header internet_header datagram_header tap_header
 packet_brings start channel place block long = record {
   is = record {
@@ -183,30 +192,31 @@ with_next channel cell slot block octets track done left few few_is many leads =
     rw (place_there channel place few) (rw few_is (rw (slot_there channel place few) (rw leads
     (rw (put_next done left (4 * slot + place_in (frame_number channel place)) octets there) refl))))
 
-next_packet : (channel : Channel) (cell : Cell) (slot block : ℕ) (octets : List ℕ) (track : Option Track)
+next_packet : (start : Start) (channel : Channel) (cell : Cell) (slot block : ℕ) (octets : List ℕ)
+    (track : Option Track)
     (done : List (List ℕ)) (left : ℕ) → length octets ≡ 23 →
     block < 4 → nat_lt block 4 ≡ true → length done ≡ 4 * slot + block →
     followed track (slot % 6656) ≡ Some (record { first = 0; slot = slot }) →
     after_packet anyone (record { track = track; blocks = sofar done (suc left) })
-    (packet_at channel (at cell slot block) octets)
+    (packet_at start channel (at cell slot block) octets)
     ≡ Ok (record { track = Some (record { first = 0; slot = slot }); blocks = sofar (done ++ octets ∷ []) left })
 unfolding after_packet
-next_packet channel cell slot block octets track done left long few few_is many leads =
+next_packet start channel cell slot block octets track done left long few few_is many leads =
     ap (after_sent (record { track = track; blocks = sofar done (suc left) }))
     (sent_there channel (at cell slot block) octets long)
     ∙ with_next channel cell slot block octets track done left few few_is many leads
 
 -- the packets of blocks of a slot, from this one on
-abbrev pub packets_in : Channel → Cell → (slot block : ℕ) → List (List ℕ) → List Packet
-packets_in channel cell slot block [] = []
-packets_in channel cell slot block (octets ∷ rest) =
-    packet_at channel (at cell slot block) octets ∷ packets_in channel cell slot (block + 1) rest
+abbrev pub packets_in : Start → Channel → Cell → (slot block : ℕ) → List (List ℕ) → List Packet
+packets_in start channel cell slot block [] = []
+packets_in start channel cell slot block (octets ∷ rest) =
+    packet_at start channel (at cell slot block) octets ∷ packets_in start channel cell slot (block + 1) rest
 
 -- the packets of slots
-abbrev pub packets_on : Channel → Cell → (slot : ℕ) → List (List ℕ) → List Packet
-packets_on channel cell slot [] = []
-packets_on channel cell slot (octets ∷ rest) =
-    packets_in channel cell slot 0 (blocks_in_slot octets) ++ packets_on channel cell (slot + 1) rest
+abbrev pub packets_on : Start → Channel → Cell → (slot : ℕ) → List (List ℕ) → List Packet
+packets_on start channel cell slot [] = []
+packets_on start channel cell slot (octets ∷ rest) =
+    packets_in start channel cell slot 0 (blocks_in_slot octets) ++ packets_on start channel cell (slot + 1) rest
 
 -- their octets in the file, with their headers
 abbrev pub pieces_in : Start → Channel → Cell → (slot block : ℕ) → List (List ℕ) → List (List ℕ)
@@ -262,11 +272,11 @@ bring-append here (piece ∷ front) between first back there second these those 
 in_brings : (start : Start) (channel : Channel) (cell : Cell) (slot block : ℕ) (blocks : List (List ℕ)) →
     AllByRecursion (λ block. length block ≡ 23) blocks →
     BringAll whole_file (pieces_in start channel cell slot block blocks) whole_file
-    (packets_in channel cell slot block blocks)
+    (packets_in start channel cell slot block blocks)
 in_brings start channel cell slot block [] each = (refl, refl)
 in_brings start channel cell slot block (octets ∷ rest) each = (
-  record { section = whole_file; packet = Some (packet_at channel (at cell slot block) octets) },
-  packets_in channel cell slot (block + 1) rest,
+  record { section = whole_file; packet = Some (packet_at start channel (at cell slot block) octets) },
+  packets_in start channel cell slot (block + 1) rest,
   packet_brings start channel (at cell slot block) octets each.0,
   refl,
   in_brings start channel cell slot (block + 1) rest each.1,
@@ -274,12 +284,13 @@ in_brings start channel cell slot block (octets ∷ rest) each = (
 
 on_brings : (start : Start) (channel : Channel) (cell : Cell) (slot : ℕ) (slots : List (List ℕ)) →
     AllByRecursion (λ slot. length slot ≡ 92) slots →
-    BringAll whole_file (pieces_on start channel cell slot slots) whole_file (packets_on channel cell slot slots)
+    BringAll whole_file (pieces_on start channel cell slot slots) whole_file (packets_on start channel cell slot slots)
 on_brings start channel cell slot [] each = (refl, refl)
 on_brings start channel cell slot (octets ∷ rest) each =
     bring-append whole_file (pieces_in start channel cell slot 0 (blocks_in_slot octets)) whole_file
-    (packets_in channel cell slot 0 (blocks_in_slot octets)) (pieces_on start channel cell (slot + 1) rest) whole_file
-    (packets_on channel cell (slot + 1) rest)
+    (packets_in start channel cell slot 0 (blocks_in_slot octets)) (pieces_on start channel cell (slot + 1) rest)
+    whole_file
+    (packets_on start channel cell (slot + 1) rest)
     (in_brings start channel cell slot 0 (blocks_in_slot octets) (chunks_each 23 4 octets each.0))
     (on_brings start channel cell (slot + 1) rest each.1)
 
@@ -304,16 +315,17 @@ after_append step number (Err why) (first ∷ front) back known is = cc
 abbrev pub known_at : (slot : ℕ) → (done : List (List ℕ)) (left : ℕ) → Known
 known_at slot done left = record { track = Some (record { first = 0; slot = slot }); blocks = sofar done left }
 
-slot_taken : (channel : Channel) (cell : Cell) (slot number : ℕ) (octets : List ℕ) (track : Option Track)
+slot_taken : (start : Start) (channel : Channel) (cell : Cell) (slot number : ℕ) (octets : List ℕ)
+    (track : Option Track)
     (done : List (List ℕ)) (left : ℕ) → length octets ≡ 92 → length done ≡ 4 * slot →
     followed track (slot % 6656) ≡ Some (record { first = 0; slot = slot }) →
     after_packets (after_packet anyone) number (Ok (record {
       track = track;
       blocks = sofar done (suc (suc (suc (suc left))));
     }))
-    (packets_in channel cell slot 0 (blocks_in_slot octets))
+    (packets_in start channel cell slot 0 (blocks_in_slot octets))
     ≡ Ok (known_at slot (done ++ blocks_in_slot octets) left)
-slot_taken channel cell slot number octets track done left long many leads =
+slot_taken start channel cell slot number octets track done left long many leads =
     let each : AllByRecursion (λ block. length block ≡ 23) (blocks_in_slot octets) = chunks_each 23 4 octets long in
     let a : List ℕ = take 23 octets in
     let b : List ℕ = take 23 (drop 23 octets) in
@@ -329,30 +341,32 @@ slot_taken channel cell slot number octets track done left long many leads =
     let whole : ((((done ++ a ∷ []) ++ b ∷ []) ++ c ∷ []) ++ d ∷ []) ≡ done ++ blocks_in_slot octets =
     simp append_assoc in
     ap (λ state. after_packets (after_packet anyone) (number + 1) state
-    (packets_in channel cell slot 1 (b ∷ c ∷ d ∷ [])))
-    (next_packet channel cell slot 0 a track done (suc (suc (suc left))) each.0 (lit< tt) refl
+    (packets_in start channel cell slot 1 (b ∷ c ∷ d ∷ [])))
+    (next_packet start channel cell slot 0 a track done (suc (suc (suc left))) each.0 (lit< tt) refl
     (omega (arith, many)) leads)
     ∙ ap (λ state. after_packets (after_packet anyone) (number + 1 + 1) state
-    (packets_in channel cell slot 2 (c ∷ d ∷ [])))
-    (next_packet channel cell slot 1 b track' one (suc (suc left)) each.1.0 (lit< tt) refl many1 (leads_same slot))
+    (packets_in start channel cell slot 2 (c ∷ d ∷ [])))
+    (next_packet start channel cell slot 1 b track' one (suc (suc left)) each.1.0 (lit< tt) refl many1
+    (leads_same slot))
     ∙ ap (λ state. after_packets (after_packet anyone) (number + 1 + 1 + 1) state
-    (packets_in channel cell slot 3 (d ∷ [])))
-    (next_packet channel cell slot 2 c track' two (suc left) each.1.1.0 (lit< tt) refl many2 (leads_same slot))
+    (packets_in start channel cell slot 3 (d ∷ [])))
+    (next_packet start channel cell slot 2 c track' two (suc left) each.1.1.0 (lit< tt) refl many2 (leads_same slot))
     ∙ ap (λ state. after_packets (after_packet anyone) (number + 1 + 1 + 1 + 1) state [])
-    (next_packet channel cell slot 3 d track' three left each.1.1.1.0 (lit< tt) refl many3 (leads_same slot))
+    (next_packet start channel cell slot 3 d track' three left each.1.1.1.0 (lit< tt) refl many3 (leads_same slot))
     ∙ ap (λ blocks. Ok (known_at slot blocks left)) whole
 
 -- all slots
-all_taken : (channel : Channel) (cell : Cell) (slot number : ℕ) (slots : List (List ℕ)) (track : Option Track)
+all_taken : (start : Start) (channel : Channel) (cell : Cell) (slot number : ℕ) (slots : List (List ℕ))
+    (track : Option Track)
     (done : List (List ℕ)) → AllByRecursion (λ slot. length slot ≡ 92) slots → length done ≡ 4 * slot →
     followed track (slot % 6656) ≡ Some (record { first = 0; slot = slot }) →
     (known : Known)
     × (after_packets (after_packet anyone) number (Ok (record
     { track = track; blocks = sofar done (4 * length slots) }))
-    (packets_on channel cell slot slots) ≡ Ok known)
+    (packets_on start channel cell slot slots) ≡ Ok known)
     × (known.blocks ≡ map Some (done ++ blocks_of_slots slots))
     × (is_some track ≡ true ⊎ 0 < length slots → is_some known.track ≡ true)
-all_taken channel cell slot number [] track done each many leads = (
+all_taken start channel cell slot number [] track done each many leads = (
   record { track = track; blocks = sofar done (4 * length {A = List ℕ} []) },
   refl,
   append-nil (map Some done) ∙ ap (map Some) (sym (append-nil done)),
@@ -361,15 +375,15 @@ all_taken channel cell slot number [] track done each many leads = (
     | inr more ↦ absurd (omega (arith, more))
   ],
 )
-all_taken channel cell slot number (octets ∷ rest) track done each many leads =
+all_taken start channel cell slot number (octets ∷ rest) track done each many leads =
     let blocks : List (List ℕ) = blocks_in_slot octets in
     let left : ℕ = 4 * length rest in
     let four : 4 * length (octets ∷ rest) ≡ suc (suc (suc (suc left))) = omega arith in
-    let front : List Packet = packets_in channel cell slot 0 blocks in
-    let back : List Packet = packets_on channel cell (slot + 1) rest in
+    let front : List Packet = packets_in start channel cell slot 0 blocks in
+    let back : List Packet = packets_on start channel cell (slot + 1) rest in
     let after : length (done ++ blocks) ≡ 4 * (slot + 1) =
     omega (arith, length-append done blocks, chunks_long 23 4 octets, many) in
-    let others = all_taken channel cell (slot + 1) (number + length front) rest
+    let others = all_taken start channel cell (slot + 1) (number + length front) rest
     (Some (record { first = 0; slot = slot })) (done ++ blocks) each.1 after (leads_next slot) in (
       others.0,
       ap (λ n. after_packets (after_packet anyone) number (Ok (record { track = track; blocks = sofar done n }))
@@ -378,7 +392,7 @@ all_taken channel cell slot number (octets ∷ rest) track done each many leads 
           ∙ after_append (after_packet anyone) number
           (Ok (record { track = track; blocks = sofar done (suc (suc (suc (suc left)))) })) front back
           (known_at slot (done ++ blocks) left)
-          (slot_taken channel cell slot number octets track done left each.0 many leads)
+          (slot_taken start channel cell slot number octets track done left each.0 many leads)
           ∙ others.1,
       others.2 ∙ ap (map Some) (append_assoc done blocks (blocks_of_slots rest)),
       λ some. others.3 (inl refl),
@@ -388,17 +402,18 @@ all_known : (blocks : List (List ℕ)) → blocks_in (map Some blocks) ≡ block
 all_known [] = refl
 all_known (block ∷ blocks) = ap (λ rest. block ∷ rest) (all_known blocks)
 
-packets_taken : (wanted : Wanted) (channel : Channel) (cell : Cell) (slots : List (List ℕ)) →
+packets_taken : (wanted : Wanted) (start : Start) (channel : Channel) (cell : Cell) (slots : List (List ℕ)) →
     wanted.from ≡ anyone → slots_taken wanted ≡ length slots → AllByRecursion (λ slot. length slot ≡ 92) slots →
-    (known : Known) × (taken (for_tape wanted) (packets_on channel cell 0 slots) ≡ Ok known)
+    (known : Known) × (taken (for_tape wanted) (packets_on start channel cell 0 slots) ≡ Ok known)
     × (known.blocks ≡ map Some (blocks_of_slots slots)) × (0 < length slots → is_some known.track ≡ true)
 unfolding taken
-packets_taken wanted channel cell slots anywhere many each =
-    let all = all_taken channel cell 0 0 slots None [] each refl leads_first in (
+packets_taken wanted start channel cell slots anywhere many each =
+    let all = all_taken start channel cell 0 0 slots None [] each refl leads_first in (
       all.0,
       ap (λ from. after_packets (after_packet from) 0 (Ok (nothing_known (slots_taken wanted)))
-          (packets_on channel cell 0 slots)) anywhere
-          ∙ ap (λ n. after_packets (after_packet anyone) 0 (Ok (nothing_known n)) (packets_on channel cell 0 slots))
+          (packets_on start channel cell 0 slots)) anywhere
+          ∙ ap (λ n. after_packets (after_packet anyone) 0 (Ok (nothing_known n))
+          (packets_on start channel cell 0 slots))
           many
           ∙ all.1,
       all.2,
@@ -415,7 +430,15 @@ opens_whole input after split = inl (record {
   order_is = header_order;
   link = Internet;
   link_is = ap link_numbered header_link;
-  section_is = ap (λ link. record { format = Classic link; order = LowFirst; interfaces = [] }) (sym header_link);
+  section_is =
+      ap (λ link. record { format = Classic link Microsecond; order = LowFirst; interfaces = [] }) (sym header_link)
+      ∙ ap (λ unit. record {
+        format = Classic (link_number LowFirst file_header) unit;
+        order = LowFirst;
+        interfaces =
+            [];
+      })
+      (sym header_unit);
 })
 
 -- the capture of a tape without a slot has no packet
@@ -450,8 +473,8 @@ there_and_back cell channel start slots some few each =
     let settings : Settings = record { channel = channel; slots = All; start = start } in
     let said : Cell = cell_in (tape_octets cell (length slots) []) in
     let pieces : List (List ℕ) = pieces_on start channel said 0 slots in
-    let packets : List Packet = packets_on channel said 0 slots in
-    let taken_all = packets_taken wanted channel said slots refl (omega arith) each in
+    let packets : List Packet = packets_on start channel said 0 slots in
+    let taken_all = packets_taken wanted start channel said slots refl (omega arith) each in
     let blocks : octets_of_blocks (blocks_in taken_all.0.blocks) ≡ flat_map (λ slot. slot) slots =
     ap (λ known. octets_of_blocks (blocks_in known)) taken_all.2
     ∙ ap octets_of_blocks (all_known (blocks_of_slots slots)) ∙ blocks_joined slots each in

@@ -1,12 +1,14 @@
 -- Capture files as others write them: their numbers, link types and packets, and how a file begins. In the classic
 -- format of libpcap that is a header of 24 octets.
-use Rattle.std.specs.Prelude.{ℕ, ◌==◌, ◌&&◌, ◌||◌, nat_le, Bool, List, length, drop, Option, Some, None}
-use Rattle.std.specs.Prelude.{if◌then◌else◌}
+use Rattle.std.specs.Prelude.{ℕ, ◌+◌, ◌*◌, ◌==◌, ◌&&◌, ◌||◌, nat_le, nat_lt, Bool, List, length, drop, Option, Some}
+use Rattle.std.specs.Prelude.{None, if◌then◌else◌}
 use Rattle.byteorder.specs.Endian.{big_number, little_number}
 use Rattle.gsmtap.specs.declared.file.OctetOrder.{OctetOrder}
 use Rattle.gsmtap.specs.declared.file.OctetOrder.TheVariants.{HighFirst, LowFirst}
 use Rattle.gsmtap.specs.declared.file.Link.{Link}
 use Rattle.gsmtap.specs.declared.file.Link.TheVariants.{Cooked, CookedTwo, Ethernet, Internet, Loopback}
+use Rattle.gsmtap.specs.declared.file.Unit.{Unit}
+use Rattle.gsmtap.specs.declared.file.Unit.TheVariants.{Microsecond, Nanosecond}
 
 -- the number in the first four octets
 abbrev pub number_in : OctetOrder → List ℕ → ℕ
@@ -50,7 +52,25 @@ link_number order header = number_in order (drop 20 header)
 abbrev pub link_of : OctetOrder → List ℕ → Option Link
 link_of order header = link_numbered (link_number order header)
 
--- a packet of a capture: the number of its link type, and its octets
+-- the unit of a file's fractions of a second, by its magic number
+abbrev pub unit_of : OctetOrder → List ℕ → Unit
+unit_of order header = if number_in order header == 0xA1B23C4D then Nanosecond else Microsecond
+
+abbrev pub nanoseconds_in : Unit → ℕ
+nanoseconds_in Microsecond = 1000
+nanoseconds_in Nanosecond = 1
+
+-- a time is told in nanoseconds from 1970-01-01T00:00:00Z on, if 64 bits have these
+abbrev pub told : (nanoseconds : ℕ) → Option ℕ
+told nanoseconds = if nat_lt nanoseconds 18446744073709551616 then Some nanoseconds else None
+
+-- when a packet came, by its header: seconds, and a fraction in units, in four octets each
+abbrev pub packet_time : OctetOrder → Unit → List ℕ → ℕ
+packet_time order unit header =
+    number_in order header * 1000000000 + number_in order (drop 4 header) * nanoseconds_in unit
+
+-- a packet of a capture: the number of its link type, when it came, if that is known, and its octets
 pub record Packet : Type 0 where
   pub link : ℕ
+  pub time : Option ℕ
   pub octets : List ℕ

@@ -11,6 +11,7 @@ use Rattle.gsmtap.specs.declared.fault.AirFaultKind.TheVariants as kind
 use Rattle.gsmtap.specs.declared.file.Link.{Link}
 use Rattle.gsmtap.specs.declared.heard.Heard.{Heard}
 use Rattle.gsmtap.specs.declared.pieces.Found.{Found}
+use Rattle.gsmtap.specs.declared.pieces.Found.TheVariants as found
 use Rattle.gsmtap.specs.declared.tap.Station.{Station}
 
 -- a sender of whom the packet of this number is the first; and with one packet more, if there was one before. (No file
@@ -57,6 +58,12 @@ count hearing packet = counted_by hearing packet (link_numbered packet.link)
 
 abbrev pub for_counting : Taking Hearing
 for_counting = record { start = record { packets = 0; heard = [] }; step = count }
+
+-- the times with that of a packet, if one was found
+abbrev pub times_with : List (Option ℕ) → Found → List (Option ℕ)
+times_with times (found.Packet packet) = times ++ packet.time ∷ []
+times_with times found.Nothing = times
+times_with times found.Wrong = times
 
 -- why the packet that was found next isn't taken: it is at fault, or memory was refused
 abbrev pub IsHearingFault : (packets : ℕ) → List Heard → Found → AirFault → Type 0

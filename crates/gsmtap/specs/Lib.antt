@@ -11,8 +11,11 @@ pub mod Track
 pub mod Taken
 pub mod TapeOfCapture
 pub mod TapeSteps
+pub mod TapesOfCapture
+pub mod TapesSteps
 pub mod Heard
 pub mod HeardSteps
 pub mod Laws
+pub mod Times
 pub mod Carried
 pub mod CarriedSteps

@@ -1,7 +1,7 @@
 -- The pieces of a capture file, in either format, and the packets that they bring.
 use Rattle.std.specs.Prelude.{◌≡◌, ℕ, ◌+◌, ◌<◌, ◌≤◌, ◌⊎◌, List, [], ◌∷◌, ◌++◌, length, drop, Option, Some, None}
 use Rattle.gsmtap.specs.Blocks.{block_length, block_meaning, brings}
-use Rattle.gsmtap.specs.File.{Packet, number_in}
+use Rattle.gsmtap.specs.File.{Packet, number_in, packet_time}
 use Rattle.gsmtap.specs.Section.{Meaning, Section}
 use Rattle.gsmtap.specs.declared.file.OctetOrder.{OctetOrder}
 use Rattle.gsmtap.specs.declared.pieces.Format.{Format}
@@ -10,13 +10,13 @@ use Rattle.gsmtap.specs.declared.pieces.Format.TheVariants.{Classic, Pcapng}
 -- how many octets say how long a piece is: those of a packet's header, or of a block's type, its length and a section's
 -- magic number
 abbrev pub least : Format → ℕ
-least (Classic link) = 16
+least (Classic link unit) = 16
 least Pcapng = 12
 
 -- how many octets the piece has that octets begin with; none if they contradict themselves. A packet's header says how
 -- many octets follow it
 abbrev pub length_in : Format → OctetOrder → List ℕ → Option ℕ
-length_in (Classic link) order octets = Some (16 + number_in order (drop 8 octets))
+length_in (Classic link unit) order octets = Some (16 + number_in order (drop 8 octets))
 length_in Pcapng order octets = block_length order octets
 
 abbrev pub piece_length : Section → List ℕ → Option ℕ
@@ -24,7 +24,8 @@ piece_length section octets = length_in section.format section.order octets
 
 -- what a piece brings; nothing if it contradicts itself
 abbrev pub meaning_of : Format → Section → List ℕ → Option Meaning
-meaning_of (Classic link) section octets = brings section link (drop 16 octets)
+meaning_of (Classic link unit) section octets =
+    brings section link (Some (packet_time section.order unit octets)) (drop 16 octets)
 meaning_of Pcapng section octets = block_meaning section octets
 
 abbrev pub meaning : Section → List ℕ → Option Meaning

@@ -3,7 +3,7 @@
 use Rattle.std.specs.Prelude.{◌≡◌, ℕ, ◌+◌, ◌<◌, ◌≤◌, ◌⊎◌, false, true, List, [], ◌∷◌, ◌++◌, length, take, Some, None}
 use Rattle.std.specs.Prelude.{Result, Ok, Err}
 use Rattle.std.specs.List.{flat_map}
-use Rattle.gsmtap.specs.File.{Packet, is_pcapng, link_number, link_numbered, octet_order_of}
+use Rattle.gsmtap.specs.File.{Packet, is_pcapng, link_number, link_numbered, octet_order_of, unit_of}
 use Rattle.gsmtap.specs.Pieces.{BringAll, IsCutPiece, IsWrongPiece}
 use Rattle.gsmtap.specs.Section.{Section}
 use Rattle.gsmtap.specs.declared.fault.AirFault.{AirFault}
@@ -83,7 +83,7 @@ pub record OpensClassic (input : List ℕ) (section : Section) (rest : List ℕ)
   pub link : Link
   pub link_is : link_numbered (link_number order header) ≡ Some link
   pub section_is : section
-      ≡ record { format = Classic (link_number order header); order = order; interfaces = [] }
+      ≡ record { format = Classic (link_number order header) (unit_of order header); order = order; interfaces = [] }
 
 -- before the first block, which says the order
 abbrev pub no_section : Section

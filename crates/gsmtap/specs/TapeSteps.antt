@@ -1,6 +1,7 @@
 -- Steps over the packets of a file. Contracts of private functions alone speak of it.
 use Rattle.std.specs.Prelude.{◌≡◌, ℕ, List, Option, Some, None, Result, Ok, Err}
 use Rattle.gsmtap.specs.File.{Packet}
+use Rattle.gsmtap.specs.PieceSteps.{packet_of}
 use Rattle.gsmtap.specs.Pieces.{IsCutPiece, IsWrongPiece}
 use Rattle.gsmtap.specs.Section.{Section}
 use Rattle.gsmtap.specs.Taken.{EndsWith, HasWrongPacket, IsNoCapture, IsOtherLink, Taking}
@@ -31,8 +32,7 @@ count_of found.Wrong = 0
 -- what is known after what was found in a piece
 abbrev pub after_found : {S : Type 0} → (step : S → Packet → Result S AirFaultKind) → S → Found →
     Result S AirFaultKind
-after_found step known (found.Packet packet) =
-    step known (record { link = packet.link; octets = packet.octets.now })
+after_found step known (found.Packet packet) = step known (packet_of packet)
 after_found step known found.Nothing = Ok known
 after_found step known found.Wrong = Err kind.WrongBlock
 

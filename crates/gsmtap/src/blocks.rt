@@ -3,11 +3,12 @@
 ghost use Rattle.std.specs.Prelude.{◌≡◌, ◌≤◌, length, IfOk};
 ghost use Rattle.gsmtap.specs.Blocks.{block_length, block_meaning, brings, interface_meaning, interface_number};
 ghost use Rattle.gsmtap.specs.Blocks.{kept_of, magic_order, meaning_by_type, order_in, packet_meaning, section_meaning};
-ghost use Rattle.gsmtap.specs.Blocks.{simple_meaning};
+ghost use Rattle.gsmtap.specs.Blocks.{simple_meaning, ticks_in, time_by};
 ghost use Rattle.gsmtap.specs.PieceSteps.{meant, section_of};
 ghost use Rattle.gsmtap.specs.Section.{Section};
 
 use crate::file::{OctetOrder, half_in, is_pcapng, number_in};
+use crate::options::tick_in;
 use crate::pieces::{Captured, Found, Interface, Reader};
 use byteorder::{BigEndian, ByteOrder, LittleEndian};
 use std::alloc::AllocError;
@@ -135,6 +136,7 @@ impl Reader {
         self.interfaces.push(Interface {
             link: half_in(self.order, body),
             snap_length: number_in(self.order, &body[4..]),
+            tick: tick_in(self.order, &body[8..]),
         })?;
         Ok(Found::Nothing)
     }
@@ -153,7 +155,11 @@ impl Reader {
             return Found::Wrong;
         }
         match self.interfaces.get(number) {
-            Some(interface) => found(interface.link, &body[20..20 + length]),
+            Some(interface) => found(
+                interface.link,
+                time_by(interface.tick, ticks_in(self.order, body)),
+                &body[20..20 + length],
+            ),
             None => Found::Wrong,
         }
     }
@@ -173,7 +179,7 @@ impl Reader {
         if length > body.len() - 4 {
             return Found::Wrong;
         }
-        found(interface.link, &body[4..4 + length])
+        found(interface.link, None, &body[4..4 + length])
     }
 }
 
@@ -189,12 +195,29 @@ fn interface_number(order: OctetOrder, kind: u32, body: &[u8]) -> usize
     }
 }
 
+/// The ticks that a packet's block has.
+fn ticks_in(order: OctetOrder, body: &[u8]) -> u64
+    requires { 12 ≤ length body.now }
+    ensures { result ≡ ticks_in order body.now }
+{
+    u64::from(number_in(order, &body[4..])) * 0x1_0000_0000
+        + u64::from(number_in(order, &body[8..]))
+}
+
+/// The nanoseconds of these ticks, if it is known how long one lasts, and 64 bits have so many.
+fn time_by(tick: Option<u32>, ticks: u64) -> Option<u64>
+    ensures { result ≡ time_by tick ticks }
+{
+    ticks.checked_mul(u64::from(tick?))
+}
+
 /// A packet that was found.
-fn found<'a>(link: u16, octets: &'a [u8]) -> Found<'a>
-    ensures { (section : Section) → meant section result ≡ brings section link octets.now }
+fn found<'a>(link: u16, time: Option<u64>, octets: &'a [u8]) -> Found<'a>
+    ensures { (section : Section) → meant section result ≡ brings section link time octets.now }
 {
     Found::Packet(Captured {
         link: u32::from(link),
+        time,
         octets,
     })
 }

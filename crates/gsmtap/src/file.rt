@@ -2,7 +2,7 @@
 
 ghost use Rattle.std.specs.Prelude.{◌≡◌, ◌<◌, ◌≤◌, length};
 ghost use Rattle.gsmtap.specs.File.{half_in, is_magic, is_pcapng, link_number, link_numbered, number_in};
-ghost use Rattle.gsmtap.specs.File.{octet_order_of};
+ghost use Rattle.gsmtap.specs.File.{nanoseconds_in, octet_order_of, packet_time, unit_of};
 
 use byteorder::{BigEndian, ByteOrder, LittleEndian};
 
@@ -13,6 +13,15 @@ pub enum OctetOrder {
     LowFirst,
     /// The highest.
     HighFirst,
+}
+
+/// The unit of the fractions of a second in a file of the classic format.
+#[derive(Clone, Copy, Debug, PartialEq, Eq)]
+pub enum Unit {
+    /// A thousandth of a thousandth of a second.
+    Microsecond,
+    /// A thousandth of that.
+    Nanosecond,
 }
 
 /// What packets begin with.
@@ -52,6 +61,26 @@ pub fn half_in(order: OctetOrder, octets: &[u8]) -> u16
     }
 }
 
+/// How many nanoseconds a unit has.
+fn nanoseconds_in(unit: Unit) -> u64
+    ensures value { result ≡ nanoseconds_in unit }
+    ensures bound { result ≤ 1000 }
+{
+    match unit {
+        Unit::Microsecond => 1000,
+        Unit::Nanosecond => 1,
+    }
+}
+
+/// When a packet came, in nanoseconds from 1970-01-01T00:00:00Z on, by its header in the classic format.
+pub fn packet_time(order: OctetOrder, unit: Unit, header: &[u8]) -> u64
+    requires { 8 ≤ length header.now }
+    ensures { result ≡ packet_time order unit header.now }
+{
+    let (second, fraction) = (number_in(order, header), number_in(order, &header[4..]));
+    u64::from(second) * 1_000_000_000 + u64::from(fraction) * nanoseconds_in(unit)
+}
+
 /// Whether a file begins with this number: one for microseconds, one for nanoseconds.
 fn is_magic(number: u32) -> bool
     ensures { result ≡ is_magic number }
@@ -77,6 +106,18 @@ pub fn order_of(header: &[u8]) -> Option<OctetOrder>
         Some(OctetOrder::HighFirst)
     } else {
         None
+    }
+}
+
+/// The unit of the fractions of a file's seconds, by its header.
+pub fn unit_of(order: OctetOrder, header: &[u8]) -> Unit
+    requires { length header.now ≡ 24 }
+    ensures { result ≡ unit_of order header.now }
+{
+    if number_in(order, header) == 0xA1B2_3C4D {
+        Unit::Nanosecond
+    } else {
+        Unit::Microsecond
     }
 }
 

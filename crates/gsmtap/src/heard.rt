@@ -3,10 +3,11 @@
 ghost use Rattle.std.specs.Prelude.{◌≡◌, ◌+◌, ◌-◌, ◌<◌, ◌^◌, ℕ, length, IfErr, IfOk, Ok, OnOk};
 ghost use Rattle.gsmtap.specs.Heard.{AreHeard, IsHeardFault, is_station};
 ghost use Rattle.gsmtap.specs.HeardSteps.{IsHearingFault, count, for_counting, heard_again, hearing_of, place_of};
-ghost use Rattle.gsmtap.specs.HeardSteps.{with_station};
-ghost use Rattle.gsmtap.specs.PieceSteps.{section_of};
+ghost use Rattle.gsmtap.specs.HeardSteps.{times_with, with_station};
+ghost use Rattle.gsmtap.specs.PieceSteps.{packet_of, section_of};
 ghost use Rattle.gsmtap.specs.Taken.{AreKnown};
 ghost use Rattle.gsmtap.specs.TapeSteps.{IsPieceFault, after_found, count_of};
+ghost use Rattle.gsmtap.specs.Times.{AreTimes, for_times};
 
 use crate::fault::{AirFault, AirFaultKind};
 use crate::file::link_numbered;
@@ -28,6 +29,16 @@ pub struct Heard {
     pub last: u64,
 }
 
+/// Who sends in a capture file, and when its packets came.
+#[derive(Drop, Debug)]
+pub struct SendersHeard {
+    /// The senders, in the order of their first blocks.
+    pub heard: Vec<Heard>,
+    /// When each packet came, in nanoseconds from 1970-01-01T00:00:00Z on, if the file says it: pcapng has packets
+    /// without a time, and clocks that count from another time or not in decimal parts of a second.
+    pub times: Vec<Option<u64>>,
+}
+
 /// Who sends blocks of a cell broadcast channel in a capture file, in the order of their first ones. Blocks are marked
 /// as such, or as those of the SDCCH in whose place the channel stands; those of the extended channel are passed over.
 ///
@@ -35,9 +46,10 @@ pub struct Heard {
 ///
 /// Returns the fault of the first packet or block that has one, or of the file's begin, which is packet 0, and out of
 /// memory.
-pub fn heard_in_capture(alloc: Global, input: &[u8]) -> Result<Vec<Heard>, AirFault>
+pub fn heard_in_capture(alloc: Global, input: &[u8]) -> Result<SendersHeard, AirFault>
     requires { length input.now < 2 ^ 48 }
-    ensures heard { IfOk result (λ heard. AreHeard input.now heard.items) }
+    ensures heard { IfOk result (λ senders. AreHeard input.now senders.heard.items) }
+    ensures times { IfOk result (λ senders. AreTimes input.now senders.times.items) }
     ensures fault { IfErr result (IsHeardFault input.now) }
 {
     let (reader, octets) = match opened(alloc, input) {
@@ -48,13 +60,16 @@ pub fn heard_in_capture(alloc: Global, input: &[u8]) -> Result<Vec<Heard>, AirFa
 }
 
 /// Who sends in all pieces of a file, from its first one on.
-fn hear_pieces(alloc: Global, mut reader: Reader, octets: &[u8]) -> Result<Vec<Heard>, AirFault>
+fn hear_pieces(alloc: Global, mut reader: Reader, octets: &[u8]) -> Result<SendersHeard, AirFault>
     requires { length octets.now < 2 ^ 48 }
-    ensures heard { IfOk result (λ heard. (packets : ℕ) × (packets < 2 ^ 60)
-        × AreKnown for_counting (section_of reader) octets.now (hearing_of packets heard.items)) }
+    ensures heard { IfOk result (λ senders. (packets : ℕ) × (packets < 2 ^ 60)
+        × AreKnown for_counting (section_of reader) octets.now (hearing_of packets senders.heard.items)) }
+    ensures times { IfOk result (λ senders.
+        AreKnown for_times (section_of reader) octets.now senders.times.items) }
     ensures fault { IfErr result (IsPieceFault for_counting (section_of reader) octets.now) }
 {
     let mut heard = Vec::new(alloc);
+    let mut times = Vec::new(alloc);
     let mut left = octets;
     let mut number = 0;
     'pieces: while !left.is_empty() {
@@ -63,13 +78,28 @@ fn hear_pieces(alloc: Global, mut reader: Reader, octets: &[u8]) -> Result<Vec<H
             Err(kind) => return Err(fault_at(number + 1, kind)),
         };
         let found = reader.enter(piece)?;
+        push_time(&mut times, &found)?;
         match hear_found(&mut heard, number, &found) {
             Ok(packets) => number += packets,
             Err(fault) => return Err(fault),
         }
         left = rest;
     }
-    Ok(heard)
+    Ok(SendersHeard { heard, times })
+}
+
+/// Takes in the time of a packet, if one was found.
+fn push_time(times: &mut Vec<Option<u64>>, found: &Found) -> Result<(), AllocError>
+    ensures { OnOk result (times.new.items ≡ times_with times.old.items found.now) }
+{
+    match found {
+        Found::Packet(packet) => {
+            times.push(packet.time)?;
+            Ok(())
+        }
+        Found::Nothing => Ok(()),
+        Found::Wrong => Ok(()),
+    }
 }
 
 /// Counts the block that a packet carries, if one was found and it does, and returns how many packets there were.
@@ -94,8 +124,7 @@ fn hear_found(heard: &mut Vec<Heard>, number: u64, found: &Found) -> Result<u64,
 #[tactic(auto, unfolding(crate::specs::HeardSteps::count))]
 fn hear_packet(heard: &mut Vec<Heard>, number: u64, packet: &Captured) -> Result<(), AirFault>
     requires { 0 < number }
-    ensures heard { OnOk result (count (hearing_of (number - 1) heard.old.items)
-        (record { link = packet.now.link; octets = packet.now.octets.now })
+    ensures heard { OnOk result (count (hearing_of (number - 1) heard.old.items) (packet_of packet.now)
         ≡ Ok (hearing_of number heard.new.items)) }
     ensures fault { IfErr result (IsHearingFault (number - 1) heard.old.items
         (Found.Packet packet.now)) }

@@ -3,7 +3,8 @@
 //!
 //! [`capture_of`] makes the capture of tapes, whose octets `specs/Capture.antt` says; [`tape_of_capture`] makes a tape
 //! of a capture that others made, in that format or in pcapng, as `specs/TapeOfCapture.antt` says. [`heard_in_capture`]
-//! names who sends in it, and [`carried_by`] says what one of them sends (`specs/Heard.antt`, `specs/Carried.antt`).
+//! names who sends in it and says when (`specs/Heard.antt`, `specs/Times.antt`), and [`carried_by`] says what one of
+//! them sends (`specs/Carried.antt`).
 #![tactic(auto)]
 
 mod blocks;
@@ -13,17 +14,20 @@ pub mod fault;
 pub mod file;
 pub mod heard;
 mod laws;
+mod options;
 mod packet;
 mod pieces;
 mod tap;
 pub mod tape;
+pub mod tapes;
 mod track;
 
 pub use capture::{CaptureFault, Settings, Slots, capture_of};
 pub use carried::{Carried, carried_by};
 pub use fault::{AirFault, AirFaultKind};
-pub use heard::{Heard, heard_in_capture};
-pub use laws::capture_laws;
+pub use heard::{Heard, SendersHeard, heard_in_capture};
+pub use laws::{capture_laws, tapes_laws};
 pub use packet::{Channel, Place, Start, push_packet};
 pub use tap::Station;
 pub use tape::{ChannelType, Sender, Wanted, tape_of_capture};
+pub use tapes::{TapesFault, tapes_of_capture};

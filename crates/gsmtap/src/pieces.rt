@@ -7,7 +7,7 @@ ghost use Rattle.gsmtap.specs.Taken.{no_section};
 
 use crate::blocks::block_length;
 use crate::fault::AirFaultKind;
-use crate::file::{OctetOrder, number_in};
+use crate::file::{OctetOrder, Unit, number_in, packet_time};
 use std::alloc::{AllocError, Global};
 
 /// How many octets the header of a packet has in the classic format.
@@ -19,8 +19,9 @@ const BLOCK_HEAD: usize = 12;
 /// The format of a capture file.
 #[derive(Clone, Copy, Debug, PartialEq, Eq)]
 pub enum Format {
-    /// The classic format of libpcap: packets, all of this link type.
-    Classic(u32),
+    /// The classic format of libpcap: packets, all of this link type, and the unit of the fractions of their
+    /// seconds.
+    Classic(u32, Unit),
     /// pcapng: blocks, of which some describe interfaces, and some are packets.
     Pcapng,
 }
@@ -32,6 +33,8 @@ pub struct Interface {
     pub link: u16,
     /// How many octets of a packet are kept at most; 0 if all are.
     pub snap_length: u32,
+    /// How many nanoseconds a tick of its clock lasts, if that is known.
+    pub tick: Option<u32>,
 }
 
 /// A packet that was captured.
@@ -39,6 +42,8 @@ pub struct Interface {
 pub struct Captured<'a> {
     /// The number of its link type.
     pub link: u32,
+    /// When it came, in nanoseconds from 1970-01-01T00:00:00Z on, if that is known.
+    pub time: Option<u64>,
     /// Its octets.
     pub octets: &'a [u8],
 }
@@ -67,11 +72,12 @@ pub struct Reader {
 
 impl Reader {
     /// What is known of a classic file after its header.
-    pub fn of_packets(alloc: Global, order: OctetOrder, link: u32) -> Reader
-        ensures { section_of result ≡ record { format = Format.Classic link; order = order; interfaces = [] } }
+    pub fn of_packets(alloc: Global, order: OctetOrder, link: u32, unit: Unit) -> Reader
+        ensures { section_of result
+            ≡ record { format = Format.Classic link unit; order = order; interfaces = [] } }
     {
         Reader {
-            format: Format::Classic(link),
+            format: Format::Classic(link, unit),
             order,
             interfaces: Vec::new(alloc),
         }
@@ -117,7 +123,7 @@ impl Reader {
         ensures { result ≡ least self.now.format }
     {
         match self.format {
-            Format::Classic(_) => PACKET_HEADER,
+            Format::Classic(..) => PACKET_HEADER,
             Format::Pcapng => BLOCK_HEAD,
         }
     }
@@ -128,7 +134,7 @@ impl Reader {
         ensures { result ≡ piece_length (section_of self.now) octets.now }
     {
         match self.format {
-            Format::Classic(_) => {
+            Format::Classic(..) => {
                 Some(PACKET_HEADER + number_in(self.order, &octets[8..]) as usize)
             }
             Format::Pcapng => block_length(self.order, octets),
@@ -146,8 +152,9 @@ impl Reader {
             ≡ meaning (section_of self.old) piece.now) }
     {
         match self.format {
-            Format::Classic(link) => Ok(Found::Packet(Captured {
+            Format::Classic(link, unit) => Ok(Found::Packet(Captured {
                 link,
+                time: Some(packet_time(self.order, unit, piece)),
                 octets: &piece[PACKET_HEADER..],
             })),
             Format::Pcapng => self.enter_block(piece),

@@ -3,15 +3,16 @@
 ghost use Rattle.std.specs.Prelude.{◌≡◌, ◌+◌, ◌*◌, ◌<◌, ◌≤◌, ◌^◌, ◌++◌, ℕ, length, IfErr, IfOk, MatchResult, OnOk, Ok};
 ghost use Rattle.std.specs.Prelude.{Err, []};
 ghost use Rattle.handset.specs.Tape.{octets_of_blocks, tape_octets};
-ghost use Rattle.gsmtap.specs.PieceSteps.{section_of};
+ghost use Rattle.gsmtap.specs.PieceSteps.{packet_of, section_of};
 ghost use Rattle.gsmtap.specs.Taken.{AreKnown, Opens};
 ghost use Rattle.gsmtap.specs.TapeOfCapture.{IsAirFault, IsTapeOfCapture, after_packet, blocks_in, for_tape};
-ghost use Rattle.gsmtap.specs.TapeOfCapture.{most_slots, slots_filled, slots_taken, tape_of_known};
+ghost use Rattle.gsmtap.specs.TapeOfCapture.{most_slots, nothing_known, slots_filled, slots_taken};
+ghost use Rattle.gsmtap.specs.TapeOfCapture.{tape_of_known};
 ghost use Rattle.gsmtap.specs.TapeSteps.{IsBeginFault, IsFoundKind, IsPacketKind, IsPieceFault, after_found};
 ghost use Rattle.gsmtap.specs.TapeSteps.{count_of, known_of, last_slot};
 
 use crate::fault::{AirFault, AirFaultKind};
-use crate::file::{is_pcapng, link_number, link_numbered, order_of};
+use crate::file::{is_pcapng, link_number, link_numbered, order_of, unit_of};
 use crate::pieces::{Captured, Found, Reader};
 use crate::tap::sent_in;
 use crate::track::Air;
@@ -101,7 +102,10 @@ pub fn opened(alloc: Global, input: &[u8]) -> Result<(Reader, &[u8]), AirFaultKi
     };
     let number = link_number(order, header);
     match link_numbered(number) {
-        Some(_) => Ok((Reader::of_packets(alloc, order, number), packets)),
+        Some(_) => Ok((
+            Reader::of_packets(alloc, order, number, unit_of(order, header)),
+            packets,
+        )),
         None => Err(AirFaultKind::OtherLink(number)),
     }
 }
@@ -125,10 +129,7 @@ pub(crate) fn read_pieces(
     ensures long { IfOk result (λ air. length air.blocks.items ≡ 4 * slots_taken wanted.now) }
     ensures fault { IfErr result (IsPieceFault (for_tape wanted.now) (section_of reader) octets.now) }
 {
-    let mut air = Air::new(
-        alloc,
-        most_slots(wanted.slots).saturating_sub(wanted.first_slot),
-    )?;
+    let mut air = air_for(alloc, wanted)?;
     let mut left = octets;
     let mut number = 0;
     'pieces: while !left.is_empty() {
@@ -145,6 +146,16 @@ pub(crate) fn read_pieces(
         left = rest;
     }
     Ok(air)
+}
+
+/// No block of a tape.
+pub(crate) fn air_for(alloc: Global, wanted: &Wanted) -> Result<Air, AllocError>
+    ensures { IfOk result (λ air. known_of air ≡ nothing_known (slots_taken wanted.now)) }
+{
+    Air::new(
+        alloc,
+        most_slots(wanted.slots).saturating_sub(wanted.first_slot),
+    )
 }
 
 /// How many slots a tape may have: as many as are wanted, or as many as a tape can have.
@@ -181,14 +192,16 @@ fn take(air: &mut Air, from: Sender, found: &Found) -> Result<u64, AirFaultKind>
 
 /// Places the block that a packet carries, if it does.
 #[tactic(auto, unfolding(crate::specs::TapeOfCapture::after_packet))]
-fn take_packet(air: &mut Air, from: Sender, packet: &Captured) -> Result<(), AirFaultKind>
+pub(crate) fn take_packet(
+    air: &mut Air,
+    from: Sender,
+    packet: &Captured,
+) -> Result<(), AirFaultKind>
     requires { last_slot air.old.track < 2 ^ 60 }
-    ensures placed { OnOk result (after_packet from (known_of air.old)
-        (record { link = packet.now.link; octets = packet.now.octets.now }) ≡ Ok (known_of air.new)) }
+    ensures placed { OnOk result (after_packet from (known_of air.old) (packet_of packet.now) ≡ Ok (known_of air.new)) }
     ensures long { length air.new.blocks.items ≡ length air.old.blocks.items }
     ensures bound { OnOk result (last_slot air.new.track ≤ last_slot air.old.track + 3328) }
-    ensures fault { IfErr result (λ kind. after_packet from (known_of air.old)
-        (record { link = packet.now.link; octets = packet.now.octets.now }) ≡ Err kind) }
+    ensures fault { IfErr result (λ kind. after_packet from (known_of air.old) (packet_of packet.now) ≡ Err kind) }
     ensures kinds { IfErr result IsPacketKind }
 {
     let Some(link) = link_numbered(packet.link) else {
@@ -201,7 +214,7 @@ fn take_packet(air: &mut Air, from: Sender, packet: &Captured) -> Result<(), Air
 }
 
 /// The octets of the tape of which this is known.
-fn tape_of(alloc: Global, wanted: &Wanted, air: &Air) -> Result<Vec<u8>, AllocError>
+pub(crate) fn tape_of(alloc: Global, wanted: &Wanted, air: &Air) -> Result<Vec<u8>, AllocError>
     requires { length air.now.blocks.items ≡ 4 * slots_taken wanted.now }
     ensures { IfOk result (λ output. output.items ≡ tape_of_known wanted.now air.now.blocks.items) }
 {

@@ -12,11 +12,14 @@
 //! enough: the answer is then `refused; ` and what came in the end. `fronts N M LAC CI SLOTS` makes tapes of each front
 //! of N to M octets, and the answer is that of all of them. `senders` names who sends in the octets: each one's
 //! address, radio channel, mark, and first and last packet, and a semicolon. `carried ADDRESS ARFCN sdcch` says what
-//! the blocks of this sender carry, or of one of `cbch`.
+//! the blocks of this sender carry, or of one of `cbch`. `times` says when each packet came, in nanoseconds, or `-`.
+//!
+//! `for LAC CI N ..`, with the words of `tape`, wants one tape more, until `new` or `none`; `tapes` makes all of them
+//! together, and answers as `tape` does.
 
 use gsmtap::{
     Channel, ChannelType, Heard, Sender, Settings, Slots, Start, Station, Wanted, capture_of,
-    carried_by, heard_in_capture, tape_of_capture,
+    carried_by, heard_in_capture, tape_of_capture, tapes_of_capture,
 };
 use std::alloc::Global;
 use std::process::Abort;
@@ -28,6 +31,7 @@ use test_support::{Drought, Row, Words, after_refusals, octets_of};
 pub struct Bench {
     octets: Vec<u8>,
     wanted: Vec<u8>,
+    tapes: Vec<Wanted>,
     drought: Drought,
 }
 
@@ -176,6 +180,26 @@ fn tape(alloc: Global, bench: &mut Bench, words: &mut Words) -> Result<String, F
     }
 }
 
+/// Makes the tapes of the octets that are wanted together.
+fn tapes(alloc: Global, bench: &mut Bench) -> Result<String, Fail> {
+    if bench.octets.len() > 1_000_000 {
+        return Err(Fail::new("too many octets for a test"));
+    }
+    bench.drought.begin(alloc);
+    let outcome = tapes_of_capture(alloc, &bench.octets, &bench.tapes);
+    bench.drought.end();
+    match outcome {
+        Ok(output) => judged(alloc, bench, output),
+        Err(fault) => Ok(fault.to_string(alloc)?),
+    }
+}
+
+/// Begins anew.
+fn begin(bench: &mut Bench) {
+    bench.octets.clear();
+    bench.tapes.clear();
+}
+
 /// Names the senders of octets, as `7f000001 0 cbch 2 1-2` each: how many blocks, in which packets.
 fn senders(alloc: Global, bench: &mut Bench) -> Result<String, Fail> {
     if bench.octets.len() > 1_000_000 {
@@ -184,12 +208,12 @@ fn senders(alloc: Global, bench: &mut Bench) -> Result<String, Fail> {
     bench.drought.begin(alloc);
     let outcome = heard_in_capture(alloc, &bench.octets);
     bench.drought.end();
-    let heard = match outcome {
-        Ok(heard) => heard,
+    let senders = match outcome {
+        Ok(senders) => senders,
         Err(fault) => return Ok(fault.to_string(alloc)?),
     };
     let mut all = String::new(alloc);
-    for one in &heard {
+    for one in &senders.heard {
         let Heard {
             station,
             blocks,
@@ -202,6 +226,29 @@ fn senders(alloc: Global, bench: &mut Bench) -> Result<String, Fail> {
         };
         let (address, arfcn) = (station.address, station.arfcn);
         all.push_str(&format!(in alloc; "{address:08x} {arfcn} {mark} {blocks} {first}-{last};")?)?;
+    }
+    Ok(all)
+}
+
+/// Says when the packets of octets came, in nanoseconds: `-` if that isn't known.
+fn times(alloc: Global, bench: &mut Bench) -> Result<String, Fail> {
+    if bench.octets.len() > 1_000_000 {
+        return Err(Fail::new("too many octets for a test"));
+    }
+    bench.drought.begin(alloc);
+    let outcome = heard_in_capture(alloc, &bench.octets);
+    bench.drought.end();
+    let senders = match outcome {
+        Ok(senders) => senders,
+        Err(fault) => return Ok(fault.to_string(alloc)?),
+    };
+    let mut all = String::new(alloc);
+    for time in &senders.times {
+        let between = if all.is_empty() { "" } else { " " };
+        match time {
+            Some(time) => all.push_str(&format!(in alloc; "{between}{time}")?)?,
+            None => all.push_str(&format!(in alloc; "{between}-")?)?,
+        }
     }
     Ok(all)
 }
@@ -255,14 +302,18 @@ fn fronts(alloc: Global, bench: &mut Bench, words: &mut Words) -> Result<String,
 /// What comes of a verb and the words after it.
 fn done(alloc: Global, bench: &mut Bench, verb: &str, words: &mut Words) -> Result<String, Fail> {
     match verb {
-        "new" => bench.octets.clear(),
+        "new" => begin(bench),
+        "for" => bench.tapes.push(wanted_in(words)?)?,
+        "none" => bench.tapes.clear(),
         "hex" => add_hex(alloc, &mut bench.octets, words)?,
         "want" => add_hex(alloc, &mut bench.wanted, words)?,
         "idle" => add_idle(&mut bench.octets, words.number16()?)?,
         "repeat" => repeat(alloc, &mut bench.octets, words.number16()?)?,
         "capture" => return capture(alloc, bench, words),
         "tape" => return tape(alloc, bench, words),
+        "tapes" => return tapes(alloc, bench),
         "senders" => return senders(alloc, bench),
+        "times" => return times(alloc, bench),
         "carried" => return carried(alloc, bench, words),
         "fronts" => return fronts(alloc, bench, words),
         _ => return Ok(String::from_str(alloc, "no such action")?),
@@ -295,6 +346,7 @@ pub fn expect_rows(rt: &impl Abort, alloc: Global, table: &str, count: u16) -> R
     let mut bench = Bench {
         octets: Vec::new(alloc),
         wanted: Vec::new(alloc),
+        tapes: Vec::new(alloc),
         drought: Drought::new(alloc)?,
     };
     let mut rows = 0_u16;

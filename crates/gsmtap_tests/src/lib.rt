@@ -12,3 +12,5 @@ mod memory;
 mod pcapng;
 #[cfg(test)]
 mod tapes;
+#[cfg(test)]
+mod together;

@@ -1,4 +1,4 @@
-use Rattle.std.proofs.Common.{◌≡◌, ◌+◌, ◌-◌, ◌*◌, ◌≤◌, ◌∙◌, length, arith, subst, ap, sym}
+use Rattle.std.proofs.Common.{◌≡◌, ◌+◌, ◌*◌, ◌≤◌, ◌∙◌, length, arith, subst, ap, sym}
 use Rattle.gsmtap.specs.PieceSteps.{section_of}
 use Rattle.gsmtap.specs.Taken.{AreTaken}
 use Rattle.gsmtap.specs.TapeOfCapture.{for_tape, nothing_known, slots_taken}
@@ -12,10 +12,8 @@ pub pieces-init : goal.pieces-init
 pieces-init c =
     let none : last_slot c.in_ok-air.air.track ≡ 0 =
     ap (λ (known : Known). last_slot known.track) c.in_ok-air.ensures in
-    let slots : c.saturating_sub.result ≡ slots_taken c.args.wanted.now =
-    c.saturating_sub.ensures ∙ ap (λ most. most - c.args.wanted.now.first_slot) c.most_slots.ensures in
     let nothing : known_of c.in_ok-air.air ≡ nothing_known (slots_taken c.args.wanted.now) =
-    c.in_ok-air.ensures ∙ ap nothing_known slots in
+    c.in_ok-air.ensures in
     record {
       taken =
           none_taken (for_tape c.args.wanted.now) (section_of c.args.reader) c.args.octets.now

@@ -1,0 +1,177 @@
+//! The tapes that a capture file is, one for each of many senders.
+
+ghost use Rattle.std.specs.Prelude.{◌≡◌, ◌<◌, ◌≤◌, ◌^◌, length, position, IfErr, IfOk, OnOk, Ok, Err};
+ghost use Rattle.gsmtap.specs.PieceSteps.{packet_of, section_of};
+ghost use Rattle.gsmtap.specs.Taken.{AreKnown, ComesTo, IsFileFault};
+ghost use Rattle.gsmtap.specs.TapesOfCapture.{AreTapesOfCapture, IsTapesFault, after_each, for_tapes, is_silent};
+ghost use Rattle.gsmtap.specs.TapesOfCapture.{none_known};
+ghost use Rattle.gsmtap.specs.TapesSteps.{AreLong, AreNear, known_of_each, tapes_of_known};
+ghost use Rattle.gsmtap.specs.TapeSteps.{IsFoundKind, IsPacketKind, IsPieceFault, after_found, count_of, known_of};
+ghost use Rattle.gsmtap.specs.declared.track.Air.{Air};
+
+use crate::fault::{AirFault, AirFaultKind};
+use crate::pieces::{Captured, Found, Reader};
+use crate::tape::{Wanted, air_for, fault_at, opened, take_packet, tape_of};
+use crate::track::Air;
+use std::alloc::{AllocError, Global};
+use thiserror::Error;
+
+/// Why a capture file doesn't have all tapes that are wanted of it.
+#[derive(Clone, Copy, Debug, PartialEq, Eq, Error)]
+pub enum TapesFault {
+    /// The file or a packet is at fault, or memory was refused.
+    #[error("{0}")]
+    Air(AirFault),
+    /// No packet has a block of the sender whose tape has this place, from 0.
+    #[error("tape {0}: no block")]
+    NoBlock(usize),
+}
+
+/// The tapes that a capture file is, as [`tape_of_capture`](crate::tape_of_capture) makes each of them, one after the
+/// other. The file is walked once.
+///
+/// # Errors
+///
+/// Returns the fault of the first packet or block that has one for any of the tapes, or of the file's begin, which is
+/// packet 0; else [`TapesFault::NoBlock`] of the first tape of which no packet has a block; and out of memory.
+pub fn tapes_of_capture(
+    alloc: Global,
+    input: &[u8],
+    wanted: &[Wanted],
+) -> Result<Vec<u8>, TapesFault>
+    requires { length input.now < 2 ^ 48 }
+    ensures tapes { IfOk result (λ output. AreTapesOfCapture wanted.now input.now output.items) }
+    ensures fault { IfErr result (IsTapesFault wanted.now input.now) }
+{
+    let airs = match read_file(alloc, input, wanted) {
+        Ok(airs) => airs,
+        Err(fault) => return Err(TapesFault::Air(fault)),
+    };
+    match first_silent(&airs) {
+        Some(place) => Err(TapesFault::NoBlock(place)),
+        None => match tapes_of(alloc, wanted, &airs) {
+            Ok(output) => Ok(output),
+            Err(AllocError) => Err(TapesFault::Air(fault_at(0, AirFaultKind::Refused))),
+        },
+    }
+}
+
+/// What is known of each tape after all pieces of a file.
+fn read_file(alloc: Global, input: &[u8], wanted: &[Wanted]) -> Result<Vec<Air>, AirFault>
+    requires { length input.now < 2 ^ 48 }
+    ensures known { IfOk result (λ airs. ComesTo (for_tapes wanted.now) input.now (known_of_each airs.items)) }
+    ensures fault { IfErr result (λ fault. IsFileFault (for_tapes wanted.now) input.now fault.packet fault.kind) }
+{
+    let (reader, octets) = match opened(alloc, input) {
+        Ok(opened) => opened,
+        Err(kind) => return Err(fault_at(0, kind)),
+    };
+    read_pieces(alloc, wanted, reader, octets)
+}
+
+/// What is known of each tape after all pieces of a file, from its first one on.
+fn read_pieces(
+    alloc: Global,
+    wanted: &[Wanted],
+    mut reader: Reader,
+    octets: &[u8],
+) -> Result<Vec<Air>, AirFault>
+    requires { length octets.now < 2 ^ 48 }
+    ensures known { IfOk result (λ airs. AreKnown (for_tapes wanted.now) (section_of reader) octets.now
+        (known_of_each airs.items)) }
+    ensures fault { IfErr result (IsPieceFault (for_tapes wanted.now) (section_of reader) octets.now) }
+{
+    let mut airs = airs_for(alloc, wanted)?;
+    let mut left = octets;
+    let mut number = 0;
+    'pieces: while !left.is_empty() {
+        let next = number + 1;
+        let (piece, rest) = match reader.split(left) {
+            Ok(split) => split,
+            Err(kind) => return Err(fault_at(next, kind)),
+        };
+        let found = reader.enter(piece)?;
+        match take(&mut airs, wanted, &found) {
+            Ok(packets) => number += packets,
+            Err(kind) => return Err(fault_at(next, kind)),
+        }
+        left = rest;
+    }
+    Ok(airs)
+}
+
+/// No block of any of the tapes.
+fn airs_for(alloc: Global, wanted: &[Wanted]) -> Result<Vec<Air>, AllocError>
+    ensures { IfOk result (λ airs. known_of_each airs.items ≡ none_known wanted.now) }
+{
+    let mut airs = Vec::new(alloc);
+    for one in wanted {
+        airs.push(air_for(alloc, one)?)?;
+    }
+    Ok(airs)
+}
+
+/// Offers the packet that was found, if one was, to each tape, and returns how many packets there were.
+fn take(airs: &mut Vec<Air>, wanted: &[Wanted], found: &Found) -> Result<u64, AirFaultKind>
+    requires many { length airs.old.items ≡ length wanted.now }
+    requires near { AreNear (2 ^ 59) (known_of_each airs.old.items) }
+    ensures placed { OnOk result (after_found (after_each wanted.now) (known_of_each airs.old.items) found.now
+        ≡ Ok (known_of_each airs.new.items)) }
+    ensures many { IfOk result (λ packets. packets ≡ count_of found.now) }
+    ensures fault { IfErr result (λ kind. after_found (after_each wanted.now) (known_of_each airs.old.items) found.now
+        ≡ Err kind) }
+    ensures kinds { IfErr result (IsFoundKind found.now) }
+{
+    match found {
+        Found::Packet(packet) => match offer(airs, wanted, packet) {
+            Ok(()) => Ok(1),
+            Err(kind) => Err(kind),
+        },
+        Found::Nothing => Ok(0),
+        Found::Wrong => Err(AirFaultKind::WrongBlock),
+    }
+}
+
+/// Offers a packet to each tape.
+fn offer(airs: &mut Vec<Air>, wanted: &[Wanted], packet: &Captured) -> Result<(), AirFaultKind>
+    requires many { length airs.old.items ≡ length wanted.now }
+    requires near { AreNear (2 ^ 59) (known_of_each airs.old.items) }
+    ensures placed { OnOk result (after_each wanted.now (known_of_each airs.old.items)
+        (packet_of packet.now) ≡ Ok (known_of_each airs.new.items)) }
+    ensures fault { IfErr result (λ kind. after_each wanted.now (known_of_each airs.old.items)
+        (packet_of packet.now) ≡ Err kind) }
+    ensures kinds { IfErr result IsPacketKind }
+{
+    for (place, one) in wanted.iter().enumerate() {
+        if let Err(kind) = take_packet(&mut airs[place], one.from, packet) {
+            return Err(kind);
+        }
+    }
+    Ok(())
+}
+
+/// The first tape of which no block is known.
+fn first_silent(airs: &[Air]) -> Option<usize>
+    ensures { result ≡ position (λ (air : Air). is_silent (known_of air)) airs.now }
+{
+    airs.iter().position(|air| is_silent(air))
+}
+
+/// Whether no block of a tape is known.
+fn is_silent(air: &Air) -> bool
+    ensures { result ≡ is_silent (known_of air.now) }
+{
+    air.track.is_none()
+}
+
+/// The octets of the tapes of which this is known, one after the other.
+fn tapes_of(alloc: Global, wanted: &[Wanted], airs: &[Air]) -> Result<Vec<u8>, AllocError>
+    requires { AreLong wanted.now (known_of_each airs.now) }
+    ensures { IfOk result (λ output. output.items ≡ tapes_of_known wanted.now (known_of_each airs.now)) }
+{
+    let mut output = Vec::new(alloc);
+    for (place, one) in wanted.iter().enumerate() {
+        output.extend_from_slice(&tape_of(alloc, one, &airs[place])?)?;
+    }
+    Ok(output)
+}
