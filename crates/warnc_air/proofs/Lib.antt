@@ -1,3 +1,6 @@
+pub mod Silent
+pub mod TextLaws
+pub mod TableLaws
 pub mod TooLong
 pub mod WholeInput
 pub mod Rows

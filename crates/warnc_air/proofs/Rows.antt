@@ -1,5 +1,5 @@
 -- The table of senders grows by a row.
-use Rattle.std.proofs.Common.{◌≡◌, ℕ, ◌+◌, ◌<◌, List, [], ◌∷◌, ◌++◌, length, take, get_or, ap, sym, ◌∙◌, subst}
+use Rattle.std.proofs.Common.{◌≡◌, ℕ, ◌+◌, ◌<◌, List, [], ◌∷◌, ◌++◌, Option, length, take, get_or, ap, sym, ◌∙◌, subst}
 use Rattle.std.proofs.Common.{append_assoc, append-nil, refl}
 use Rattle.std.specs.List.{AllByRecursion, flat_map}
 use Rattle.std.proofs.lemmas.Grind.{flat_map-append}
@@ -14,8 +14,9 @@ all_more input [] one all is = (is, tt)
 all_more input (first ∷ rest) one all is = (all.0, all_more input rest one all.1 is)
 
 -- no sender: the line of the columns' names alone
-pub no_row : (input text : List ℕ) → text ≡ columns_text → IsTableOf input [] text
-no_row input text is = record {
+pub no_row : (input : List ℕ) (times : List (Option ℕ)) (text : List ℕ) → text ≡ columns_text
+    → IsTableOf input times [] text
+no_row input times text is = record {
   sending = [];
   heard_are = refl;
   carry = tt;
@@ -23,9 +24,11 @@ no_row input text is = record {
 }
 
 -- one more
-pub one_row : (input : List ℕ) (heard : List Heard) (text : List ℕ) (one : Heard) (row : List ℕ) →
-    IsTableOf input heard text → IsRowOf input one row → IsTableOf input (heard ++ one ∷ []) (text ++ row)
-one_row input heard text one row table (carried, carries, is) =
+pub one_row : (input : List ℕ) (times : List (Option ℕ)) (heard : List Heard) (text : List ℕ) (one : Heard)
+    (row : List ℕ) →
+    IsTableOf input times heard text → IsRowOf input times one row
+    → IsTableOf input times (heard ++ one ∷ []) (text ++ row)
+one_row input times heard text one row table (carried, carries, is) =
     let sending : Sending = record { heard = one; carried = carried } in
     record {
       sending = table.sending ++ sending ∷ [];
@@ -35,17 +38,19 @@ one_row input heard text one row table (carried, carries, is) =
       carry = all_more input table.sending sending table.carry carries;
       written =
           ap (λ it. it ++ row) table.written
-          ∙ append_assoc columns_text (flat_map sending_text table.sending) row
-          ∙ ap (λ it. columns_text ++ (flat_map sending_text table.sending ++ it))
-          (is ∙ sym (append-nil (sending_text sending)))
-          ∙ ap (λ it. columns_text ++ it) (sym (flat_map-append sending_text table.sending (sending ∷ [])));
+          ∙ append_assoc columns_text (flat_map (sending_text times) table.sending) row
+          ∙ ap (λ it. columns_text ++ (flat_map (sending_text times) table.sending ++ it))
+          (is ∙ sym (append-nil (sending_text times sending)))
+          ∙ ap (λ it. columns_text ++ it) (sym (flat_map-append (sending_text times) table.sending (sending ∷ [])));
     }
 
 -- the same of the next one of a list
-pub next_row : (input : List ℕ) (heard : List Heard) (here : ℕ) (none : Heard) (text row new : List ℕ) →
-    here < length heard → IsTableOf input (take here heard) text → IsRowOf input (get_or heard here none) row →
-    new ≡ text ++ row → IsTableOf input (take (here + 1) heard) new
-next_row input heard here none text row new inside table is pushed =
-    subst (λ (it : List Heard). IsTableOf input it new) (sym (take_more heard here none inside))
-    (subst (λ (it : List ℕ). IsTableOf input (take here heard ++ get_or heard here none ∷ []) it) (sym pushed)
-    (one_row input (take here heard) text (get_or heard here none) row table is))
+pub next_row : (input : List ℕ) (times : List (Option ℕ)) (heard : List Heard) (here : ℕ) (none : Heard)
+    (text row new : List ℕ) →
+    here < length heard → IsTableOf input times (take here heard) text
+    → IsRowOf input times (get_or heard here none) row →
+    new ≡ text ++ row → IsTableOf input times (take (here + 1) heard) new
+next_row input times heard here none text row new inside table is pushed =
+    subst (λ (it : List Heard). IsTableOf input times it new) (sym (take_more heard here none inside))
+    (subst (λ (it : List ℕ). IsTableOf input times (take here heard ++ get_or heard here none ∷ []) it) (sym pushed)
+    (one_row input times (take here heard) text (get_or heard here none) row table is))

@@ -9,7 +9,7 @@ use Rattle.warnc_air.specs.TapeOutput.{CarriesIn, sending_text}
 abbrev pub summary_of_any : Option Carried → Option Summary
 summary_of_any carried = option_map summary_of carried
 
--- the row of a sender in a capture file
-abbrev pub IsRowOf : (input : List ℕ) → Heard → (text : List ℕ) → Type 0
-IsRowOf input heard text = (carried : Option Summary) × CarriesIn input heard.station carried
-    × (text ≡ sending_text (record { heard = heard; carried = carried }))
+-- the row of a sender in a capture file whose packets came at these times
+abbrev pub IsRowOf : (input : List ℕ) (times : List (Option ℕ)) → Heard → (text : List ℕ) → Type 0
+IsRowOf input times heard text = (carried : Option Summary) × CarriesIn input heard.station carried
+    × (text ≡ sending_text times (record { heard = heard; carried = carried }))

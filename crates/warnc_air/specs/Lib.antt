@@ -1,3 +1,7 @@
 pub mod PcapOutput
 pub mod TapeOutput
 pub mod CellsSteps
+pub mod CellTable
+pub mod CellTableSteps
+pub mod AllTapes
+pub mod AllTapesSteps

@@ -1,14 +1,17 @@
 -- What `warnc tape` and `warnc cells` make of the octets that they read: of the capture file that they are, its tape,
 -- and a table of who sends in it. Own.
-use Rattle.std.specs.Prelude.{◌≡◌, ◌≢◌, ℕ, ◌/◌, ◌%◌, ◌<◌, ◌≤◌, List, [], ◌∷◌, ◌++◌, length, map, Option, Some, None}
-use Rattle.std.specs.Prelude.{codes}
+use Rattle.std.specs.Prelude.{◌≡◌, ◌≢◌, ℕ, ◌-◌, ◌/◌, ◌%◌, ◌<◌, ◌≤◌, List, [], ◌∷◌, ◌++◌, length, map, Option, Some}
+use Rattle.std.specs.Prelude.{None}
+use Rattle.std.specs.Prelude.{codes, slice_get}
 use Rattle.std.specs.Fmt.{decimal}
 use Rattle.std.specs.Io.KnownBytes.{Keeps}
 use Rattle.std.specs.List.{AllByRecursion, flat_map}
+use Rattle.std.specs.Option.{option_and_then}
 use Rattle.device_ends.specs.Moves.{AppendsFront}
 use Rattle.gsmtap.specs.Carried.{IsCarriedBy, IsUncarried, Summary}
 use Rattle.gsmtap.specs.Heard.{AreHeard, IsHeardFault}
 use Rattle.gsmtap.specs.TapeOfCapture.{IsAirFault, IsTapeOfCapture}
+use Rattle.gsmtap.specs.Times.{AreTimes}
 use Rattle.gsmtap.specs.declared.fault.AirFault.{AirFault}
 use Rattle.gsmtap.specs.declared.fault.AirFaultKind.{AirFaultKind}
 use Rattle.gsmtap.specs.declared.fault.AirFaultKind.TheVariants as kind
@@ -54,7 +57,7 @@ IsTapeWriteFault f = f ≡ fault.WriteFailed
 
 -- the table of senders: no field has a comma, a quotation mark or a line end, so none is quoted
 abbrev pub columns_text : List ℕ
-columns_text = codes "source,arfcn,channel,blocks,first,last,slots,pages,identifiers\n"
+columns_text = codes "source,arfcn,channel,blocks,first,last,slots,pages,identifiers,first_time,last_time\n"
 
 -- the word by which `tape` is asked for it
 abbrev pub channel_text : ChannelType → List ℕ
@@ -85,13 +88,36 @@ carried_text (Some summary) =
     codes "," ++ (decimal summary.slots ++ (codes "," ++ (decimal summary.pages ++ (codes ","
     ++ joined_text summary.identifiers))))
 
+-- when the packet of a number came, from 1 on, of which these are the times
+abbrev pub time_of : (times : List (Option ℕ)) (number : ℕ) → Option ℕ
+time_of times number = option_and_then (λ time. time) (slice_get times (number - 1))
+
+-- a time, in seconds with nine decimals; nothing where it isn't known
+abbrev pub three_digits : ℕ → List ℕ
+three_digits number = decimal (number / 100) ++ (decimal (number / 10 % 10) ++ decimal (number % 10))
+
+abbrev pub seconds_text : (nanoseconds : ℕ) → List ℕ
+seconds_text time =
+    decimal (time / 1000000000) ++ (codes "." ++ (three_digits (time / 1000000 % 1000)
+    ++ (three_digits (time / 1000 % 1000) ++ three_digits (time % 1000))))
+
+abbrev pub time_text : Option ℕ → List ℕ
+time_text None = []
+time_text (Some time) = seconds_text time
+
+-- when its first block came, and its last one
+abbrev pub times_text : (times : List (Option ℕ)) → Heard → List ℕ
+times_text times one =
+    codes "," ++ (time_text (time_of times one.first) ++ (codes "," ++ time_text (time_of times one.last)))
+
 -- a sender, and what its blocks carry if they make a tape
 pub record Sending : Type 0 where
   pub heard : Heard
   pub carried : Option Summary
 
-abbrev pub sending_text : Sending → List ℕ
-sending_text one = sender_text one.heard ++ (carried_text one.carried ++ codes "\n")
+abbrev pub sending_text : (times : List (Option ℕ)) → Sending → List ℕ
+sending_text times one =
+    sender_text one.heard ++ (carried_text one.carried ++ (times_text times one.heard ++ codes "\n"))
 
 -- this is what a sender's blocks in a capture file carry, or else they make no tape, as some differ or step back
 abbrev pub CarriesIn : (input : List ℕ) → Station → Option Summary → Type 0
@@ -101,16 +127,19 @@ CarriesIn input station (Some summary) = IsCarriedBy station input summary
 abbrev pub IsSendingIn : (input : List ℕ) → Sending → Type 0
 IsSendingIn input one = CarriesIn input one.heard.station one.carried
 
--- the table of these senders of a capture file
-pub record IsTableOf (input : List ℕ) (heard : List Heard) (output : List ℕ) : Type 0 where
-  pub sending : List Sending
-  pub heard_are : map (λ (one : Sending). one.heard) sending ≡ heard
-  pub carry : AllByRecursion (IsSendingIn input) sending
-  pub written : output ≡ columns_text ++ flat_map sending_text sending
+-- the table of these senders of a capture file whose packets came at these times
+pub record IsTableOf (input : List ℕ) (times : List (Option ℕ)) (heard : List Heard) (output : List ℕ) : Type 0
+  where
+    pub sending : List Sending
+    pub heard_are : map (λ (one : Sending). one.heard) sending ≡ heard
+    pub carry : AllByRecursion (IsSendingIn input) sending
+    pub written : output ≡ columns_text ++ flat_map (sending_text times) sending
 
 -- the output is the table of who sends in the capture file that the input is
 abbrev pub IsCellsOutput : (input output : List ℕ) → Type 0
-IsCellsOutput input output = (heard : List Heard) × AreHeard input heard × IsTableOf input heard output
+IsCellsOutput input output =
+    (heard : List Heard) × AreHeard input heard
+    × ((times : List (Option ℕ)) × AreTimes input times × IsTableOf input times heard output)
 
 -- why no table of senders is written
 abbrev pub IsCellsFault : (input : List ℕ) (old new : Option (List ℕ)) → TapeCommandFault → Type 0

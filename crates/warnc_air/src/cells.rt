@@ -6,7 +6,8 @@ ghost use Rattle.device_ends.specs.Source.{reader_of};
 ghost use Rattle.device_ends.specs.Stream.{FaultOfInput, IsStreamBetween, OutputOfInput};
 ghost use Rattle.warnc_air.specs.CellsSteps.{IsRowOf, summary_of_any};
 ghost use Rattle.warnc_air.specs.TapeOutput.{CarriesIn, IsCellsFault, IsCellsOutput, IsTableOf, IsTapeWriteFault};
-ghost use Rattle.warnc_air.specs.TapeOutput.{address_text, carried_text, channel_text, joined_text, sender_text};
+ghost use Rattle.warnc_air.specs.TapeOutput.{address_text, carried_text, channel_text, joined_text, seconds_text};
+ghost use Rattle.warnc_air.specs.TapeOutput.{sender_text, three_digits, time_of, time_text, times_text};
 
 use crate::tape::{MAX_INPUT, TapeCommandFault, fault_of_air};
 use device_ends::{Failed, ReadFault, Sink, Source, read_up_to, write_all};
@@ -15,13 +16,15 @@ use std::alloc::{AllocError, Global};
 use std::io::{Read, Write};
 
 /// The names of the columns.
-const COLUMNS: &str = "source,arfcn,channel,blocks,first,last,slots,pages,identifiers\n";
+const COLUMNS: &str =
+    "source,arfcn,channel,blocks,first,last,slots,pages,identifiers,first_time,last_time\n";
 
 /// Reads a capture file, and writes a table of who sends blocks of a cell broadcast channel in it, as CSV: the source
 /// address, the radio channel, the word of the channel that the packets name, how many packets have a block, and the
-/// numbers of the first and the last of them; and of the tape that these blocks make alone the number of its slots and
-/// of its pages, and their message identifiers, which are empty if they make none. Nothing is written before all of the
-/// table is made.
+/// numbers of the first and the last of them; of the tape that these blocks make alone the number of its slots and of
+/// its pages, and their message identifiers, which are empty if they make none; and when the first packet and the last
+/// one came, in seconds from 1970-01-01T00:00:00Z on, which is empty if the file doesn't say it. Nothing is written
+/// before all of the table is made.
 pub fn cells_stream<R: Read, W: Write>(
     alloc: Global,
     source: &mut Source<R>,
@@ -47,11 +50,11 @@ pub fn cells_stream<R: Read, W: Write>(
     if input.len() > MAX_INPUT {
         return Err(TapeCommandFault::TooLong);
     }
-    let heard = match heard_in_capture(alloc, &input) {
-        Ok(heard) => heard,
+    let senders = match heard_in_capture(alloc, &input) {
+        Ok(senders) => senders,
         Err(fault) => return Err(fault_of_air(fault)),
     };
-    let Ok(output) = table_of(alloc, &input, &heard) else {
+    let Ok(output) = table_of(alloc, &input, &senders.times, &senders.heard) else {
         return Err(TapeCommandFault::Refused);
     };
     match write_all(sink, output.as_bytes()) {
@@ -61,25 +64,36 @@ pub fn cells_stream<R: Read, W: Write>(
 }
 
 /// The table of senders in a capture file.
-fn table_of(alloc: Global, input: &[u8], heard: &[Heard]) -> Result<String, AllocError>
+fn table_of(
+    alloc: Global,
+    input: &[u8],
+    times: &[Option<u64>],
+    heard: &[Heard],
+) -> Result<String, AllocError>
     requires { length input.now < 2 ^ 48 }
-    ensures { IfOk result (λ text. IsTableOf input.now heard.now (string_bytes text)) }
+    ensures { IfOk result (λ text. IsTableOf input.now times.now heard.now (string_bytes text)) }
 {
     let mut text = String::from_str(alloc, COLUMNS)?;
     for one in heard {
-        text.push_str(&row_of(alloc, input, one)?)?;
+        text.push_str(&row_of(alloc, input, times, one)?)?;
     }
     Ok(text)
 }
 
 /// The row of a sender in a capture file.
-fn row_of(alloc: Global, input: &[u8], one: &Heard) -> Result<String, AllocError>
+fn row_of(
+    alloc: Global,
+    input: &[u8],
+    times: &[Option<u64>],
+    one: &Heard,
+) -> Result<String, AllocError>
     requires { length input.now < 2 ^ 48 }
-    ensures { IfOk result (λ text. IsRowOf input.now one.now (string_bytes text)) }
+    ensures { IfOk result (λ text. IsRowOf input.now times.now one.now (string_bytes text)) }
 {
     let carried = carried_in(alloc, input, one.station)?;
     let mut text = sender_text(alloc, one)?;
     text.push_str(&carried_text(alloc, &carried)?)?;
+    text.push_str(&times_text(alloc, times, one)?)?;
     text.push_str("\n")?;
     Ok(text)
 }
@@ -96,6 +110,51 @@ fn carried_in(alloc: Global, input: &[u8], station: Station) -> Result<Option<Ca
             _ => Ok(None),
         },
     }
+}
+
+/// The columns of when a sender's first and last packets came, and the commas before them.
+fn times_text(alloc: Global, times: &[Option<u64>], one: &Heard) -> Result<String, AllocError>
+    ensures { IfOk result (λ text. string_bytes text ≡ times_text times.now one.now) }
+{
+    let first = time_text(alloc, time_of(times, one.first))?;
+    let last = time_text(alloc, time_of(times, one.last))?;
+    format!(in alloc; ",{first},{last}")
+}
+
+/// When the packet of a number came, from 1 on, of which these are the times.
+fn time_of(times: &[Option<u64>], number: u64) -> Option<u64>
+    ensures { result ≡ time_of times.now number }
+{
+    *times.get(number.saturating_sub(1) as usize)?
+}
+
+/// A time in seconds with nine decimals, or nothing.
+fn time_text(alloc: Global, time: Option<u64>) -> Result<String, AllocError>
+    ensures { IfOk result (λ text. string_bytes text ≡ time_text time) }
+{
+    match time {
+        Some(time) => seconds_text(alloc, time),
+        None => Ok(String::new(alloc)),
+    }
+}
+
+/// Nanoseconds as seconds with nine decimals.
+fn seconds_text(alloc: Global, time: u64) -> Result<String, AllocError>
+    ensures { IfOk result (λ text. string_bytes text ≡ seconds_text time) }
+{
+    let second = time / 1_000_000_000;
+    let thousandths = three_digits(alloc, time / 1_000_000 % 1000)?;
+    let millionths = three_digits(alloc, time / 1000 % 1000)?;
+    let billionths = three_digits(alloc, time % 1000)?;
+    format!(in alloc; "{second}.{thousandths}{millionths}{billionths}")
+}
+
+/// The three digits of a number below 1,000.
+fn three_digits(alloc: Global, number: u64) -> Result<String, AllocError>
+    ensures { IfOk result (λ text. string_bytes text ≡ three_digits number) }
+{
+    let (first, second, third) = (number / 100, number / 10 % 10, number % 10);
+    format!(in alloc; "{first}{second}{third}")
 }
 
 /// The first columns of a sender.
