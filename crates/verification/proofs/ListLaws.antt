@@ -1,8 +1,8 @@
 -- Lists that are read from a place on: what is done and what is left are the whole.
 use Rattle.std.proofs.Common.{◌≡◌, ℕ, ◌+◌, ◌<◌, Bool, true, false, cond, Some, List, [], ◌∷◌, ◌++◌, length, drop}
-use Rattle.std.proofs.Common.{drop-cons, get_or, find, suc, sym, ◌∙◌, ap, arith, append_assoc, append-nil, map}
-use Rattle.std.specs.Prelude.{◌&&◌}
-use Rattle.std.specs.List.{flat_map, list_all, range_with_len}
+use Rattle.std.proofs.Common.{drop-cons, filter, get_or, find, suc, sym, ◌∙◌, ap, arith, append_assoc, append-nil, map}
+use Rattle.std.specs.Prelude.{◌&&◌, ◌||◌}
+use Rattle.std.specs.List.{flat_map, list_all, list_any, range_with_len}
 use Rattle.std.proofs.lemmas.List.Concat.{flat_map-cons}
 
 -- the elements from a place on are the one there and those after it
@@ -78,3 +78,61 @@ pub any-missing : (test : ℕ → Bool) (a n m : ℕ) → n ≡ m + 1 → test a
 any-missing test a n m is fails =
     ap (list_all test) (range-next a n m is)
     ∙ ap (λ here. here && list_all test (range_with_len (a + 1) m)) fails
+
+-- some of a range pass if its first number does, and else if some of the others do
+pub any-here : (test : ℕ → Bool) (a n m : ℕ) → n ≡ m + 1 → test a ≡ true →
+    list_any test (range_with_len a n) ≡ true
+any-here test a n m is passes =
+    ap (list_any test) (range-next a n m is)
+    ∙ ap (λ here. here || list_any test (range_with_len (a + 1) m)) passes
+
+-- one that fails the test is left out of a range: of whether any passes it
+pub any-next : (test : ℕ → Bool) (a n m : ℕ) → n ≡ m + 1 → test a ≡ false →
+    list_any test (range_with_len a n) ≡ list_any test (range_with_len (a + 1) m)
+any-next test a n m is fails =
+    ap (list_any test) (range-next a n m is)
+    ∙ ap (λ here. here || list_any test (range_with_len (a + 1) m)) fails
+
+-- the first of a range that passes is its first number if that does, and else that of the others
+pub first-here : (test : ℕ → Bool) (a n m : ℕ) → n ≡ m + 1 → test a ≡ true → find test (range_with_len a n) ≡ Some a
+first-here test a n m is passes =
+    ap (find test) (range-next a n m is)
+    ∙ ap (λ here. cond here (Some a) (find test (range_with_len (a + 1) m))) passes
+
+-- of the first that passes it
+pub first-next : (test : ℕ → Bool) (a n m : ℕ) → n ≡ m + 1 → test a ≡ false →
+    find test (range_with_len a n) ≡ find test (range_with_len (a + 1) m)
+first-next test a n m is fails =
+    ap (find test) (range-next a n m is)
+    ∙ ap (λ here. cond here (Some a) (find test (range_with_len (a + 1) m))) fails
+
+-- those of a range that pass are its first number, if it does, and those of the others
+pub filter-range : (test : ℕ → Bool) (a n m : ℕ) (passes : Bool) → n ≡ m + 1 → test a ≡ passes →
+    filter test (range_with_len a n) ≡ cond passes (a ∷ []) [] ++ filter test (range_with_len (a + 1) m)
+filter-range test a n m true is says =
+    ap (filter test) (range-next a n m is)
+    ∙ ap (λ here. cond here (a ∷ filter test (range_with_len (a + 1) m)) (filter test (range_with_len (a + 1) m))) says
+filter-range test a n m false is says =
+    ap (filter test) (range-next a n m is)
+    ∙ ap (λ here. cond here (a ∷ filter test (range_with_len (a + 1) m)) (filter test (range_with_len (a + 1) m))) says
+
+-- a search in lists of at most one item, one for each number of a range
+pub begun-here : {X : Type 0} (test : X → Bool) (f : ℕ → List X) (a n m : ℕ) (x : X) → n ≡ m + 1 → f a ≡ x ∷ [] →
+    test x ≡ true → find test (flat_map f (range_with_len a n)) ≡ Some x
+begun-here test f a n m x is has passes =
+    ap (find test) (flat_map-range f a n m is ∙ ap (λ xs. xs ++ flat_map f (range_with_len (a + 1) m)) has)
+    ∙ ap (λ here. cond here (Some x) (find test (flat_map f (range_with_len (a + 1) m)))) passes
+
+-- and of the first among what numbers give, where a number gives one that fails
+pub begun-next : {X : Type 0} (test : X → Bool) (f : ℕ → List X) (a n m : ℕ) (x : X) → n ≡ m + 1 → f a ≡ x ∷ [] →
+    test x ≡ false →
+    find test (flat_map f (range_with_len a n)) ≡ find test (flat_map f (range_with_len (a + 1) m))
+begun-next test f a n m x is has fails =
+    ap (find test) (flat_map-range f a n m is ∙ ap (λ xs. xs ++ flat_map f (range_with_len (a + 1) m)) has)
+    ∙ ap (λ here. cond here (Some x) (find test (flat_map f (range_with_len (a + 1) m)))) fails
+
+-- or none
+pub begun-none : {X : Type 0} (test : X → Bool) (f : ℕ → List X) (a n m : ℕ) → n ≡ m + 1 → f a ≡ [] →
+    find test (flat_map f (range_with_len a n)) ≡ find test (flat_map f (range_with_len (a + 1) m))
+begun-none test f a n m is none =
+    ap (find test) (flat_map-range f a n m is ∙ ap (λ xs. xs ++ flat_map f (range_with_len (a + 1) m)) none)

@@ -9,3 +9,6 @@ pub mod Rows
 pub mod RowText
 pub mod Found
 pub mod FoundSteps
+pub mod Explained
+pub mod Table
+pub mod LineSteps

@@ -13,14 +13,14 @@ use std::alloc::AllocError;
 
 impl<'a> Asked<'a> {
     /// The slot from which a broadcast may be sent.
-    fn release(&self, broadcast: u16) -> u64
+    pub(crate) fn release(&self, broadcast: u16) -> u64
         ensures { result ≡ release_slot (asked_kept self.now) broadcast }
     {
         u64::from(self.start) + u64::from(broadcast) * u64::from(self.period)
     }
 
     /// The slot before which a broadcast is due.
-    fn due(&self, broadcast: u16) -> u64
+    pub(crate) fn due(&self, broadcast: u16) -> u64
         ensures { result ≡ due_slot (asked_kept self.now) broadcast }
     {
         let period = u64::from(self.period);
@@ -38,7 +38,7 @@ impl<'a> Asked<'a> {
     }
 
     /// Whether a broadcast was requested and is due by the stop and by the end of a run.
-    fn is_owed(&self, slots: u16, broadcast: u16) -> bool
+    pub(crate) fn is_owed(&self, slots: u16, broadcast: u16) -> bool
         ensures { result ≡ is_owed slots (asked_kept self.now) broadcast }
     {
         let due = self.due(broadcast);
@@ -48,7 +48,7 @@ impl<'a> Asked<'a> {
     }
 
     /// Of pages whose slots never fall, those that were sent from the release of a broadcast up to its due slot.
-    fn in_time<'p>(&self, pages: &'p [JudgedPage], broadcast: u16) -> &'p [JudgedPage]
+    pub(crate) fn in_time<'p>(&self, pages: &'p [JudgedPage], broadcast: u16) -> &'p [JudgedPage]
         requires { AllPairs (λ a b. a.slot ≤ b.slot) pages.now }
         ensures { result.now ≡ filter (is_in_time (asked_kept self.now) broadcast) pages.now }
     {
@@ -60,7 +60,7 @@ impl<'a> Asked<'a> {
     }
 
     /// Whether each page of the message was sent for a broadcast, as it was asked.
-    fn is_whole(&self, pages: &[JudgedPage], broadcast: u16) -> bool
+    pub(crate) fn is_whole(&self, pages: &[JudgedPage], broadcast: u16) -> bool
         requires { AllPairs (λ a b. a.slot ≤ b.slot) pages.now }
         ensures { result ≡ is_whole (asked_kept self.now) pages.now broadcast }
     {
@@ -75,7 +75,7 @@ impl<'a> Asked<'a> {
 }
 
 /// Whether the page of this number is among pages, as it was asked.
-fn has_right_page(pages: &[JudgedPage], number: usize) -> bool
+pub(crate) fn has_right_page(pages: &[JudgedPage], number: usize) -> bool
     ensures { result ≡ list_any (λ page. (page.number == number) && page.right) pages.now }
 {
     for page in pages {

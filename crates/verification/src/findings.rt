@@ -4,13 +4,20 @@ ghost use Rattle.std.specs.Prelude.{◌≡◌, ◌++◌, [], IfOk, OnOk, map};
 ghost use Rattle.std.specs.List.{flat_map, list_any};
 ghost use Rattle.cbsp_wire.specs.Range.{is_cell};
 ghost use Rattle.bsc_table.specs.Record.{Record};
-ghost use Rattle.verification.specs.Found.{AreRowsOfTaken, HasTaken, IsFoundIn, TakesTape, unjudged};
-ghost use Rattle.verification.specs.FoundSteps.{AreJudgedBy, IsJudgedBy, rows_of_state};
+ghost use Rattle.verification.specs.Found.{AreRowsOfTaken, HasTaken, IsFoundIn, IsTableOfTaken, TakesTape};
+ghost use Rattle.verification.specs.Found.{lines_told, unjudged};
+ghost use Rattle.verification.specs.FoundSteps.{AreJudgedBy, IsJudgedBy, explained_found, lines_of_state};
+ghost use Rattle.verification.specs.FoundSteps.{rows_of_found, rows_of_state, text_of_found};
 ghost use Rattle.verification.specs.Rows.{difference_row, is_known, tape_of};
+ghost use Rattle.verification.specs.Table.{other_line};
 
 use crate::cell::differences;
+use crate::detail::Detail;
 use crate::difference::Difference;
+use crate::explained::explained_lines;
+use crate::lines::{finding_line, header_line};
 use crate::row::{Finding, Row};
+use crate::text::text_of;
 use bsc_table::CellRecord;
 use cbsp_wire::Cell;
 use std::alloc::{AllocError, Global};
@@ -23,8 +30,8 @@ pub enum CellFinding {
     NoTape,
     /// Its tape has another number of slots than the run.
     OtherSlots,
-    /// Its tape has these differences.
-    Judged(Vec<Difference>),
+    /// Its tape has these differences, which the explained table, if it is wanted, tells in these lines.
+    Judged(Vec<Difference>, Vec<u8>),
 }
 
 /// A cell of the run, and what was found of it.
@@ -40,6 +47,7 @@ pub struct CellState {
 #[derive(Drop)]
 pub struct Findings {
     alloc: Global,
+    told: Detail,
     cells: Vec<CellState>,
     seen: Vec<Cell>,
     others: Vec<Row>,
@@ -50,22 +58,55 @@ impl Model for Findings {
 
     ghost Value = { FindingsState };
 
-    ghost view = { λ f. record { cells = f.cells.items; seen = f.seen.items; others = f.others.items } };
+    ghost view = { λ f. record {
+      told = f.told;
+      cells = f.cells.items;
+      seen = f.seen.items;
+      others = f.others.items;
+    } };
+}
+
+/// The rows of tapes, and the text of their table.
+#[derive(Drop)]
+pub struct Table {
+    /// The rows, as the plain table has them.
+    pub rows: Vec<Row>,
+    /// The text, plain or explained.
+    pub text: Vec<u8>,
+}
+
+/// The lines that the explained table has of a cell's differences, if that is wanted. The only error is out of memory.
+fn told_lines(
+    alloc: Global,
+    told: Detail,
+    run: &CellRecord,
+    blocks: &[[u8; 23]],
+    found: &[Difference],
+) -> Result<Vec<u8>, AllocError>
+    ensures { IfOk result (λ lines. lines.items ≡ lines_told told run.now blocks.now found.now) }
+{
+    match told {
+        Detail::Plain => Ok(Vec::new(alloc)),
+        Detail::Explained => explained_lines(alloc, run, blocks, found),
+    }
 }
 
 /// What was found of a cell by a tape of this many slots, with these blocks. The only error is out of memory.
 fn judge(
     alloc: Global,
+    told: Detail,
     run: &CellRecord,
     slots: u32,
     blocks: &[[u8; 23]],
 ) -> Result<CellFinding, AllocError>
-    ensures { IfOk result (IsFoundIn run.now slots blocks.now) }
+    ensures { IfOk result (IsFoundIn told run.now slots blocks.now) }
 {
     if slots != u32::from(run.slots()) {
         return Ok(CellFinding::OtherSlots);
     }
-    Ok(CellFinding::Judged(differences(alloc, run, blocks)?))
+    let found = differences(alloc, run, blocks)?;
+    let lines = told_lines(alloc, told, run, blocks, &found)?;
+    Ok(CellFinding::Judged(found, lines))
 }
 
 /// The cells of these records, before any tape. The only error is out of memory.
@@ -97,15 +138,16 @@ fn is_among(cells: &[Cell], cell: Cell) -> bool
 /// Judges a tape, if it is of a cell. The only error is out of memory.
 fn judge_cell(
     alloc: Global,
+    told: Detail,
     state: &mut CellState,
     cell: Cell,
     slots: u32,
     blocks: &[[u8; 23]],
 ) -> Result<(), AllocError>
-    ensures { OnOk result (IsJudgedBy (tape_of cell slots blocks.now) state.old state.new) }
+    ensures { OnOk result (IsJudgedBy told (tape_of cell slots blocks.now) state.old state.new) }
 {
     if state.run.cell() == cell {
-        state.finding = judge(alloc, &state.run, slots, blocks)?;
+        state.finding = judge(alloc, told, &state.run, slots, blocks)?;
     }
     Ok(())
 }
@@ -113,15 +155,16 @@ fn judge_cell(
 /// Judges a tape in each of some cells of which it is. The only error is out of memory.
 fn judge_cells(
     alloc: Global,
+    told: Detail,
     cells: &mut [CellState],
     cell: Cell,
     slots: u32,
     blocks: &[[u8; 23]],
 ) -> Result<(), AllocError>
-    ensures { OnOk result (AreJudgedBy (tape_of cell slots blocks.now) cells.old cells.new) }
+    ensures { OnOk result (AreJudgedBy told (tape_of cell slots blocks.now) cells.old cells.new) }
 {
     for place in 0..cells.len() {
-        judge_cell(alloc, &mut cells[place], cell, slots, blocks)?;
+        judge_cell(alloc, told, &mut cells[place], cell, slots, blocks)?;
     }
     Ok(())
 }
@@ -146,7 +189,7 @@ fn push_rows(rows: &mut Vec<Row>, state: &CellState) -> Result<(), AllocError>
     let finding = match &state.finding {
         CellFinding::NoTape => Finding::NoTape,
         CellFinding::OtherSlots => Finding::OtherSlots,
-        CellFinding::Judged(differences) => return push_differences(rows, cell, differences),
+        CellFinding::Judged(differences, _) => return push_differences(rows, cell, differences),
     };
     rows.push(Row { cell, finding })?;
     Ok(())
@@ -181,17 +224,22 @@ fn rows_of_cells(alloc: Global, cells: &[CellState]) -> Result<Vec<Row>, AllocEr
 }
 
 impl Findings {
-    /// Of no tapes, in a run with these records.
+    /// Of no tapes, in a run with these records; `told` is how much the table is to tell.
     ///
     /// # Errors
     ///
     /// Out of memory.
-    pub fn new(alloc: Global, records: Vec<CellRecord>) -> Result<Findings, AllocError>
-        ensures { IfOk result (λ findings. HasTaken records.items findings []) }
+    pub fn new(
+        alloc: Global,
+        told: Detail,
+        records: Vec<CellRecord>,
+    ) -> Result<Findings, AllocError>
+        ensures { IfOk result (λ findings. HasTaken told records.items findings []) }
     {
         let cells = unjudged_cells(alloc, records)?;
         Ok(Findings {
             alloc,
+            told,
             cells,
             seen: Vec::new(alloc),
             others: Vec::new(alloc),
@@ -218,7 +266,14 @@ impl Findings {
                 finding: Finding::SecondTape,
             })?;
         } else {
-            judge_cells(self.alloc, self.cells.as_mut_slice(), cell, slots, blocks)?;
+            judge_cells(
+                self.alloc,
+                self.told,
+                self.cells.as_mut_slice(),
+                cell,
+                slots,
+                blocks,
+            )?;
         }
         self.seen.push(cell)?;
         Ok(())
@@ -231,10 +286,81 @@ impl Findings {
     ///
     /// Out of memory.
     pub fn rows(&self) -> Result<Vec<Row>, AllocError>
-        ensures { IfOk result (λ rows. AreRowsOfTaken self.now rows.items) }
+        ensures taken { IfOk result (λ rows. AreRowsOfTaken self.now rows.items) }
+        ensures found { IfOk result (λ rows. rows.items ≡ rows_of_found self.now) }
     {
         let mut rows = rows_of_cells(self.alloc, &self.cells)?;
         rows.extend_from_slice(&self.others)?;
         Ok(rows)
     }
+
+    /// The rows, and the text of their table, with as much detail as was wanted.
+    ///
+    /// # Errors
+    ///
+    /// Out of memory.
+    pub fn table(&self) -> Result<Table, AllocError>
+        ensures { IfOk result (λ table. IsTableOfTaken self.now table.rows.items table.text.items) }
+    {
+        let rows = self.rows()?;
+        let text = self.text(&rows)?;
+        Ok(Table { rows, text })
+    }
+
+    /// The text of the rows. The only error is out of memory.
+    fn text(&self, rows: &[Row]) -> Result<Vec<u8>, AllocError>
+        ensures { IfOk result (λ text. text.items ≡ text_of_found self.now rows.now) }
+    {
+        match self.told {
+            Detail::Plain => {
+                let text = text_of(self.alloc, rows)?;
+                Ok(text.into_bytes())
+            }
+            Detail::Explained => self.explained(),
+        }
+    }
+
+    /// The explained table. The only error is out of memory.
+    fn explained(&self) -> Result<Vec<u8>, AllocError>
+        ensures { IfOk result (λ text. text.items ≡ explained_found self.now) }
+    {
+        let mut text = header_line(self.alloc)?;
+        push_cells(self.alloc, &mut text, &self.cells)?;
+        push_others(self.alloc, &mut text, &self.others)?;
+        Ok(text)
+    }
+}
+
+/// Appends the lines of a cell. The only error is out of memory.
+fn push_lines(alloc: Global, text: &mut Vec<u8>, state: &CellState) -> Result<(), AllocError>
+    ensures { OnOk result (text.new.items ≡ text.old.items ++ lines_of_state state.now) }
+{
+    let cell = state.run.cell();
+    let finding = match &state.finding {
+        CellFinding::NoTape => Finding::NoTape,
+        CellFinding::OtherSlots => Finding::OtherSlots,
+        CellFinding::Judged(_, lines) => return text.extend_from_slice(lines),
+    };
+    text.extend_from_slice(&finding_line(alloc, cell, &finding)?)
+}
+
+/// Appends the lines of cells, one after another. The only error is out of memory.
+fn push_cells(alloc: Global, text: &mut Vec<u8>, cells: &[CellState]) -> Result<(), AllocError>
+    ensures { OnOk result (text.new.items ≡ text.old.items ++ flat_map lines_of_state cells.now) }
+{
+    for state in cells {
+        push_lines(alloc, text, state)?;
+    }
+    Ok(())
+}
+
+/// Appends the lines of rows that tell of whole tapes. The only error is out of memory.
+fn push_others(alloc: Global, text: &mut Vec<u8>, rows: &[Row]) -> Result<(), AllocError>
+    ensures { OnOk result (text.new.items ≡ text.old.items ++ flat_map other_line rows.now) }
+{
+    for row in rows {
+        let line = finding_line(alloc, row.cell, &row.finding)?;
+        text.extend_from_slice(&line)?;
+    }
+    Ok(())
 }

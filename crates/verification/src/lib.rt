@@ -7,18 +7,24 @@
 mod asked;
 mod broadcasts;
 mod cell;
+mod detail;
 mod difference;
+mod explained;
 mod findings;
 mod judged;
+mod lines;
+mod lost;
 mod names;
 mod not_ordered;
+mod page_fields;
 mod pages;
 mod row;
 mod sent;
 mod text;
 
 pub use cell::differences;
+pub use detail::Detail;
 pub use difference::{Difference, Kind};
-pub use findings::Findings;
+pub use findings::{Findings, Table};
 pub use row::{Finding, Row};
 pub use text::text_of;

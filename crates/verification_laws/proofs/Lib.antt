@@ -15,3 +15,4 @@ pub mod OwnSlots
 pub mod OneList
 pub mod OneOrder
 pub mod OneRows
+pub mod OneTables

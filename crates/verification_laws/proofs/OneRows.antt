@@ -22,7 +22,8 @@ either-one : CellsDifferInOneList → (r : Record) (tape : TapeRecording) (same 
 either-one one r tape true rows other are also = judged-one one r tape rows other are also
 either-one one r tape false rows other are also = are ∙ sym also
 
-by-one : CellsDifferInOneList → (r : Record) (tape : Option TapeRecording) (rows other : List Row) →
+-- the rows of a cell by one tape are one list
+pub by-one : CellsDifferInOneList → (r : Record) (tape : Option TapeRecording) (rows other : List Row) →
     AreRowsBy r tape rows → AreRowsBy r tape other → rows ≡ other
 by-one one r None rows other are also = are ∙ sym also
 by-one one r (Some tape) rows other are also = either-one one r tape (tape.slots == r.slots) rows other are also

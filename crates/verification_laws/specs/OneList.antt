@@ -1,10 +1,12 @@
--- What is found of a tape is one list (own).
-use Rattle.std.specs.Prelude.{◌≡◌, ℕ, List}
+-- What is found of a tape is one list, and its table one text (own).
+use Rattle.std.specs.Prelude.{◌≡◌, ℕ, List, []}
 use Rattle.bsc_table.specs.Record.{Record}
+use Rattle.verification.specs.declared.detail.Detail.{Detail}
 use Rattle.verification.specs.declared.difference.Difference.{Difference}
 use Rattle.verification.specs.declared.row.Row.{Row}
 use Rattle.verification.specs.Difference.{AreDifferences}
 use Rattle.verification.specs.Rows.{AreRows}
+use Rattle.verification.specs.Table.{IsTable, empty_table}
 use Rattle.handset.specs.Recording.{TapeRecording}
 
 -- the differences between a cell's record and blocks are one list: no two that differ have one place in their order
@@ -20,3 +22,17 @@ TapesHaveOneListOfRows = (records : List Record) (tapes : List TapeRecording) (r
     → AreRows records tapes rows
     → AreRows records tapes other
     → rows ≡ other
+
+-- and so is their table, however much it tells
+abbrev pub TapesHaveOneTable : Type 0
+TapesHaveOneTable = (told : Detail) (records : List Record) (tapes : List TapeRecording) (rows other : List Row)
+    (text said : List ℕ)
+    → IsTable told records tapes rows text
+    → IsTable told records tapes other said
+    → (rows ≡ other) × (text ≡ said)
+
+-- the table of no rows has the names of its columns alone
+abbrev pub NoRowsAreAnEmptyTable : Type 0
+NoRowsAreAnEmptyTable = (told : Detail) (records : List Record) (tapes : List TapeRecording)
+    → AreRows records tapes []
+    → IsTable told records tapes [] (empty_table told)

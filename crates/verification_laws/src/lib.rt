@@ -4,7 +4,8 @@
 //! Nothing here runs: the crate is one law over the definitions of the crates below it.
 #![tactic(auto)]
 
-ghost use Rattle.verification_laws.specs.OneList.{CellsDifferInOneList, TapesHaveOneListOfRows};
+ghost use Rattle.verification_laws.specs.OneList.{CellsDifferInOneList, NoRowsAreAnEmptyTable};
+ghost use Rattle.verification_laws.specs.OneList.{TapesHaveOneListOfRows, TapesHaveOneTable};
 ghost use Rattle.verification_laws.specs.OwnTapes.{NoRowsAreFound, NothingIsFound, OwnTapesDifferNowhere};
 ghost use Rattle.verification_laws.specs.OwnTapes.{OwnTapesHaveNoRows, OwnTapesKeepTheirCells};
 ghost use Rattle.verification_laws.specs.Recorded.{RecordsAreRecorded};
@@ -18,6 +19,10 @@ pub fn verification_laws()
     // The differences of a cell's tape are one list, and so are the rows of all tapes.
     ensures cells_differ_in_one_list { CellsDifferInOneList }
     ensures tapes_have_one_list_of_rows { TapesHaveOneListOfRows }
+
+    // Their table, plain or explained, is one text, and has the names of its columns alone where there is no row.
+    ensures tapes_have_one_table { TapesHaveOneTable }
+    ensures no_rows_are_an_empty_table { NoRowsAreAnEmptyTable }
 
     // The blocks of a legal history have none of the differences.
     ensures own_tapes_differ_nowhere { OwnTapesDifferNowhere }

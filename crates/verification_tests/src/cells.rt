@@ -11,6 +11,8 @@
 //! - `found` judges the tape by the last run, and gives the first row; `next` gives the next one, and `none` after the
 //!   last.
 //! - `begin` has all runs await their tapes, `take CI` takes the tape as that cell's, and `rows` gives the first row.
+//!   `explain` is `begin` with an explained table. `table` makes the rows and gives none; `part FROM TO` gives these
+//!   octets of the row that is next, and `skip` passes over it.
 
 ghost use Rattle.std.specs.Prelude.{◌≡◌, ◌≤◌, length, All, IfOk};
 ghost use Rattle.bsc_table.specs.Orders.{IsWellFormed};
@@ -20,11 +22,11 @@ use bsc_table::{Answer, Category, CellBook, CellRecord, Command};
 use cbs_page::{Content, Dcs, Serial, paginate};
 use cbsp_wire::{Cell, Contents};
 use std::alloc::Global;
-use std::mem;
 use std::process::Abort;
 use std::test::Fail;
+use std::{mem, str};
 use test_support::{Row as Line, Words};
-use verification::{Finding, Findings, Row, differences, text_of};
+use verification::{Detail, Finding, Findings, Row, differences, text_of};
 
 /// Runs, a tape, and rows.
 #[derive(Drop)]
@@ -251,9 +253,9 @@ impl Cells {
     }
 
     /// Has all runs await their tapes.
-    fn begin(&mut self) -> Result<(), Fail> {
+    fn begin(&mut self, told: Detail) -> Result<(), Fail> {
         let runs = mem::replace(&mut self.runs, Vec::new(self.alloc));
-        let findings = Findings::new(self.alloc, runs)?;
+        let findings = Findings::new(self.alloc, told, runs)?;
         drop(self.findings.replace(findings));
         Ok(())
     }
@@ -271,13 +273,32 @@ impl Cells {
         }
     }
 
-    /// The rows of all tapes.
-    fn rows(&mut self) -> Result<String, Fail> {
-        let rows = match &self.findings {
-            Some(findings) => findings.rows()?,
+    /// Makes the rows of all tapes.
+    fn table(&mut self) -> Result<(), Fail> {
+        let table = match &self.findings {
+            Some(findings) => findings.table()?,
             None => return Err(Fail::new("nothing was found")),
         };
-        self.keep(rows.as_slice())
+        self.text = match str::from_utf8(&table.text) {
+            Ok(text) => String::from_str(self.alloc, text)?,
+            Err(_) => return Err(Fail::new("no text")),
+        };
+        self.lines = 1;
+        Ok(())
+    }
+
+    /// The first row of all tapes.
+    fn rows(&mut self) -> Result<String, Fail> {
+        self.table()?;
+        self.next()
+    }
+
+    /// Some octets of the row that is next.
+    fn part(&mut self, words: &mut Words) -> Result<String, Fail> {
+        let (from, to) = (words.number16()?, words.number16()?);
+        let row = self.text.split('\n').nth(self.lines).ok_or("no row")?;
+        let part = row.get(usize::from(from)..usize::from(to));
+        Ok(String::from_str(self.alloc, part.ok_or("no such octets")?)?)
     }
 
     /// Changes runs and the tape; false if the action isn't one that does.
@@ -286,8 +307,11 @@ impl Cells {
             "cell" => self.open(words)?,
             "play" => self.play(words.number16()?),
             "end" => self.end()?,
-            "begin" => self.begin()?,
+            "begin" => self.begin(Detail::Plain)?,
+            "explain" => self.begin(Detail::Explained)?,
             "take" => self.take(words)?,
+            "table" => self.table()?,
+            "skip" => self.lines = self.lines.saturating_add(1),
             _ => return self.tape.change(action, self.runs.last(), words),
         }
         Ok(true)
@@ -309,6 +333,7 @@ impl Cells {
             "found" => self.found(),
             "rows" => self.rows(),
             "next" => self.next(),
+            "part" => self.part(words),
             _ => Ok(String::from_str(self.alloc, "no such action")?),
         }
     }

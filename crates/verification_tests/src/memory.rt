@@ -7,7 +7,7 @@ use std::alloc::{AllocError, Global};
 use std::process::Abort;
 use std::test::Fail;
 use test_support::take_all;
-use verification::{Findings, differences, text_of};
+use verification::{Detail, Findings, differences};
 
 /// How many octets each block of the memory has that is given back.
 const BLOCK: usize = 1024;
@@ -20,9 +20,8 @@ fn count_of(alloc: Global, run: &CellRecord, blocks: &[[u8; 23]]) -> Result<usiz
 
 /// The length of the text of what a tape has.
 fn text_length(alloc: Global, findings: &Findings) -> Result<usize, AllocError> {
-    let rows = findings.rows()?;
-    let text = text_of(alloc, &rows)?;
-    Ok(text.len())
+    let table = findings.table()?;
+    Ok(table.text.len())
 }
 
 /// Blocks that are given back one after another, once all other memory is taken.
@@ -70,7 +69,7 @@ fn text_refusals(
         taken = taken || findings.take(cell, 12, blocks).is_ok();
         if taken {
             if let Ok(length) = text_length(alloc, findings) {
-                assert_eq!(rt; length, 33 + 38 + 33 + 39 + 38 + 39);
+                assert_eq!(rt; length, 46 + 59 + 47 + 74 + 73);
                 return refused;
             }
         }
@@ -103,7 +102,7 @@ fn refused_memory_leaves_the_tape(rt: HostRuntime) -> Result<(), Fail> {
     let mut taken = Vec::with_capacity(rt.alloc(), 100_000)?;
     let cells = expect_lines(&rt, rt.alloc(), TAMPERED, 17)?;
     let (runs, tape) = cells.into_runs();
-    let mut findings = Findings::new(rt.alloc(), runs)?;
+    let mut findings = Findings::new(rt.alloc(), Detail::Explained, runs)?;
     take_all(rt.alloc(), &mut taken);
     let refused = text_refusals(
         &rt,

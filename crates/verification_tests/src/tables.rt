@@ -312,6 +312,190 @@ next -> 1,2,4370,0010,2,broadcast 0 not whole
 next -> none
 ";
 
+/// What was expected and what came, of each kind of difference.
+const EXPLAINED: &str = "
+cell 7 10
+write 4370 0010 - normal 4 2 AB/CD -> Started { slot: 0 }
+end
+tape
+octet 4 7 00
+explain
+rows -> 1,7,,,,no tape,,
+take 7
+rows -> 1,7,4370,0010,1,page 2 reads otherwise,CD,@D
+next -> 1,7,4370,0010,4,broadcast 0 not whole,slots 0 to 3,pages 1 of 2
+next -> none
+
+# silence in slot 5, and a page too late in slot 9
+cell 7 10
+write 4370 0010 - normal 4 2 AB/CD -> Started { slot: 0 }
+end
+tape
+swap 5 9
+explain
+take 7
+take 7
+take 2
+rows -> 1,7,4370,0010,8,broadcast 1 not whole,slots 4 to 7,pages 1 of 2
+next -> 1,7,4370,0010,9,after its last broadcast,up to slot 8,CD
+next -> 1,7,,,,second tape,,
+next -> 1,2,,,,unknown cell,,
+next -> none
+
+# a message too late and one too early, and nothing of either in its time
+cell 8 12
+write 4371 0020 - normal 2 0 X -> Started { slot: 0 }
+play 5
+kill 4371 0020 -> Stopped { completed: 3 }
+play 1
+write 4371 0021 - normal 3 2 Y -> Started { slot: 6 }
+end
+blank
+idle 5
+send 4371 0021 en 1 1 Y
+send 4371 0020 en 1 1 X
+idle 5
+explain
+take 8
+rows -> 1,8,4371,0020,2,nothing sent from slot 0 to 3,broadcasts 0 to 1,nothing
+next -> 1,8,4371,0021,5,before its start,from slot 6,Y
+next -> 1,8,4371,0020,6,after its stop,up to slot 5,X
+next -> 1,8,4371,0021,9,nothing sent from slot 6 to 11,broadcasts 0 to 1,nothing
+next -> none
+
+# a tape of other slots, and its table as it was
+cell 8 12
+end
+blank
+idle 3
+begin
+take 8
+rows -> 1,8,,,,other slots
+next -> none
+cell 8 12
+end
+explain
+take 8
+rows -> 1,8,,,,other slots,,
+next -> none
+";
+
+/// Broadcasts of which nothing came: three one after another, and two and one.
+const LOST: &str = "
+cell 5 8
+write 4372 0032 - normal 2 0 N -> Started { slot: 0 }
+end
+tape
+silence 2
+silence 4
+silence 6
+explain
+take 5
+rows -> 1,5,4372,0032,4,nothing sent from slot 2 to 7,broadcasts 1 to 3,nothing
+next -> none
+cell 5 8
+write 4372 0032 - normal 2 0 N -> Started { slot: 0 }
+end
+tape
+silence 0
+silence 2
+silence 6
+begin
+take 5
+rows -> 1,5,4372,0032,2,broadcast 0 not whole
+next -> 1,5,4372,0032,4,broadcast 1 not whole
+next -> 1,5,4372,0032,8,broadcast 3 not whole
+next -> none
+cell 5 8
+write 4372 0032 - normal 2 0 N -> Started { slot: 0 }
+end
+explain
+take 5
+rows -> 1,5,4372,0032,2,nothing sent from slot 0 to 3,broadcasts 0 to 1,nothing
+next -> 1,5,4372,0032,8,broadcast 3 not whole,slots 6 to 7,nothing
+next -> none
+
+# a wrong page isn't one that came, and of three pages the first and the last did
+cell 5 8
+write 4372 0032 - normal 4 0 N/O -> Started { slot: 0 }
+end
+blank
+send 4372 0032 en 1 2 M
+idle 4
+send 4372 0032 en 2 2 O
+idle 2
+explain
+take 5
+rows -> 1,5,4372,0032,0,page 1 reads otherwise,N,M
+next -> 1,5,4372,0032,4,broadcast 0 not whole,slots 0 to 3,nothing
+next -> 1,5,4372,0032,8,broadcast 1 not whole,slots 4 to 7,pages 2 of 2
+next -> none
+";
+
+/// Pages as octets, and texts that CSV quotes. The content of a page of A is C1 46 A3 D1 68 34 1A, ten times 8D 46 A3
+/// D1 68 34 1A and then 8D 46 A3 D1 00: all its other characters are carriage returns.
+const OCTETS: &str = "
+cell 9 8
+write 4370 0010 - high 4 2 A/B -> Started { slot: 0 }
+end
+tape
+
+# page 3 of 2 is none of the order's
+octet 4 6 32
+explain
+take 9
+rows -> 1,9,4370,0010,1,page 3 reads otherwise,,B
+next -> 1,9,4370,0010,4,broadcast 0 not whole,slots 0 to 3,pages 1 of 2
+next -> none
+
+# page 1 of 3 in slot 0, whose text is right: both are told as octets
+cell 9 8
+write 4370 0010 - high 4 2 A/B -> Started { slot: 0 }
+end
+tape
+octet 0 6 13
+explain
+take 9
+table
+part 0 39 -> 1,9,4370,0010,0,page 1 reads otherwise,
+part 39 79 -> 001011120112c146a3d168341a8d46a3d168341a
+part 205 216 -> 8d46a3d100,
+part 216 256 -> 001011120113c146a3d168341a8d46a3d168341a
+part 382 392 -> 8d46a3d100
+skip
+next -> 1,9,4370,0010,4,broadcast 0 not whole,slots 0 to 3,pages 2 of 2
+next -> none
+
+# page 2 in a reserved data coding, a page that nobody ordered in the same, and one with a comma and a quotation mark
+cell 9 8
+write 4370 0010 - high 4 2 A/B -> Started { slot: 0 }
+end
+tape
+octet 4 5 F4
+explain
+take 9
+table
+part 0 41 -> 1,9,4370,0010,1,page 2 reads otherwise,B,
+part 41 67 -> 00101112f422c246a3d168341a
+skip
+next -> 1,9,4370,0010,4,broadcast 0 not whole,slots 0 to 3,pages 1 of 2
+next -> none
+cell 9 2
+end
+blank
+send 4370 0011 en 1 1 A
+send 4370 0012 en 1 1 A,\"B\"
+octet 0 5 F4
+explain
+take 9
+table
+part 0 29 -> 1,9,4370,0011,0,not ordered,,
+part 29 55 -> 00111112f411c146a3d168341a
+skip
+next -> 1,9,4370,0012,1,not ordered,,\"A,\"\"B\"\"\"
+next -> none
+";
+
 #[test]
 fn two_pages(rt: HostRuntime) -> Result<(), Fail> {
     let cells = expect_lines(&rt, rt.alloc(), TWO_PAGES, 23)?;
@@ -343,6 +527,27 @@ fn owed(rt: HostRuntime) -> Result<(), Fail> {
 #[test]
 fn runs(rt: HostRuntime) -> Result<(), Fail> {
     let cells = expect_lines(&rt, rt.alloc(), RUNS, 44)?;
+    drop(cells);
+    Ok(())
+}
+
+#[test]
+fn explained(rt: HostRuntime) -> Result<(), Fail> {
+    let cells = expect_lines(&rt, rt.alloc(), EXPLAINED, 58)?;
+    drop(cells);
+    Ok(())
+}
+
+#[test]
+fn lost(rt: HostRuntime) -> Result<(), Fail> {
+    let cells = expect_lines(&rt, rt.alloc(), LOST, 46)?;
+    drop(cells);
+    Ok(())
+}
+
+#[test]
+fn octets(rt: HostRuntime) -> Result<(), Fail> {
+    let cells = expect_lines(&rt, rt.alloc(), OCTETS, 53)?;
     drop(cells);
     Ok(())
 }

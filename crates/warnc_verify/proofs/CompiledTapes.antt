@@ -19,6 +19,7 @@ use Rattle.handset.specs.Recording.{AreJoinedRecordings, AreRecordings, HoldsRec
 use Rattle.short_pages.specs.Slots.{recording_by}
 use Rattle.short_pages.specs.declared.pages.Pages.TheVariants.{OfFour}
 use Rattle.verification.specs.Rows.{AreRows}
+use Rattle.verification_laws.specs.OneList.{NoRowsAreAnEmptyTable}
 use Rattle.verification_laws.specs.OwnTapes.{AreOwnTapes, OwnTapesHaveNoRows, recording_of}
 use Rattle.verification_laws.specs.Recorded.{RecordsAreRecorded}
 use Rattle.warnc_run.specs.Products.{IsCompiledFrom}
@@ -87,17 +88,18 @@ as_they_are [] = refl
 as_they_are (tape ∷ tapes) = ap (λ (rest : List TapeRecording). tape ∷ rest) (as_they_are tapes)
 
 -- the tapes of a compiled book have no difference from it
-pub compiled-differs-nowhere : CellsAreValid → RecordsAreRecorded → OwnTapesHaveNoRows → CompiledDiffersNowhere
-compiled-differs-nowhere valid recorded rows from slots input output few compiled = (
-  record {
-    records = compiled.records;
-    run = compiled.run;
-    recordings = map recording_of compiled.records;
-    recordings_are = recordings from slots input output compiled few valid recorded;
-    rows_are = subst (λ (tapes : List TapeRecording). AreRows compiled.records tapes [])
-        (sym (as_they_are (map recording_of compiled.records)))
-        (rows compiled.records (map recording_of compiled.records)
-        (own-tapes from slots input output compiled valid));
-  },
-  refl,
-)
+pub compiled-differs-nowhere : CellsAreValid → RecordsAreRecorded → OwnTapesHaveNoRows → NoRowsAreAnEmptyTable
+    → CompiledDiffersNowhere
+compiled-differs-nowhere valid recorded rows empty from slots told input output few compiled =
+    let none = subst (λ (tapes : List TapeRecording). AreRows compiled.records tapes [])
+    (sym (as_they_are (map recording_of compiled.records)))
+    (rows compiled.records (map recording_of compiled.records) (own-tapes from slots input output compiled valid)) in (
+      record {
+        records = compiled.records;
+        run = compiled.run;
+        recordings = map recording_of compiled.records;
+        recordings_are = recordings from slots input output compiled few valid recorded;
+        rows_are = none;
+      },
+      (empty told compiled.records (map (recording_by OfFour) (map recording_of compiled.records)) none).text_is,
+    )

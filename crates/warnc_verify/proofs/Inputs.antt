@@ -1,10 +1,22 @@
 -- The octets of a book and of tapes that were read.
 use Rattle.std.proofs.Common.{◌≡◌, ℕ, ◌<◌, List, [], ◌∷◌, ◌++◌, Option, None, Some, IfSome}
-use Rattle.std.proofs.Common.{length, drop, refl, sym, ap, ◌∙◌, subst, arith, append-nil}
+use Rattle.std.proofs.Common.{length, drop, map, refl, sym, ap, ◌∙◌, subst, arith, append-nil}
+use Rattle.std.specs.Prelude.{codes, if◌then◌else◌}
+use Rattle.std.specs.List.{flat_map}
+use Rattle.csv.specs.Writing.{default_writer, is_blank, row_body, row_text}
 use Rattle.std.specs.Io.KnownBytes.{Consumes, IsAtEnd}
 use Rattle.alert_book.specs.declared.network.Origin.{Origin}
 use Rattle.short_pages.specs.declared.pages.Pages.{Pages}
+use Rattle.std.proofs.lemmas.List.{length-append}
+use Rattle.bsc_table.specs.Record.{Record}
+use Rattle.handset.specs.Recording.{TapeRecording}
+use Rattle.short_pages.specs.Slots.{recording_by}
 use Rattle.verification.specs.RowText.{rows_text}
+use Rattle.verification.specs.Rows.{other_rows}
+use Rattle.verification.specs.Table.{IsTextOf, other_line}
+use Rattle.verification.specs.declared.detail.Detail.{Detail}
+use Rattle.verification.specs.declared.detail.Detail.TheVariants as detail
+use Rattle.verification.specs.declared.row.Row.{Row}
 use Rattle.warnc_verify.specs.Verified.{IsVerified}
 
 -- what was read of octets to their end is these octets
@@ -30,9 +42,28 @@ octets_of P (Some input) is some = (input, refl, is)
 longer : (x : ℕ) (xs : List ℕ) → 0 < length (x ∷ xs)
 longer x xs = omega arith
 
--- the table of verified tapes is never empty: it has the line of the columns' names
-pub some_table : (from : Origin) (slots : ℕ) (pages : Pages) (book tapes output : List ℕ)
-    → IsVerified from slots pages book tapes output
+ended : (xs ys rest : List ℕ) (x : ℕ) → 0 < length ((xs ++ (ys ++ x ∷ [])) ++ rest)
+ended xs ys rest x =
+    omega (arith, length-append (xs ++ (ys ++ x ∷ [])) rest, length-append xs (ys ++ x ∷ []), length-append ys (x ∷ []))
+
+some_row : (fields : List (List ℕ)) (rest : List ℕ) → 0 < length (row_text default_writer fields ++ rest)
+some_row fields rest =
+    ended (row_body default_writer fields) (if is_blank default_writer fields then 34 ∷ 34 ∷ [] else []) rest 10
+
+-- a table is never empty, plain or explained: it has the line of the columns' names
+some_text : (told : Detail) (records : List Record) (tapes : List TapeRecording) (rows : List Row) (output : List ℕ)
+    → IsTextOf told records tapes rows output
     → 0 < length output
-some_table from slots pages book tapes output is =
-    subst (λ (octets : List ℕ). 0 < length octets) (sym is.1) (longer 108 (drop 1 (rows_text [])))
+some_text detail.Plain records tapes rows output is =
+    subst (λ (octets : List ℕ). 0 < length octets) (sym is) (longer 108 (drop 1 (rows_text rows)))
+some_text detail.Explained records tapes rows output is =
+    subst (λ (octets : List ℕ). 0 < length octets) (sym is.text_is)
+    (some_row (codes "lac" ∷ codes "ci" ∷ codes "id" ∷ codes "serial" ∷ codes "slot" ∷ codes "difference"
+    ∷ codes "expected" ∷ codes "got" ∷ []) (is.lines ++ flat_map other_line (other_rows records [] tapes)))
+
+-- so the table of verified tapes isn't
+pub some_table : (from : Origin) (slots : ℕ) (pages : Pages) (told : Detail) (book tapes output : List ℕ)
+    → IsVerified from slots pages told book tapes output
+    → 0 < length output
+some_table from slots pages told book tapes output is =
+    some_text told is.0.records (map (recording_by pages) is.0.recordings) [] output is.1

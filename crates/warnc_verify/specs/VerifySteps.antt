@@ -5,15 +5,16 @@ use Rattle.device_ends.specs.Moves.{AppendsFront}
 use Rattle.handset.specs.Tape.{IsTapesFault}
 use Rattle.bsc_table.specs.Record.{Record}
 use Rattle.short_pages.specs.declared.pages.Pages.{Pages}
-use Rattle.verification.specs.RowText.{rows_text}
+use Rattle.verification.specs.declared.detail.Detail.{Detail}
 use Rattle.verification.specs.declared.row.Row.{Row}
 use Rattle.warnc_run.specs.Records.{IsRecordsFault}
-use Rattle.warnc_verify.specs.Verified.{Readers, RunsBook}
+use Rattle.warnc_verify.specs.Verified.{Finds, IsTextBy, Readers, RunsBook}
 use Rattle.warnc_verify.specs.declared.fault.VerifyFault.{VerifyFault}
 use Rattle.warnc_verify.specs.declared.fault.VerifyFault.TheVariants as faults
 
--- what tapes are judged by: the records of a run, and which of their pages are read
+-- what tapes are judged by: the records of a run, and which of their pages are read; and how much is told
 pub record Judged : Type 0 where
+  pub told : Detail
   pub records : List Record
   pub pages : Pages
 
@@ -25,8 +26,14 @@ IsRowsFault from slots ends (faults.Tapes f) =
 IsRowsFault from slots ends faults.Refused = ⊤
 IsRowsFault from slots ends other = ⊥
 
--- why a table wasn't written
-abbrev pub IsTableFault : (old new : Option (List ℕ)) → List Row → VerifyFault → Type 0
-IsTableFault old new rows faults.WriteFailed = AppendsFront old new (rows_text rows)
-IsTableFault old new rows faults.Refused = ⊤
-IsTableFault old new rows other = ⊥
+-- why a text wasn't written
+abbrev pub IsTextFault : (old new : Option (List ℕ)) → (text : List ℕ) → VerifyFault → Type 0
+IsTextFault old new text faults.WriteFailed = AppendsFront old new text
+IsTextFault old new text other = ⊥
+
+-- what was found, and its text
+abbrev pub FindsText : (from : Origin) (slots : ℕ) (pages : Pages) (told : Detail) → Readers → List Row
+    → (text : List ℕ) → Type 0
+FindsText from slots pages told ends rows text =
+    (finds : Finds from slots pages ends rows)
+    × IsTextBy pages told finds.differ.records finds.differ.recordings rows text

@@ -1,6 +1,6 @@
 //! The command `verify`: a book of alerts and tapes to their differences.
 
-ghost use Rattle.std.specs.Prelude.{◌≡◌, ◌↔◌, [], false, true, IfErr, IfOk, IsErrOf, IsTrue, OnOk};
+ghost use Rattle.std.specs.Prelude.{◌≡◌, ◌↔◌, [], false, true, IfErr, IfOk, IsErrOf, IsTrue, OnErr, OnOk};
 ghost use Rattle.std.specs.Io.KnownBytes.{Appends};
 ghost use Rattle.device_ends.specs.Sink.{sink_failed};
 ghost use Rattle.device_ends.specs.Source.{source_failed};
@@ -8,9 +8,8 @@ ghost use Rattle.device_ends.specs.Stream.{Writes};
 ghost use Rattle.alert_book.specs.Book.{unread};
 ghost use Rattle.handset.specs.declared.tape.TapeFault.TheVariants as tape;
 ghost use Rattle.warnc_run.specs.declared.fault.RunFault.TheVariants as run;
-ghost use Rattle.verification.specs.RowText.{rows_text};
-ghost use Rattle.warnc_verify.specs.VerifySteps.{IsRowsFault, IsTableFault};
-ghost use Rattle.warnc_verify.specs.Verified.{readers_of, Finds, FindsAndWrites, IsDifference, IsOfBookOrRun};
+ghost use Rattle.warnc_verify.specs.VerifySteps.{FindsText, IsRowsFault, IsTextFault};
+ghost use Rattle.warnc_verify.specs.Verified.{readers_of, FindsAndWrites, IsDifference, IsOfBookOrRun};
 ghost use Rattle.warnc_verify.specs.Verified.{IsVerifyFault};
 ghost use Rattle.warnc_verify.specs.Verified.{HasWritten};
 ghost use Rattle.warnc_verify.specs.declared.fault.VerifyFault.TheVariants as faults;
@@ -21,23 +20,24 @@ use alert_book::Origin;
 use device_ends::{Failed, Sink, Source, write_all};
 use handset::record_each;
 use short_pages::Pages;
-use std::alloc::Global;
 use std::io::{Read, Write};
 use std::sync::Wait;
 use std::thread::Threads;
-use verification::{Findings, Row, text_of};
+use verification::{Detail, Findings, Table};
 use warnc_run::{Workers, run_book};
 
 /// Reads a book, or a network book for a group, has its cells carry out what its one session orders, in runs of `slots`
 /// slots, as [`compile_stream`](warnc_run::compile_stream) does, reads tapes up to their end, and writes a row for each
 /// difference between what the cells were asked and what the tapes send, and for each cell without a tape and tape
-/// without a cell (`AreRows`). Nothing is written before all is known. `workers` workers play the cells.
+/// without a cell (`AreRows`). With [`Detail::Explained`] a row has what was expected and what came too, and one row
+/// stands for all broadcasts of a message one after another of which nothing came (`IsExplained`). Nothing is written
+/// before all is known. `workers` workers play the cells.
 ///
 /// # Errors
 ///
-/// [`VerifyFault::Differences`] if there is one row or more: all of them are written then, as is the line of the
-/// columns' names alone if there is none. With any other fault nothing is written, but after
-/// [`VerifyFault::WriteFailed`] a front of the table may be out.
+/// [`VerifyFault::Differences`] if there is one row or more, counted as the plain table has them: the table is written
+/// then, as is the line of the columns' names alone if there is none. With any other fault nothing is written, but
+/// after [`VerifyFault::WriteFailed`] a front of the table may be out.
 pub fn verify_stream<T: AllocGlobal + Threads + Wait + Sync, B: Read, R: Read, W: Write>(
     rt: &T,
     book: &mut Source<B>,
@@ -46,11 +46,12 @@ pub fn verify_stream<T: AllocGlobal + Threads + Wait + Sync, B: Read, R: Read, W
     origin: Origin,
     slots: u16,
     pages: Pages,
+    told: Detail,
     workers: Workers,
 ) -> Result<(), VerifyFault>
-    ensures ok { OnOk result (Writes W.contents (λ old new. FindsAndWrites origin slots pages
+    ensures ok { OnOk result (Writes W.contents (λ old new. FindsAndWrites origin slots pages told
         (readers_of B.remaining R.remaining book.old book.new tapes.old tapes.new) old new []) sink.old sink.new) }
-    ensures err { IfErr result (λ fault. Writes W.contents (λ old new. IsVerifyFault origin slots pages
+    ensures err { IfErr result (λ fault. Writes W.contents (λ old new. IsVerifyFault origin slots pages told
         (readers_of B.remaining R.remaining book.old book.new tapes.old tapes.new) old new fault) sink.old sink.new) }
 
     // At any readers and any writer: which end failed is reported, the book's first, and what failed before is as it
@@ -70,26 +71,27 @@ pub fn verify_stream<T: AllocGlobal + Threads + Wait + Sync, B: Read, R: Read, W
     ensures tapes_stay { source_failed tapes.old ≡ true → tapes.new ≡ tapes.old }
     ensures sink_stays { sink_failed sink.old ≡ true → sink.new ≡ sink.old }
 {
-    let rows = rows_of(rt, book, tapes, origin, slots, pages, workers)?;
-    write_rows(rt.alloc(), &rows, sink)?;
-    match rows.len() {
+    let table = table_of(rt, book, tapes, origin, slots, pages, told, workers)?;
+    write_text(sink, &table.text)?;
+    match table.rows.len() {
         0 => Ok(()),
         count => Err(VerifyFault::Differences(count)),
     }
 }
 
-/// The rows of tapes beside the run of a book.
-fn rows_of<T: AllocGlobal + Threads + Wait + Sync, B: Read, R: Read>(
+/// The table of tapes beside the run of a book.
+fn table_of<T: AllocGlobal + Threads + Wait + Sync, B: Read, R: Read>(
     rt: &T,
     book: &mut Source<B>,
     tapes: &mut Source<R>,
     origin: Origin,
     slots: u16,
     pages: Pages,
+    told: Detail,
     workers: Workers,
-) -> Result<Vec<Row>, VerifyFault>
-    ensures ok { IfOk result (λ rows. Finds origin slots pages
-        (readers_of B.remaining R.remaining book.old book.new tapes.old tapes.new) rows.items) }
+) -> Result<Table, VerifyFault>
+    ensures ok { IfOk result (λ table. FindsText origin slots pages told
+        (readers_of B.remaining R.remaining book.old book.new tapes.old tapes.new) table.rows.items table.text.items) }
     ensures err { IfErr result (λ fault. IsRowsFault origin slots
         (readers_of B.remaining R.remaining book.old book.new tapes.old tapes.new) fault) }
     ensures book_failed { IsErrOf result (faults.Run (run.Book unread)) ↔ IsTrue (source_failed book.new) }
@@ -106,26 +108,23 @@ fn rows_of<T: AllocGlobal + Threads + Wait + Sync, B: Read, R: Read>(
     let mut judge = Judge {
         alloc,
         pages,
-        findings: Findings::new(alloc, records)?,
+        findings: Findings::new(alloc, told, records)?,
     };
     record_each(alloc, tapes, &mut judge)?;
-    let rows = judge.findings.rows()?;
-    Ok(rows)
+    let table = judge.findings.table()?;
+    Ok(table)
 }
 
-/// Writes the table of some rows. Nothing is written before all of it is made.
-fn write_rows<W: Write>(alloc: Global, rows: &[Row], sink: &mut Sink<W>) -> Result<(), VerifyFault>
-    ensures ok { OnOk result (Writes W.contents (λ old new. Appends old new (rows_text rows.now))
+/// Writes a text.
+fn write_text<W: Write>(sink: &mut Sink<W>, text: &[u8]) -> Result<(), VerifyFault>
+    ensures ok { OnOk result (Writes W.contents (λ old new. Appends old new text.now) sink.old sink.new) }
+    ensures err { IfErr result (λ fault. Writes W.contents (λ old new. IsTextFault old new text.now fault)
         sink.old sink.new) }
-    ensures err { IfErr result (λ fault. Writes W.contents (λ old new. IsTableFault old new rows.now fault)
-        sink.old sink.new) }
-    ensures failed { IsErrOf result faults.WriteFailed → sink_failed sink.new ≡ true }
+    ensures failed { OnErr result (sink_failed sink.new ≡ true) }
     ensures written { OnOk result (sink_failed sink.new ≡ false) }
-    ensures refused { IsErrOf result faults.Refused → sink.new ≡ sink.old }
     ensures stays { sink_failed sink.old ≡ true → sink.new ≡ sink.old }
 {
-    let text = text_of(alloc, rows)?;
-    match write_all(sink, text.as_bytes()) {
+    match write_all(sink, text) {
         Ok(()) => Ok(()),
         Err(Failed) => Err(VerifyFault::WriteFailed),
     }

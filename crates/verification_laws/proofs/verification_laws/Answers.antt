@@ -6,6 +6,7 @@ use Rattle.verification_laws.specs.OwnTapes.{NothingIsFound, OwnTapesKeepTheirCe
 use Rattle.verification_laws.proofs.NoOthers.{no-others}
 use Rattle.verification_laws.proofs.OneOrder.{one-list-of-differences}
 use Rattle.verification_laws.proofs.OneRows.{one-list-of-rows}
+use Rattle.verification_laws.proofs.OneTables.{empty-table, one-table}
 use Rattle.verification_laws.proofs.OwnRuns.{kept-cells, no-rows-found, runs-kept}
 use Rattle.verification_laws.proofs.OwnSlots.{recorded}
 use Rattle.verification_laws.proofs.OwnTapes.{nothing-found, own-tapes}
@@ -41,6 +42,8 @@ returns c =
     record {
       cells_differ_in_one_list = one-list-of-differences;
       tapes_have_one_list_of_rows = one-list-of-rows one-list-of-differences;
+      tapes_have_one_table = one-table one-list-of-differences;
+      no_rows_are_an_empty_table = empty-table;
       own_tapes_differ_nowhere = own-tapes laws once;
       own_tapes_keep_their_cells = kept;
       nothing_is_found = nothing;

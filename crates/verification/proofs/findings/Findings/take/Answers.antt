@@ -2,6 +2,7 @@ use Rattle.std.proofs.Common.{◌≡◌, ◌∙◌, ◌++◌, ◌∷◌, [], ap,
 use Rattle.std.specs.List.{list_any}
 use Rattle.std.proofs.lemmas.List.{with_items_is}
 use Rattle.cbsp_wire.specs.Range.{is_cell}
+use Rattle.verification.specs.declared.detail.Detail.{Detail}
 use Rattle.verification.specs.declared.findings.CellState.{CellState}
 use Rattle.verification.specs.declared.findings.Findings.TheInside.{Inside}
 use Rattle.verification.specs.declared.row.Finding.TheVariants as findings
@@ -20,6 +21,7 @@ tape c = tape_of c.args.cell c.args.slots c.args.blocks.now
 
 new : (c : goal.In_ok-push-3) → FindingsState
 new c = record {
+  told = c.if-not-is_known.self-inside.told;
   cells = c.if-not-is_known.self-inside.cells.items;
   seen = c.push-2.new.self.items;
   others = c.if-not-is_known.self-inside.others.items;
@@ -35,8 +37,9 @@ known c =
 
 pub returns : goal.returns
 unfolding tape new
-returns c = λ records tapes taken. elim c.if-not-is_known.branch [
-  | then-not-is_known+in_ok-push w ↦ taken-unknown records c.args.self.now (new c) tapes (tape c) taken
+returns c = λ told records tapes taken. elim c.if-not-is_known.branch [
+  | then-not-is_known+in_ok-push w ↦ taken-unknown told records c.args.self.now (new c) tapes (tape c)
+      (ap (λ (i : Inside). i.told) w.self-inside-is ∙ ap (λ (f : FindingsState). f.told) c.self.view_is) taken
       (known c ∙ w.if-not-is_known.true)
       (ap (λ (i : Inside). i.cells.items) w.self-inside-is ∙ ap (λ (f : FindingsState). f.cells) c.self.view_is)
       (c.in_ok-push-3.ensures.items
@@ -44,7 +47,8 @@ returns c = λ records tapes taken. elim c.if-not-is_known.branch [
       ∙ ap (λ (f : FindingsState). f.seen ++ c.args.cell ∷ []) c.self.view_is)
       (ap (λ (i : Inside). i.others.items) w.self-inside-is ∙ w.in_ok-push.ensures.items
       ∙ ap (λ (f : FindingsState). f.others ++ finding_row c.args.cell findings.UnknownCell ∷ []) c.self.view_is)
-  | else-not-is_known+then-is_among+in_ok-push-2 w ↦ taken-second records c.args.self.now (new c) tapes (tape c) taken
+  | else-not-is_known+then-is_among+in_ok-push-2 w ↦ taken-second told records c.args.self.now (new c) tapes (tape c)
+      (ap (λ (i : Inside). i.told) w.self-inside-is ∙ ap (λ (f : FindingsState). f.told) c.self.view_is) taken
       (known c ∙ w.if-not-is_known.false)
       (ap (λ (f : FindingsState). list_any (is_cell c.args.cell) f.seen) (sym c.self.view_is)
       ∙ ap (list_any (is_cell c.args.cell)) (sym w.deref-else-not-is_known.ensures.value)
@@ -55,19 +59,23 @@ returns c = λ records tapes taken. elim c.if-not-is_known.branch [
       ∙ ap (λ (f : FindingsState). f.seen ++ c.args.cell ∷ []) c.self.view_is)
       (ap (λ (i : Inside). i.others.items) w.self-inside-is ∙ w.in_ok-push-2.ensures.items
       ∙ ap (λ (f : FindingsState). f.others ++ finding_row c.args.cell findings.SecondTape ∷ []) c.self.view_is)
-  | else-not-is_known+else-is_among+in_ok-judge_cells w ↦ taken-first records c.args.self.now (new c) tapes (tape c)
+  | else-not-is_known+else-is_among+in_ok-judge_cells w ↦ taken-first told records c.args.self.now (new c) tapes
+      (tape c)
+      (ap (λ (i : Inside). i.told) w.self-inside-is ∙ ap (λ (f : FindingsState). f.told) c.self.view_is)
       taken
       (known c ∙ w.if-not-is_known.false)
       (ap (λ (f : FindingsState). list_any (is_cell c.args.cell) f.seen) (sym c.self.view_is)
       ∙ ap (list_any (is_cell c.args.cell)) (sym w.deref-else-not-is_known.ensures.value)
       ∙ sym w.is_among.ensures ∙ w.if-is_among.false)
-      (subst (AreJudgedBy (tape c) c.args.self.now.cells)
+      (subst (λ (t : Detail). AreJudgedBy t (tape c) c.args.self.now.cells (new c).cells)
+      (ap (λ (f : FindingsState). f.told) c.self.view_is ∙ taken.told_is)
+      (subst (AreJudgedBy c.self.inside.told (tape c) c.args.self.now.cells)
       (sym (ap (λ (i : Inside). i.cells.items) w.self-inside-is
       ∙ with_items_is c.self.inside.cells w.judge_cells.new.cells
       (w.in_ok-judge_cells.ensures.long ∙ w.as_mut_slice.ensures.len ∙ refl)))
-      (subst (λ cells. AreJudgedBy (tape c) cells w.judge_cells.new.cells)
+      (subst (λ cells. AreJudgedBy c.self.inside.told (tape c) cells w.judge_cells.new.cells)
       (w.as_mut_slice.ensures.value ∙ ap (λ (f : FindingsState). f.cells) c.self.view_is)
-      w.in_ok-judge_cells.ensures))
+      w.in_ok-judge_cells.ensures)))
       (c.in_ok-push-3.ensures.items
       ∙ ap (λ (i : Inside). i.seen.items ++ c.args.cell ∷ []) w.self-inside-is
       ∙ ap (λ (f : FindingsState). f.seen ++ c.args.cell ∷ []) c.self.view_is)

@@ -1,0 +1,133 @@
+//! Lines of the explained table, as CSV.
+
+ghost use Rattle.std.specs.Prelude.{◌≡◌, ◌++◌, ℕ, List, [], IfOk, OnOk, map, string_bytes};
+ghost use Rattle.csv.specs.Writing.{default_writer, row_text};
+ghost use Rattle.verification.specs.LineSteps.{HasWritten};
+ghost use Rattle.verification.specs.Table.{explained_header, finding_line, finding_name, told_line};
+
+use crate::difference::Difference;
+use crate::explained::Explanation;
+use crate::row::Finding;
+use crate::text::kind_text;
+use cbsp_wire::Cell;
+use csv::{Writer, WriterBuilder};
+use itoa::Buffer;
+use std::alloc::{AllocError, Global};
+
+/// A writer that has written nothing.
+fn nothing_written(alloc: Global) -> Writer<Vec<u8>>
+    ensures { HasWritten result [] }
+{
+    WriterBuilder::new().from_writer(Vec::new(alloc))
+}
+
+/// Writes a line. A writer to memory fails only if out of memory.
+fn write(writer: &mut Writer<Vec<u8>>, fields: &[&[u8]]) -> Result<(), AllocError>
+    ensures { OnOk result ((octets : List ℕ) → HasWritten writer.old octets
+        → HasWritten writer.new (octets ++ row_text default_writer (map (λ f. f.now) fields.now))) }
+{
+    match writer.write_fields(fields) {
+        Ok(()) => Ok(()),
+        Err(_) => Err(AllocError),
+    }
+}
+
+/// What was written. The only error is out of memory.
+fn written(writer: Writer<Vec<u8>>) -> Result<Vec<u8>, AllocError>
+    ensures { IfOk result (λ octets. (text : List ℕ) → HasWritten writer text → octets.items ≡ text) }
+{
+    match writer.into_inner() {
+        Ok(octets) => Ok(octets),
+        Err(_) => Err(AllocError),
+    }
+}
+
+/// The line of some fields. The only error is out of memory.
+fn line(alloc: Global, fields: &[&[u8]]) -> Result<Vec<u8>, AllocError>
+    ensures { IfOk result (λ octets. octets.items ≡ row_text default_writer (map (λ f. f.now) fields.now)) }
+{
+    let mut writer = nothing_written(alloc);
+    write(&mut writer, fields)?;
+    let octets = written(writer)?;
+    Ok(octets)
+}
+
+/// The line of the columns' names. The only error is out of memory.
+pub fn header_line(alloc: Global) -> Result<Vec<u8>, AllocError>
+    ensures { IfOk result (λ octets. octets.items ≡ explained_header) }
+{
+    line(
+        alloc,
+        &[
+            b"lac",
+            b"ci",
+            b"id",
+            b"serial",
+            b"slot",
+            b"difference",
+            b"expected",
+            b"got",
+        ],
+    )
+}
+
+/// What a finding is called. The only error is out of memory.
+fn finding_name(alloc: Global, finding: &Finding) -> Result<String, AllocError>
+    ensures { IfOk result (λ text. string_bytes text ≡ finding_name finding.now) }
+{
+    match finding {
+        Finding::Differs(difference) => kind_text(alloc, difference.kind),
+        Finding::NoTape => String::from_str(alloc, "no tape"),
+        Finding::OtherSlots => String::from_str(alloc, "other slots"),
+        Finding::SecondTape => String::from_str(alloc, "second tape"),
+        Finding::UnknownCell => String::from_str(alloc, "unknown cell"),
+    }
+}
+
+/// The line of a finding that tells of a whole cell or tape. The only error is out of memory.
+pub fn finding_line(alloc: Global, cell: Cell, finding: &Finding) -> Result<Vec<u8>, AllocError>
+    ensures { IfOk result (λ octets. octets.items ≡ finding_line cell finding.now) }
+{
+    let (mut lac, mut ci) = (Buffer::new(), Buffer::new());
+    let name = finding_name(alloc, finding)?;
+    line(
+        alloc,
+        &[
+            lac.format(cell.lac).as_bytes(),
+            ci.format(cell.ci).as_bytes(),
+            b"",
+            b"",
+            b"",
+            name.as_bytes(),
+            b"",
+            b"",
+        ],
+    )
+}
+
+/// The line of what is told of a difference. The only error is out of memory.
+pub fn told_line(
+    alloc: Global,
+    cell: Cell,
+    difference: &Difference,
+    told: &Explanation,
+) -> Result<Vec<u8>, AllocError>
+    ensures { IfOk result (λ octets. octets.items ≡ told_line cell difference.now told.now) }
+{
+    let (mut lac, mut ci) = (Buffer::new(), Buffer::new());
+    let (mut id, mut slot) = (Buffer::new(), Buffer::new());
+    let serial = hex::encode(alloc, difference.serial.number().to_be_bytes().as_slice())?;
+    line(
+        alloc,
+        &[
+            lac.format(cell.lac).as_bytes(),
+            ci.format(cell.ci).as_bytes(),
+            id.format(difference.id).as_bytes(),
+            serial.as_bytes(),
+            slot.format(difference.slot).as_bytes(),
+            told.difference.as_bytes(),
+            told.expected.as_bytes(),
+            told.got.as_bytes(),
+        ],
+    )
+}
