@@ -151,9 +151,9 @@ impl Slate {
     }
 }
 
-/// Whether the command of a bench reads a book beside its input.
+/// Whether the command of a bench reads a book beside its input, or a table of cells.
 fn asks_for_book(bench: &Bench) -> bool {
-    bench.args.starts_with("verify")
+    bench.args.starts_with("verify") || bench.args.contains("--cells")
 }
 
 /// Calls the engine of `page` alone, as the command line of the worked page does, and returns the status of its fault.

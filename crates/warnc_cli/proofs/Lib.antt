@@ -9,3 +9,5 @@ pub mod Products
 pub mod Words
 pub mod OneInput
 pub mod RemarkedRuns
+pub mod NoPlan
+pub mod AllTapes

@@ -12,6 +12,7 @@ use Rattle.device_ends.specs.declared.reading.Source.{Source}
 use Rattle.device_ends.specs.declared.writing.Sink.{Sink}
 use Rattle.handset.specs.declared.tape.TapeFault.TheVariants as tape
 use Rattle.short_pages.specs.declared.pages.Pages.{Pages}
+use Rattle.verification.specs.declared.detail.Detail.{Detail}
 use Rattle.report.specs.declared.row.Columns.TheVariants as columns
 use Rattle.warnc_run.specs.declared.fault.RunFault.{RunFault}
 use Rattle.warnc_run.specs.declared.fault.RunFault.TheVariants as run
@@ -32,48 +33,51 @@ use Rattle.warnc_cli.specs.Status.{status_of_run_fault, status_of_verify_fault}
 use Rattle.warnc_cli.specs.Tasks.{IsNotVerified, IsUnverified, WritesOutputOfBoth}
 
 -- the table without a difference that was written is that of the book and of the tapes
-pub table_written : (from : Origin) (slots : ℕ) (pages : Pages) (ends : Readers) (old new : Option (List ℕ))
-    → FindsAndWrites from slots pages ends old new []
-    → WritesOutputOfBoth (IsVerified from slots pages) ends.book_first ends.tapes_first old new
-table_written from slots pages ends old new wrote =
+pub table_written : (from : Origin) (slots : ℕ) (pages : Pages) (detail : Detail) (ends : Readers)
+    (old new : Option (List ℕ))
+    → FindsAndWrites from slots pages detail ends old new []
+    → WritesOutputOfBoth (IsVerified from slots pages detail) ends.book_first ends.tapes_first old new
+table_written from slots pages detail ends old new wrote =
     let finds = wrote.0 in record {
       book_octets = finds.book;
       tapes_octets = finds.tapes;
-      output = _;
+      output = wrote.1;
       of_book = whole_if_known finds.book ends.book_first ends.book_last finds.book_read finds.book_ended;
       of_tapes = finds.tapes_read;
-      is_output = (finds.differ, refl);
-      appended = wrote.1;
+      is_output = (finds.differ, wrote.2);
+      appended = wrote.3;
     }
 
 -- and it isn't empty
-pub some_written : (from : Origin) (slots : ℕ) (pages : Pages) (ends : Readers) (old new : Option (List ℕ))
-    → FindsAndWrites from slots pages ends old new []
+pub some_written : (from : Origin) (slots : ℕ) (pages : Pages) (detail : Detail) (ends : Readers)
+    (old new : Option (List ℕ))
+    → FindsAndWrites from slots pages detail ends old new []
     → WritesSome old new
-some_written from slots pages ends old new wrote =
+some_written from slots pages detail ends old new wrote =
     let finds = wrote.0 in
-    (_, some_table from slots pages finds.book finds.tapes _ (finds.differ, refl), wrote.1)
+    (wrote.1, some_table from slots pages detail finds.book finds.tapes wrote.1 (finds.differ, wrote.2), wrote.3)
 
 -- so is the table of the differences that were found
-pub differences_written : (from : Origin) (slots : ℕ) (pages : Pages) (ends : Readers) (old new : Option (List ℕ))
+pub differences_written : (from : Origin) (slots : ℕ) (pages : Pages) (detail : Detail) (ends : Readers)
+    (old new : Option (List ℕ))
     (why : VerifyFault)
-    → IsVerifyFault from slots pages ends old new why
+    → IsVerifyFault from slots pages detail ends old new why
     → IsDifference why
-    → WritesOutputOfBoth (HasDifferences from slots pages) ends.book_first ends.tapes_first old new
-differences_written from slots pages ends old new (fault.Differences n) why is =
+    → WritesOutputOfBoth (HasDifferences from slots pages detail) ends.book_first ends.tapes_first old new
+differences_written from slots pages detail ends old new (fault.Differences n) why is =
     let finds = why.1.0 in record {
       book_octets = finds.book;
       tapes_octets = finds.tapes;
-      output = _;
+      output = why.1.1;
       of_book = whole_if_known finds.book ends.book_first ends.book_last finds.book_read finds.book_ended;
       of_tapes = finds.tapes_read;
-      is_output = (why.0, (finds.differ, refl), omega (arith, why.2, why.3));
-      appended = why.1.1;
+      is_output = (why.0, (finds.differ, why.1.2), omega (arith, why.2, why.3));
+      appended = why.1.3;
     }
-differences_written from slots pages ends old new (fault.Run f) why is = absurd is
-differences_written from slots pages ends old new (fault.Tapes f) why is = absurd is
-differences_written from slots pages ends old new fault.Refused why is = absurd is
-differences_written from slots pages ends old new fault.WriteFailed why is = absurd is
+differences_written from slots pages detail ends old new (fault.Run f) why is = absurd is
+differences_written from slots pages detail ends old new (fault.Tapes f) why is = absurd is
+differences_written from slots pages detail ends old new fault.Refused why is = absurd is
+differences_written from slots pages detail ends old new fault.WriteFailed why is = absurd is
 
 -- readers of known octets
 abbrev known_readers : (book tapes : List ℕ) (book_last tapes_last : Option (List ℕ)) → Readers
@@ -85,16 +89,16 @@ known_readers book tapes book_last tapes_last = record {
 }
 
 -- a fault of status 1 that tells of no difference says why nothing is known of these tapes and this book
-unseen_here : (from : Origin) (slots : ℕ) (pages : Pages) (book tapes : List ℕ)
+unseen_here : (from : Origin) (slots : ℕ) (pages : Pages) (detail : Detail) (book tapes : List ℕ)
     (book_last tapes_last old new : Option (List ℕ))
     (why : VerifyFault)
-    → IsVerifyFault from slots pages (known_readers book tapes book_last tapes_last) old new why
+    → IsVerifyFault from slots pages detail (known_readers book tapes book_last tapes_last) old new why
     → status_of_verify_fault why ≡ 1
     → (IsDifference why → ⊥)
     → IsUnverified from slots book tapes
-unseen_here from slots pages book tapes book_last tapes_last old new (fault.Run f) told is none =
+unseen_here from slots pages detail book tapes book_last tapes_last old new (fault.Run f) told is none =
     inl (no_records from slots book book_last f told is)
-unseen_here from slots pages book tapes book_last tapes_last old new (fault.Tapes tape.Short) told is none =
+unseen_here from slots pages detail book tapes book_last tapes_last old new (fault.Tapes tape.Short) told is none =
     let run = told.1 in
     inr (
       (
@@ -104,7 +108,7 @@ unseen_here from slots pages book tapes book_last tapes_last old new (fault.Tape
       ),
       inl told.2,
     )
-unseen_here from slots pages book tapes book_last tapes_last old new (fault.Tapes tape.Long) told is none =
+unseen_here from slots pages detail book tapes book_last tapes_last old new (fault.Tapes tape.Long) told is none =
     let run = told.1 in
     inr (
       (
@@ -114,15 +118,15 @@ unseen_here from slots pages book tapes book_last tapes_last old new (fault.Tape
       ),
       inr told.2,
     )
-unseen_here from slots pages book tapes book_last tapes_last old new (fault.Tapes tape.ReadFailed) told is none =
+unseen_here from slots pages detail book tapes book_last tapes_last old new (fault.Tapes tape.ReadFailed) told is none =
     absurd (omega (arith, is))
-unseen_here from slots pages book tapes book_last tapes_last old new (fault.Tapes tape.Refused) told is none =
+unseen_here from slots pages detail book tapes book_last tapes_last old new (fault.Tapes tape.Refused) told is none =
     absurd (omega (arith, is))
-unseen_here from slots pages book tapes book_last tapes_last old new (fault.Differences n) told is none = absurd
+unseen_here from slots pages detail book tapes book_last tapes_last old new (fault.Differences n) told is none = absurd
     (none tt)
-unseen_here from slots pages book tapes book_last tapes_last old new fault.Refused told is none =
+unseen_here from slots pages detail book tapes book_last tapes_last old new fault.Refused told is none =
     absurd (omega (arith, is))
-unseen_here from slots pages book tapes book_last tapes_last old new fault.WriteFailed told is none =
+unseen_here from slots pages detail book tapes book_last tapes_last old new fault.WriteFailed told is none =
     absurd (omega (arith, is))
 
 -- what can't be judged isn't verified
@@ -131,13 +135,13 @@ unjudged : (from : Origin) (slots : ℕ) (pages : Pages) (book tapes : List ℕ)
 unjudged from slots pages book tapes (inl no_run) = inl no_run
 unjudged from slots pages book tapes (inr no_tapes) = inr (inl no_tapes)
 
-refused_here : (from : Origin) (slots : ℕ) (pages : Pages) (book tapes : List ℕ)
+refused_here : (from : Origin) (slots : ℕ) (pages : Pages) (detail : Detail) (book tapes : List ℕ)
     (book_last tapes_last old new : Option (List ℕ))
     (why : VerifyFault)
-    → IsVerifyFault from slots pages (known_readers book tapes book_last tapes_last) old new why
+    → IsVerifyFault from slots pages detail (known_readers book tapes book_last tapes_last) old new why
     → status_of_verify_fault why ≡ 1
     → IsNotVerified from slots pages book tapes
-refused_here from slots pages book tapes book_last tapes_last old new (fault.Differences n) told is =
+refused_here from slots pages detail book tapes book_last tapes_last old new (fault.Differences n) told is =
     let finds = told.1.0 in
     inr (inr (
       told.0,
@@ -147,21 +151,22 @@ refused_here from slots pages book tapes book_last tapes_last old new (fault.Dif
           finds.differ),
       omega (arith, told.2, told.3),
     ))
-refused_here from slots pages book tapes book_last tapes_last old new (fault.Run f) told is =
+refused_here from slots pages detail book tapes book_last tapes_last old new (fault.Run f) told is =
     unjudged from slots pages book tapes
-    (unseen_here from slots pages book tapes book_last tapes_last old new (fault.Run f) told is (λ no. no))
-refused_here from slots pages book tapes book_last tapes_last old new (fault.Tapes f) told is =
+    (unseen_here from slots pages detail book tapes book_last tapes_last old new (fault.Run f) told is (λ no. no))
+refused_here from slots pages detail book tapes book_last tapes_last old new (fault.Tapes f) told is =
     unjudged from slots pages book tapes
-    (unseen_here from slots pages book tapes book_last tapes_last old new (fault.Tapes f) told is (λ no. no))
-refused_here from slots pages book tapes book_last tapes_last old new fault.Refused told is = absurd (omega (arith, is))
-refused_here from slots pages book tapes book_last tapes_last old new fault.WriteFailed told is = absurd
+    (unseen_here from slots pages detail book tapes book_last tapes_last old new (fault.Tapes f) told is (λ no. no))
+refused_here from slots pages detail book tapes book_last tapes_last old new fault.Refused told is = absurd
+    (omega (arith, is))
+refused_here from slots pages detail book tapes book_last tapes_last old new fault.WriteFailed told is = absurd
     (omega (arith, is))
 
 -- a fault of `verify` with status 1 says why the tapes don't keep the book
-pub refused_verification : (from : Origin) (slots : ℕ) (pages : Pages)
+pub refused_verification : (from : Origin) (slots : ℕ) (pages : Pages) (detail : Detail)
     (book tapes book_last tapes_last old new : Option (List ℕ))
     (why : VerifyFault)
-    → IsVerifyFault from slots pages (record {
+    → IsVerifyFault from slots pages detail (record {
       book_first = book;
       book_last = book_last;
       tapes_first = tapes;
@@ -169,16 +174,16 @@ pub refused_verification : (from : Origin) (slots : ℕ) (pages : Pages)
     }) old new why
     → status_of_verify_fault why ≡ 1
     → IfSome book (λ octets. IfSome tapes (IsNotVerified from slots pages octets))
-refused_verification from slots pages None tapes book_last tapes_last old new why told is = tt
-refused_verification from slots pages (Some book) None book_last tapes_last old new why told is = tt
-refused_verification from slots pages (Some book) (Some tapes) book_last tapes_last old new why told is =
-    refused_here from slots pages book tapes book_last tapes_last old new why told is
+refused_verification from slots pages detail None tapes book_last tapes_last old new why told is = tt
+refused_verification from slots pages detail (Some book) None book_last tapes_last old new why told is = tt
+refused_verification from slots pages detail (Some book) (Some tapes) book_last tapes_last old new why told is =
+    refused_here from slots pages detail book tapes book_last tapes_last old new why told is
 
 -- so says one of any readers
-pub unseen_verification : (from : Origin) (slots : ℕ) (pages : Pages)
+pub unseen_verification : (from : Origin) (slots : ℕ) (pages : Pages) (detail : Detail)
     (book tapes book_last tapes_last old new : Option (List ℕ))
     (why : VerifyFault)
-    → IsVerifyFault from slots pages (record {
+    → IsVerifyFault from slots pages detail (record {
       book_first = book;
       book_last = book_last;
       tapes_first = tapes;
@@ -187,10 +192,10 @@ pub unseen_verification : (from : Origin) (slots : ℕ) (pages : Pages)
     → status_of_verify_fault why ≡ 1
     → (IsDifference why → ⊥)
     → IfSome book (λ octets. IfSome tapes (IsUnverified from slots octets))
-unseen_verification from slots pages None tapes book_last tapes_last old new why told is none = tt
-unseen_verification from slots pages (Some book) None book_last tapes_last old new why told is none = tt
-unseen_verification from slots pages (Some book) (Some tapes) book_last tapes_last old new why told is none =
-    unseen_here from slots pages book tapes book_last tapes_last old new why told is none
+unseen_verification from slots pages detail None tapes book_last tapes_last old new why told is none = tt
+unseen_verification from slots pages detail (Some book) None book_last tapes_last old new why told is none = tt
+unseen_verification from slots pages detail (Some book) (Some tapes) book_last tapes_last old new why told is none =
+    unseen_here from slots pages detail book tapes book_last tapes_last old new why told is none
 
 -- with status 1 the differences were written, or nothing was of tapes and a book that can't be judged
 pub unseen_or_differs : (Unseen Kept Differ : Type 0) (why : VerifyFault)
@@ -363,69 +368,79 @@ of_run {R = R} f first_book last_book first last old new before after (inr other
     (ends.untouched (λ w. w)) kept
 
 -- what the engine says of the ends with a fault is what the fault's status says of them
-told : {B R W : Type 0} (from : Origin) (slots : ℕ) (pages : Pages) (readers : Readers)
+told : {B R W : Type 0} (from : Origin) (slots : ℕ) (pages : Pages) (detail : Detail) (readers : Readers)
     (held_old held_new : Option (List ℕ))
     (why : VerifyFault) (first_book last_book : Source B) (first last : Source R)
     (old new : Sink W) (before after : Option (List ℕ))
-    → IsVerifyFault from slots pages readers held_old held_new why
+    → IsVerifyFault from slots pages detail readers held_old held_new why
     → AreEnds why first_book last_book first last old new
     → (new ≡ old → Keeps before after)
     → IsVerifyRunBetween (status_of_verify_fault why) first_book last_book first last old new before after
-told from slots pages readers held_old held_new (fault.Run f) first_book last_book first last old new before after is
+told from slots pages detail readers held_old held_new (fault.Run f) first_book last_book first last old new before
+    after is
     ends
     kept =
     of_run f first_book last_book first last old new before after
     (run_status from slots readers.book_first readers.book_last f is) ends kept
-told from slots pages readers held_old held_new (fault.Tapes tape.Short) first_book last_book first last old new before
+told from slots pages detail readers held_old held_new (fault.Tapes tape.Short) first_book last_book first last old new
+    before
     after
     is ends kept =
     quiet (fault.Tapes tape.Short) first_book last_book first last old new before after ends (inl refl)
     (tapes_sound _ first_book last_book first last old new ends (λ three. omega (arith, three)))
     (ends.untouched (λ w. w)) kept
-told from slots pages readers held_old held_new (fault.Tapes tape.Long) first_book last_book first last old new before
+told from slots pages detail readers held_old held_new (fault.Tapes tape.Long) first_book last_book first last old new
+    before
     after
     is ends kept =
     quiet (fault.Tapes tape.Long) first_book last_book first last old new before after ends (inl refl)
     (tapes_sound _ first_book last_book first last old new ends (λ three. omega (arith, three)))
     (ends.untouched (λ w. w)) kept
-told from slots pages readers held_old held_new (fault.Tapes tape.ReadFailed) first_book last_book first last old new
+told from slots pages detail readers held_old held_new (fault.Tapes tape.ReadFailed) first_book last_book first last
+    old new
     before
     after is ends kept =
     failing 3 first_book last_book first last old new before after refl (inr (inl (ends.tapes_told refl)))
-told from slots pages readers held_old held_new (fault.Tapes tape.Refused) first_book last_book first last old new
+told from slots pages detail readers held_old held_new (fault.Tapes tape.Refused) first_book last_book first last old
+    new
     before
     after is ends kept =
     quiet (fault.Tapes tape.Refused) first_book last_book first last old new before after ends (inr refl)
     (tapes_sound _ first_book last_book first last old new ends (λ three. omega (arith, three)))
     (ends.untouched (λ w. w)) kept
-told from slots pages readers held_old held_new (fault.Differences n) first_book last_book first last old new before
+told from slots pages detail readers held_old held_new (fault.Differences n) first_book last_book first last old new
+    before
     after is
     ends kept =
     written n first_book last_book first last old new before after ends
-told from slots pages readers held_old held_new fault.Refused first_book last_book first last old new before after is
+told from slots pages detail readers held_old held_new fault.Refused first_book last_book first last old new before
+    after is
     ends
     kept =
     quiet fault.Refused first_book last_book first last old new before after ends (inr refl)
     (tapes_sound _ first_book last_book first last old new ends (λ three. omega (arith, three)))
     (ends.untouched (λ w. w)) kept
-told from slots pages readers held_old held_new fault.WriteFailed first_book last_book first last old new before after
+told from slots pages detail readers held_old held_new fault.WriteFailed first_book last_book first last old new before
+    after
     is ends
     kept =
     failing 3 first_book last_book first last old new before after refl (inr (inr (ends.write_failed refl)))
 
 -- the same of a status that is the fault's
-pub between : {B R W : Type 0} (from : Origin) (slots : ℕ) (pages : Pages) (readers : Readers)
+pub between : {B R W : Type 0} (from : Origin) (slots : ℕ) (pages : Pages) (detail : Detail) (readers : Readers)
     (held_old held_new : Option (List ℕ))
     (why : VerifyFault) (status : ℕ) (first_book last_book : Source B) (first last : Source R)
     (old new : Sink W) (before after : Option (List ℕ))
     → status ≡ status_of_verify_fault why
-    → IsVerifyFault from slots pages readers held_old held_new why
+    → IsVerifyFault from slots pages detail readers held_old held_new why
     → AreEnds why first_book last_book first last old new
     → (new ≡ old → Keeps before after)
     → IsVerifyRunBetween status first_book last_book first last old new before after
-between from slots pages readers held_old held_new why status first_book last_book first last old new before after same
+between from slots pages detail readers held_old held_new why status first_book last_book first last old new before
+    after same
     is
     ends kept =
     subst (λ (s : ℕ). IsVerifyRunBetween s first_book last_book first last old new before after) (sym same)
-    (told from slots pages readers held_old held_new why first_book last_book first last old new before after is ends
+    (told from slots pages detail readers held_old held_new why first_book last_book first last old new before after is
+    ends
     kept)

@@ -18,10 +18,12 @@ use Rattle.warnc_cli.specs.declared.command.Task.TheVariants as task
 -- what it writes
 writes : (t : Task) (book input old new : Option (List ℕ)) → IsSilent t → WritesOutput (Means t) input old new
     → WritesAll t book input old new
-writes (task.Verify from slots pages file workers) book input old new one wrote = absurd one
+writes (task.Verify from slots pages told file workers) book input old new one wrote = absurd one
+writes (task.Tapes wanted file) book input old new one wrote = absurd one
 writes (task.Page language id serial) book input old new one wrote = wrote
 writes (task.Read wanted) book input old new one wrote = wrote
 writes task.Whole book input old new one wrote = wrote
+writes task.Plan book input old new one wrote = wrote
 writes (task.Pcap settings) book input old new one wrote = wrote
 writes task.Cells book input old new one wrote = wrote
 writes (task.Tape wanted) book input old new one wrote = wrote
@@ -34,10 +36,12 @@ writes (task.Make run made) book input old new one wrote = wrote
 -- what it refuses
 refuses : (t : Task) (book input : Option (List ℕ)) → IsSilent t → IfSome input (RefusesOne t)
     → Refuses t book input
-refuses (task.Verify from slots pages file workers) book input one refused = absurd one
+refuses (task.Verify from slots pages told file workers) book input one refused = absurd one
+refuses (task.Tapes wanted file) book input one refused = absurd one
 refuses (task.Page language id serial) book input one refused = refused
 refuses (task.Read wanted) book input one refused = refused
 refuses task.Whole book input one refused = refused
+refuses task.Plan book input one refused = refused
 refuses (task.Pcap settings) book input one refused = refused
 refuses task.Cells book input one refused = refused
 refuses (task.Tape wanted) book input one refused = refused
@@ -50,10 +54,12 @@ refuses (task.Make run made) book input one refused = refused
 -- the first groups that it wrote
 groups : (t : Task) (book input old new : Option (List ℕ)) → WritesFirstGroups t None input old new
     → WritesFirstGroups t book input old new
-groups (task.Verify from slots pages file workers) book input old new wrote = wrote
+groups (task.Verify from slots pages told file workers) book input old new wrote = wrote
+groups (task.Tapes wanted file) book input old new wrote = wrote
 groups (task.Page language id serial) book input old new wrote = wrote
 groups (task.Read wanted) book input old new wrote = wrote
 groups task.Whole book input old new wrote = wrote
+groups task.Plan book input old new wrote = wrote
 groups (task.Pcap settings) book input old new wrote = wrote
 groups task.Cells book input old new wrote = wrote
 groups (task.Tape wanted) book input old new wrote = wrote
@@ -73,10 +79,12 @@ front t book input old new (inr wrote) = inr (groups t book input old new wrote)
 -- nothing, since it has no table
 unseen : (t : Task) (book input old new : Option (List ℕ)) → IsSilent t → Keeps old new
     → KeepsUnseen t book input old new
-unseen (task.Verify from slots pages file workers) book input old new one kept = absurd one
+unseen (task.Verify from slots pages told file workers) book input old new one kept = absurd one
+unseen (task.Tapes wanted file) book input old new one kept = absurd one
 unseen (task.Page language id serial) book input old new one kept = (tt, kept)
 unseen (task.Read wanted) book input old new one kept = (tt, kept)
 unseen task.Whole book input old new one kept = (tt, kept)
+unseen task.Plan book input old new one kept = (tt, kept)
 unseen (task.Pcap settings) book input old new one kept = (tt, kept)
 unseen task.Cells book input old new one kept = (tt, kept)
 unseen (task.Tape wanted) book input old new one kept = (tt, kept)

@@ -32,9 +32,10 @@ some_tape wanted input output is =
 -- the table of senders is never empty: it has the columns' names
 pub some_senders : (input output : List ℕ) → IsCellsOutput input output → 0 < length output
 some_senders input output is =
-    subst (λ (octets : List ℕ). 0 < length octets) (sym is.2.written)
+    subst (λ (octets : List ℕ). 0 < length octets) (sym is.2.2.written)
     (longer 115
-    (codes "ource,arfcn,channel,blocks,first,last,slots,pages,identifiers\n" ++ flat_map sending_text is.2.sending))
+    (codes "ource,arfcn,channel,blocks,first,last,slots,pages,identifiers,first_time,last_time\n"
+    ++ flat_map (sending_text is.2.0) is.2.2.sending))
 
 refused_here : (wanted : Wanted) (input : List ℕ) (old new : Option (List ℕ)) (why : TapeCommandFault) →
     IsTapeCommandFault wanted input old new why → status_of_tape_fault why ≡ 1 → IsNoAir wanted input

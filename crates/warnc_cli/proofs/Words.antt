@@ -6,20 +6,23 @@ use Rattle.warnc_run.specs.declared.run.Books.{Books}
 use Rattle.warnc_run.specs.declared.run.Books.TheVariants as books
 use Rattle.warnc_run.specs.declared.product.Product.TheVariants as product
 use Rattle.warnc_cli.specs.CommandLine.{is_given, GivesBooks, GivesProduct}
-use Rattle.warnc_cli.specs.Run.{MayWrite}
+use Rattle.warnc_cli.specs.Run.{IsOfOneFile, MayWrite}
 use Rattle.warnc_cli.specs.RunSteps.{IsOfOneInput, MayHaveWritten}
 use Rattle.warnc_cli.specs.Tasks.{AlwaysWrites, IsHeaded, IsTaskOf}
 use Rattle.warnc_cli.specs.declared.command.Task.{Task}
 use Rattle.warnc_cli.specs.declared.command.Task.TheVariants as task
 
--- no other command than `verify` reads a book beside its input
-pub of_one_input : (words : List (List ℕ)) (t : Task) → IsTaskOf words t
-    → slice_get words 1 ≢ Some (codes "verify")
-    → IsOfOneInput t
-of_one_input words (task.Verify from slots pages file workers) asked other = absurd (other asked.command)
+-- no other command than `verify` reads a book beside its input, and none but `tape` of all cells a table
+pub of_one_input : (words : List (List ℕ)) (t : Task) → IsTaskOf words t → IsOfOneFile words → IsOfOneInput t
+of_one_input words (task.Verify from slots pages told file workers) asked other = absurd (other.0 asked.command)
+of_one_input words (task.Tapes wanted file) asked other = absurd (apart (other.1 asked.command))
+  where
+    apart : is_given words (codes "--cells") ≡ false → ⊥
+    apart none = search (rules, asked.given, none)
 of_one_input words (task.Page language id serial) asked other = tt
 of_one_input words (task.Read wanted) asked other = tt
 of_one_input words task.Whole asked other = tt
+of_one_input words task.Plan asked other = tt
 of_one_input words (task.Pcap settings) asked other = tt
 of_one_input words task.Cells asked other = tt
 of_one_input words (task.Tape wanted) asked other = tt
@@ -36,9 +39,9 @@ may_write words (task.Make run made) status asked (inl done) = inl done
 may_write words (task.Make run made) status asked (inr (inl device)) = inr (inl device)
 may_write words (task.Make run made) status asked (inr (inr early)) =
     inr (inr (inr (early.0, subst (GivesBooks words) early.1 asked.books_given)))
-may_write words (task.Verify from slots pages file workers) status asked (inl done) = inl done
-may_write words (task.Verify from slots pages file workers) status asked (inr (inl device)) = inr (inl device)
-may_write words (task.Verify from slots pages file workers) status asked (inr (inr differ)) =
+may_write words (task.Verify from slots pages told file workers) status asked (inl done) = inl done
+may_write words (task.Verify from slots pages told file workers) status asked (inr (inl device)) = inr (inl device)
+may_write words (task.Verify from slots pages told file workers) status asked (inr (inr differ)) =
     inr (inr (inl (differ, inl asked.command)))
 may_write words task.Check status asked (inl done) = inl done
 may_write words task.Check status asked (inr (inl device)) = inr (inl device)
@@ -52,13 +55,17 @@ may_write words (task.Page language id serial) status asked (inr device) = inr (
 may_write words (task.Read wanted) status asked (inl done) = inl done
 may_write words (task.Read wanted) status asked (inr device) = inr (inl device)
 may_write words task.Whole status asked (inl done) = inl done
+may_write words task.Plan status asked (inl done) = inl done
 may_write words task.Whole status asked (inr device) = inr (inl device)
+may_write words task.Plan status asked (inr device) = inr (inl device)
 may_write words (task.Pcap settings) status asked (inl done) = inl done
 may_write words (task.Pcap settings) status asked (inr device) = inr (inl device)
 may_write words task.Cells status asked (inl done) = inl done
 may_write words task.Cells status asked (inr device) = inr (inl device)
 may_write words (task.Tape wanted) status asked (inl done) = inl done
+may_write words (task.Tapes wanted file) status asked (inl done) = inl done
 may_write words (task.Tape wanted) status asked (inr device) = inr (inl device)
+may_write words (task.Tapes wanted file) status asked (inr device) = inr (inl device)
 may_write words task.Groups status asked (inl done) = inl done
 may_write words task.Groups status asked (inr device) = inr (inl device)
 may_write words (task.Texts pages) status asked (inl done) = inl done
@@ -87,21 +94,24 @@ pub writes_some : (words : List (List ℕ)) (t : Task) → IsTaskOf words t
     → slice_get words 1 ≢ Some (codes "compile")
     → slice_get words 1 ≢ Some (codes "live")
     → slice_get words 1 ≢ Some (codes "whole")
+    → slice_get words 1 ≢ Some (codes "plan")
     → (slice_get words 1 ≡ Some (codes "report") → is_given words (codes "--group") ≡ false)
     → AlwaysWrites t
-writes_some words (task.Make run product.Tapes) asked compile live whole report =
+writes_some words (task.Make run product.Tapes) asked compile live whole plan report =
     absurd (of_tapes words run.sessions.number asked.made_given compile live)
-writes_some words (task.Make run (product.Report columns)) asked compile live whole report =
+writes_some words (task.Make run (product.Report columns)) asked compile live whole plan report =
     headed words run.books asked.books_given (report asked.made_given.0)
-writes_some words (task.Make run (product.Chart wanted)) asked compile live whole report = tt
-writes_some words (task.Verify from slots pages file workers) asked compile live whole report = tt
-writes_some words (task.Page language id serial) asked compile live whole report = tt
-writes_some words (task.Read wanted) asked compile live whole report = tt
-writes_some words task.Whole asked compile live whole report = absurd (whole asked)
-writes_some words (task.Pcap settings) asked compile live whole report = tt
-writes_some words task.Cells asked compile live whole report = tt
-writes_some words (task.Tape wanted) asked compile live whole report = tt
-writes_some words task.Groups asked compile live whole report = tt
-writes_some words task.Check asked compile live whole report = tt
-writes_some words (task.Remark slots strict) asked compile live whole report = tt
-writes_some words (task.Texts pages) asked compile live whole report = tt
+writes_some words (task.Make run (product.Chart wanted)) asked compile live whole plan report = tt
+writes_some words (task.Verify from slots pages told file workers) asked compile live whole plan report = tt
+writes_some words (task.Page language id serial) asked compile live whole plan report = tt
+writes_some words (task.Read wanted) asked compile live whole plan report = tt
+writes_some words task.Whole asked compile live whole plan report = absurd (whole asked)
+writes_some words task.Plan asked compile live whole plan report = absurd (plan asked)
+writes_some words (task.Pcap settings) asked compile live whole plan report = tt
+writes_some words task.Cells asked compile live whole plan report = tt
+writes_some words (task.Tape wanted) asked compile live whole plan report = tt
+writes_some words (task.Tapes wanted file) asked compile live whole plan report = tt
+writes_some words task.Groups asked compile live whole plan report = tt
+writes_some words task.Check asked compile live whole plan report = tt
+writes_some words (task.Remark slots strict) asked compile live whole plan report = tt
+writes_some words (task.Texts pages) asked compile live whole plan report = tt

@@ -28,6 +28,9 @@ use Rattle.report.specs.declared.row.Columns.{Columns}
 use Rattle.report.specs.declared.row.Columns.TheVariants.{Full, Plain}
 use Rattle.short_pages.specs.declared.pages.Pages.{Pages}
 use Rattle.short_pages.specs.declared.pages.Pages.TheVariants.{OfAny, OfFour}
+use Rattle.verification.specs.declared.detail.Detail.{Detail}
+use Rattle.verification.specs.declared.detail.Detail.TheVariants as detail
+use Rattle.warnc_air.specs.declared.all.AllWanted.{AllWanted}
 use Rattle.warnc_run.specs.declared.run.Books.{Books}
 use Rattle.warnc_run.specs.declared.run.Books.TheVariants as books
 use Rattle.warnc_run.specs.declared.product.Product.{Product}
@@ -252,6 +255,10 @@ abbrev pub GivesTapeSlots : (words : List (List ℕ)) → Option ℕ → Type 0
 GivesTapeSlots words None = is_given words (codes "--slots") ≡ false
 GivesTapeSlots words (Some slots) = GivesSlots words slots
 
+-- the words ask for `plan`
+abbrev pub AsksForPlan : (words : List (List ℕ)) → Type 0
+AsksForPlan words = slice_get words 1 ≡ Some (codes "plan")
+
 -- the words ask for `tape`
 pub record AsksForTape (words : List (List ℕ)) (wanted : Wanted) : Type 0 where
   pub command : slice_get words 1 ≡ Some (codes "tape")
@@ -261,6 +268,15 @@ pub record AsksForTape (words : List (List ℕ)) (wanted : Wanted) : Type 0 wher
   pub from_given : GivesFrom words wanted.from.address
   pub arfcn_given : GivesArfcn words wanted.from.arfcn
   pub channel_given : GivesChannelType words wanted.from.channel
+
+-- the words ask for `tape` of all cells of the table in the file of this name
+pub record AsksForTapes (words : List (List ℕ)) (wanted : AllWanted) (file : List ℕ) : Type 0 where
+  pub command : slice_get words 1 ≡ Some (codes "tape")
+  pub given : is_given words (codes "--cells") ≡ true
+  pub file_given : GivesValue words (codes "--cells") file
+  pub slots_given : GivesTapeSlots words wanted.slots
+  pub first_given : GivesFirstSlot words wanted.first_slot
+  pub channel_given : GivesChannelType words wanted.channel
 
 -- which books the words want: of a network book each group, where a word begins with the name `--network`
 abbrev pub GivesBooks : (words : List (List ℕ)) → Books → Type 0
@@ -288,17 +304,28 @@ pub record AsksForRun (words : List (List ℕ)) (run : Run) (made : Product) : T
   pub slots_given : GivesSlots words run.slots
   pub workers_given : GivesThreads words (codes "--workers") run.workers.number
 
+-- how much the words want to be told of each difference
+abbrev pub detail_given : (words : List (List ℕ)) → Detail
+detail_given words = if is_given words (codes "--explain") then detail.Explained else detail.Plain
+
 -- the words ask for `verify` of the book, or the group's, in the file of this name, with this number of slots and of
--- workers, by these pages of the tapes
-pub record AsksForVerify (words : List (List ℕ)) (from : Origin) (slots : ℕ) (pages : Pages) (file : List ℕ)
-    (workers : ℕ) : Type 0
+-- workers, by these pages of the tapes, and with so much detail
+pub record AsksForVerify (words : List (List ℕ)) (from : Origin) (slots : ℕ) (pages : Pages) (told : Detail)
+    (file : List ℕ) (workers : ℕ) : Type 0
   where
     pub command : slice_get words 1 ≡ Some (codes "verify")
     pub origin_given : GivesOrigin words from
     pub slots_given : GivesSlots words slots
     pub wanted_given : pages ≡ pages_given words
+    pub told_given : told ≡ detail_given words
     pub book_given : GivesValue words (codes "--book") file
     pub workers_given : GivesThreads words (codes "--workers") workers
+
+-- the words name a file that is read beside the input: the book for `verify`, or the table of cells for `tape`
+abbrev pub GivesFile : (words : List (List ℕ)) (file : List ℕ) → Type 0
+GivesFile words file =
+    ((slice_get words 1 ≡ Some (codes "verify")) × GivesValue words (codes "--book") file)
+    ⊎ ((slice_get words 1 ≡ Some (codes "tape")) × GivesValue words (codes "--cells") file)
 
 -- a word that asks for help or for the version
 abbrev pub is_text_word : List ℕ → Bool

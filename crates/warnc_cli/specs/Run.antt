@@ -21,12 +21,13 @@ abbrev pub WritesSome : (old new : Option (List ℕ)) → Type 0
 WritesSome old new = (output : List ℕ) × (0 < length output) × Appends old new output
 
 -- something was written, unless the words ask for `compile` or `live`, since a book without cells has no tapes, for
--- `whole`, since no tapes have none, or for the report of a group, since that of a later group has no line of the
--- columns' names
+-- `whole`, since no tapes have none, for `plan`, since no rows come to none, or for the report of a group, since that
+-- of a later group has no line of the columns' names
 abbrev pub WritesSomeUnlessTapes : (words : List (List ℕ)) → (old new : Option (List ℕ)) → Type 0
 WritesSomeUnlessTapes words old new = slice_get words 1 ≢ Some (codes "compile")
     → slice_get words 1 ≢ Some (codes "live")
     → slice_get words 1 ≢ Some (codes "whole")
+    → slice_get words 1 ≢ Some (codes "plan")
     → (slice_get words 1 ≡ Some (codes "report") → is_given words (codes "--group") ≡ false)
     → WritesSome old new
 
@@ -52,6 +53,11 @@ pub record RefusesInput (words : List (List ℕ)) (book input : Option (List ℕ
   pub task : Task
   pub asked : IsTaskOf words task
   pub refused : Refuses task book input
+
+-- the words ask for no command that reads a book or a table beside its input
+abbrev pub IsOfOneFile : (words : List (List ℕ)) → Type 0
+IsOfOneFile words = (slice_get words 1 ≢ Some (codes "verify"))
+    × ((slice_get words 1 ≡ Some (codes "tape")) → is_given words (codes "--cells") ≡ false)
 
 -- What may be written with a status.
 

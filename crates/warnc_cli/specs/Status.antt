@@ -18,6 +18,10 @@ use Rattle.order_desk.specs.declared.settle.SettleFault.{SettleFault}
 use Rattle.order_desk.specs.declared.settle.SettleFault.TheVariants as settle
 use Rattle.parallel_compile.specs.declared.fault.CompileFault.{CompileFault}
 use Rattle.parallel_compile.specs.declared.fault.CompileFault.TheVariants as compile
+use Rattle.plan.specs.declared.fault.PlanFault.{PlanFault}
+use Rattle.plan.specs.declared.fault.PlanFault.TheVariants as plan
+use Rattle.warnc_air.specs.declared.all.AllTapesFault.{AllTapesFault}
+use Rattle.warnc_air.specs.declared.all.AllTapesFault.TheVariants as all
 use Rattle.warnc_air.specs.declared.pcap.PcapFault.{PcapFault}
 use Rattle.warnc_air.specs.declared.pcap.PcapFault.TheVariants as pcap
 use Rattle.warnc_air.specs.declared.tape.TapeCommandFault.{TapeCommandFault}
@@ -74,6 +78,18 @@ status_of_tape_fault (tape.Air why) = 1
 status_of_tape_fault tape.Refused = 4
 status_of_tape_fault tape.WriteFailed = 3
 
+-- that of `tape` of all cells
+abbrev pub status_of_tapes_of_all : AllTapesFault → ℕ
+status_of_tapes_of_all all.TableReadFailed = 3
+status_of_tapes_of_all all.TableTooLong = 1
+status_of_tapes_of_all (all.Table f) = 1
+status_of_tapes_of_all all.ReadFailed = 3
+status_of_tapes_of_all all.TooLong = 1
+status_of_tapes_of_all (all.Air why) = 1
+status_of_tapes_of_all (all.NoBlock row) = 1
+status_of_tapes_of_all all.Refused = 4
+status_of_tapes_of_all all.WriteFailed = 3
+
 -- that of `check`, 1 if there are faults
 abbrev pub status_of_check_fault : CheckFault → ℕ
 status_of_check_fault (check.Faults count) = 1
@@ -98,6 +114,13 @@ status_of_texts_fault texts.TooLong = 1
 status_of_texts_fault (texts.Row f) = 1
 status_of_texts_fault texts.Refused = 4
 status_of_texts_fault texts.WriteFailed = 3
+
+abbrev pub status_of_plan_fault : PlanFault → ℕ
+status_of_plan_fault plan.ReadFailed = 3
+status_of_plan_fault plan.TooLong = 1
+status_of_plan_fault (plan.Row f) = 1
+status_of_plan_fault plan.Refused = 4
+status_of_plan_fault plan.WriteFailed = 3
 
 abbrev pub status_of_desk_fault : DeskFault → ℕ
 status_of_desk_fault (desk.Memory done) = 4

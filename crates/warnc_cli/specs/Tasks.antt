@@ -17,8 +17,17 @@ use Rattle.gsmtap.specs.TapeOfCapture.{IsAirFault, IsTapeOfCapture}
 use Rattle.gsmtap.specs.declared.fault.AirFault.{AirFault}
 use Rattle.gsmtap.specs.declared.tape.Wanted.{Wanted}
 use Rattle.handset.specs.Tape.{IsShort, IsLong}
+use Rattle.plan.specs.PlanOutput.{IsPlanOutput, IsPlanRowFault, IsTooLong}
+use Rattle.plan.specs.declared.fault.PlanRowFault.{PlanRowFault}
 use Rattle.short_pages.specs.declared.pages.Pages.{Pages}
+use Rattle.gsmtap.specs.TapesOfCapture.{AreTapesOfCapture, IsTapesFault}
+use Rattle.gsmtap.specs.declared.tapes.TapesFault.{TapesFault}
+use Rattle.warnc_air.specs.AllTapes.{all_wanted}
+use Rattle.warnc_air.specs.CellTable.{IsCellTable, IsTableFault, max_table}
 use Rattle.warnc_air.specs.TapeOutput.{IsCellsOutput, max_capture}
+use Rattle.warnc_air.specs.declared.all.AllWanted.{AllWanted}
+use Rattle.warnc_air.specs.declared.cell_table.CellRow.{CellRow}
+use Rattle.warnc_air.specs.declared.cell_table.TableFault.{TableFault}
 use Rattle.warnc_inspect.specs.PageOutput.{IsPageFault, IsPageOutput}
 use Rattle.warnc_inspect.specs.ReadOutput.{IsReadOutput}
 use Rattle.warnc_inspect.specs.WholeOutput.{IsWholeOutput}
@@ -32,9 +41,10 @@ use Rattle.warnc_run.specs.Faults.{StopsRun}
 use Rattle.warnc_run.specs.Groups.{IsGroupCount}
 use Rattle.warnc_run.specs.Network.{AreFirstParts}
 use Rattle.warnc_verify.specs.Verified.{Differs, HasDifferences, HasRun, IsVerified}
-use Rattle.warnc_cli.specs.CommandLine.{AsksForCells}
+use Rattle.warnc_cli.specs.CommandLine.{AsksForCells, AsksForTapes}
 use Rattle.warnc_cli.specs.CommandLine.{AsksForGroups, AsksForPage, AsksForPcap, AsksForRead, AsksForRun, AsksForTape}
-use Rattle.warnc_cli.specs.CommandLine.{AsksForCheck, AsksForRemarks, AsksForTexts, AsksForVerify, AsksForWhole}
+use Rattle.warnc_cli.specs.CommandLine.{AsksForCheck, AsksForPlan, AsksForRemarks, AsksForTexts, AsksForVerify}
+use Rattle.warnc_cli.specs.CommandLine.{AsksForWhole}
 use Rattle.warnc_cli.specs.Status.{status_of_book_fault, status_of_page_fault}
 use Rattle.warnc_cli.specs.declared.command.Task.{Task}
 use Rattle.warnc_cli.specs.declared.command.Task.TheVariants as task
@@ -47,13 +57,15 @@ IsTaskOf words task.Whole = AsksForWhole words
 IsTaskOf words (task.Pcap settings) = AsksForPcap words settings
 IsTaskOf words task.Cells = AsksForCells words
 IsTaskOf words (task.Tape wanted) = AsksForTape words wanted
+IsTaskOf words (task.Tapes wanted file) = AsksForTapes words wanted file.now
 IsTaskOf words task.Groups = AsksForGroups words
 IsTaskOf words task.Check = AsksForCheck words
 IsTaskOf words (task.Remark slots strict) = AsksForRemarks words slots strict
+IsTaskOf words task.Plan = AsksForPlan words
 IsTaskOf words (task.Texts pages) = AsksForTexts words pages
 IsTaskOf words (task.Make run made) = AsksForRun words run made
-IsTaskOf words (task.Verify from slots pages file workers) =
-    AsksForVerify words from slots pages file.now workers.number
+IsTaskOf words (task.Verify from slots pages told file workers) =
+    AsksForVerify words from slots pages told file.now workers.number
 
 -- What is written with status 0.
 
@@ -65,15 +77,22 @@ Means task.Whole = IsWholeOutput
 Means (task.Pcap settings) = IsCapture settings
 Means task.Cells = IsCellsOutput
 Means (task.Tape wanted) = IsTapeOfCapture wanted
+Means (task.Tapes wanted file) = λ input output. ⊥
 Means task.Groups = IsGroupCount
 Means task.Check = IsClean
 Means (task.Remark slots strict) = IsRemarkedFor slots strict
+Means task.Plan = IsPlanOutput
 Means (task.Texts pages) = IsTextsOutput pages
 Means (task.Make run made) = IsMadeBy run made
-Means (task.Verify from slots pages file workers) = λ input output. ⊥
+Means (task.Verify from slots pages told file workers) = λ input output. ⊥
 
--- a writer was given the output of a book and of tapes: of those that the readers had left, if they are known, and else
--- of some
+-- the octets are a table of cells and a capture, and the tapes of the cells
+abbrev pub AreAllTapes : AllWanted → (table capture output : List ℕ) → Type 0
+AreAllTapes wanted table capture output = (rows : List CellRow) × IsCellTable table rows
+    × AreTapesOfCapture (all_wanted wanted rows) capture output
+
+-- a writer was given the output of a book and of tapes, or of a table and of a capture: of those that the readers had
+-- left, if they are known, and else of some
 pub record WritesOutputOfBoth (IsOutput : (book tapes output : List ℕ) → Type 0)
     (book tapes old new : Option (List ℕ)) : Type 0 where
   pub book_octets : List ℕ
@@ -87,8 +106,9 @@ pub record WritesOutputOfBoth (IsOutput : (book tapes output : List ℕ) → Typ
 -- what a task writes: `book` and `input` are what the readers had left, if that is known, and `old` and `new` are what
 -- the writer held before and after
 abbrev pub WritesAll : Task → (book input old new : Option (List ℕ)) → Type 0
-WritesAll (task.Verify from slots pages file workers) book input old new =
-    WritesOutputOfBoth (IsVerified from slots pages) book input old new
+WritesAll (task.Verify from slots pages told file workers) book input old new =
+    WritesOutputOfBoth (IsVerified from slots pages told) book input old new
+WritesAll (task.Tapes wanted file) book input old new = WritesOutputOfBoth (AreAllTapes wanted) book input old new
 WritesAll other book input old new = WritesOutput (Means other) input old new
 
 -- the line of the columns' names stands over a report
@@ -96,12 +116,13 @@ abbrev pub IsHeaded : Books → Type 0
 IsHeaded (books.One (origin.Group group)) = ⊥
 IsHeaded other = ⊤
 
--- it writes something: tapes are none of a book without cells, nor whole tapes of no tapes, and the report of a later
--- group has no line of the columns' names
+-- it writes something: tapes are none of a book without cells, nor whole tapes of no tapes, a plan of no row comes to
+-- none, and the report of a later group has no line of the columns' names
 abbrev pub AlwaysWrites : Task → Type 0
 AlwaysWrites (task.Make run product.Tapes) = ⊥
 AlwaysWrites (task.Make run (product.Report columns)) = IsHeaded run.books
 AlwaysWrites task.Whole = ⊥
+AlwaysWrites task.Plan = ⊥
 AlwaysWrites other = ⊤
 
 -- What is refused with status 1.
@@ -139,6 +160,10 @@ IsRemarkable slots strict input = IsNotClean input ⊎ (((f : RunFault) × IsSto
 -- the input is refused: it has more octets than a book may have, or a row that is none of a book
 abbrev pub IsNoRows : (input : List ℕ) → Type 0
 IsNoRows input = (max_book < length input) ⊎ ((f : BookFault) × IsRowFault input f)
+
+-- the input is refused: it or what it comes to has more octets than a book may have, or a row comes to none of a book
+abbrev pub IsNoPlan : (input : List ℕ) → Type 0
+IsNoPlan input = IsTooLong input ⊎ ((f : PlanRowFault) × IsPlanRowFault input f)
 
 -- the input is refused as a network book, of which a group is asked for
 abbrev pub IsNoNetwork : (group : ℕ) (input : List ℕ) → Type 0
@@ -178,6 +203,21 @@ abbrev pub IsNotVerified : (from : Origin) (slots : ℕ) (pages : Pages) (book t
 IsNotVerified from slots pages book tapes = IsNoRun from slots 1 book
     ⊎ ((HasRun from slots book × IsNoTapes tapes) ⊎ Differs from slots pages book tapes)
 
+-- the octets have more than a table of cells may have, or are none
+abbrev pub IsNoTable : (table : List ℕ) → Type 0
+IsNoTable table = (max_table < length table) ⊎ ((f : TableFault) × IsTableFault table f)
+
+-- the input is too long for a capture, or no capture file that has the tapes of these cells
+abbrev pub IsNoAirOf : AllWanted → List CellRow → (capture : List ℕ) → Type 0
+IsNoAirOf wanted rows capture = (max_capture < length capture)
+    ⊎ ((why : TapesFault) × IsTapesFault (all_wanted wanted rows) capture why)
+
+-- the octets of a table of cells and a capture have no tapes: the table is none; or it is one, and the capture hasn't
+-- the tapes of its cells
+abbrev pub HasNoTapes : AllWanted → (table capture : List ℕ) → Type 0
+HasNoTapes wanted table capture =
+    IsNoTable table ⊎ ((rows : List CellRow) × IsCellTable table rows × IsNoAirOf wanted rows capture)
+
 -- the input that a command of one input refuses
 abbrev pub RefusesOne : Task → (input : List ℕ) → Type 0
 RefusesOne (task.Page language id serial) = IsRefused language.now
@@ -186,17 +226,20 @@ RefusesOne task.Whole = IsNoTapes
 RefusesOne (task.Pcap settings) = IsNoTapes
 RefusesOne task.Cells = IsNoHeard
 RefusesOne (task.Tape wanted) = IsNoAir wanted
+RefusesOne (task.Tapes wanted file) = λ input. ⊥
 RefusesOne task.Groups = IsNoNetwork 0
 RefusesOne task.Check = IsNotClean
 RefusesOne (task.Remark slots strict) = IsRemarkable slots strict
+RefusesOne task.Plan = IsNoPlan
 RefusesOne (task.Texts pages) = IsNoRows
 RefusesOne (task.Make run made) = IsNoRunOf run.books run.slots run.sessions.number
-RefusesOne (task.Verify from slots pages file workers) = λ input. ⊥
+RefusesOne (task.Verify from slots pages told file workers) = λ input. ⊥
 
 -- what a task refuses, of readers whose octets are known
 abbrev pub Refuses : Task → (book input : Option (List ℕ)) → Type 0
-Refuses (task.Verify from slots pages file workers) book input =
+Refuses (task.Verify from slots pages told file workers) book input =
     IfSome book (λ octets. IfSome input (IsNotVerified from slots pages octets))
+Refuses (task.Tapes wanted file) book input = IfSome book (λ table. IfSome input (HasNoTapes wanted table))
 Refuses other book input = IfSome input (RefusesOne other)
 
 -- What may be written with status 1 and 4.
@@ -208,7 +251,7 @@ IsUnremarked slots input = (max_book < length input) ⊎ ((f : RunFault) × IsSt
 -- a task refuses what it reads and has no table to write of it: `verify` has no run or no tapes, and a book is too long
 -- for `check`, or has no run with `--slots`. Other commands never write a table with status 1
 abbrev pub RefusesUnseen : Task → (book input : Option (List ℕ)) → Type 0
-RefusesUnseen (task.Verify from slots pages file workers) book input =
+RefusesUnseen (task.Verify from slots pages told file workers) book input =
     IfSome book (λ octets. IfSome input (IsUnverified from slots octets))
 RefusesUnseen task.Check book input = IfSome input (λ octets. max_book < length octets)
 RefusesUnseen (task.Remark slots strict) book input = IfSome input (IsUnremarked slots)
@@ -227,8 +270,8 @@ WritesFirstGroups other book input old new = ⊥
 -- the table of the differences was written, of which there is one at least, or that of the rows with a fault, or that
 -- of the remarks
 abbrev pub WritesDifferences : Task → (book input old new : Option (List ℕ)) → Type 0
-WritesDifferences (task.Verify from slots pages file workers) book input old new =
-    WritesOutputOfBoth (HasDifferences from slots pages) book input old new
+WritesDifferences (task.Verify from slots pages told file workers) book input old new =
+    WritesOutputOfBoth (HasDifferences from slots pages told) book input old new
 WritesDifferences task.Check book input old new =
     (count : ℕ) × WritesOutput (HasFaults count) input old new
 WritesDifferences (task.Remark slots strict) book input old new =

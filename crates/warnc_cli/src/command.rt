@@ -4,11 +4,11 @@ ghost use Rattle.std.specs.Prelude.{◌≡◌, ◌<◌, ◌∷◌, ◌++◌, ◌
 ghost use Rattle.std.specs.Prelude.{slice_get};
 ghost use Rattle.warnc_cli.specs.CommandLine.{asks_for_text, begins_with, is_given, is_text_word, GivesNumber};
 ghost use Rattle.warnc_cli.specs.CommandLine.{GivesChannel, GivesChannelType, GivesSlots, GivesThreads, GivesValue};
-ghost use Rattle.warnc_cli.specs.CommandLine.{GivesArfcn, GivesCell, GivesEdge, GivesFirstSlot, GivesFrom};
+ghost use Rattle.warnc_cli.specs.CommandLine.{GivesArfcn, GivesCell, GivesEdge, GivesFile, GivesFirstSlot, GivesFrom};
 ghost use Rattle.warnc_cli.specs.CommandLine.{GivesPart, GivesView, GivesWanted};
 ghost use Rattle.warnc_cli.specs.CommandLine.{IsAddress, IsCell};
 ghost use Rattle.warnc_cli.specs.CommandLine.{columns_given, slots_given, GivesBooks, GivesOrigin, GivesPages};
-ghost use Rattle.warnc_cli.specs.CommandLine.{pages_given, GivesProduct, GivesTapeSlots, IsNumber};
+ghost use Rattle.warnc_cli.specs.CommandLine.{detail_given, pages_given, GivesProduct, GivesTapeSlots, IsNumber};
 ghost use Rattle.warnc_cli.specs.Tasks.{IsTaskOf};
 
 use crate::start::start_in;
@@ -24,10 +24,12 @@ use report::Columns;
 use short_pages::Pages;
 use std::alloc::{AllocError, Global};
 use std::convert::AsStr;
+use verification::Detail;
+use warnc_air::all::AllWanted;
 use warnc_run::{Books, Product, Run, Sessions, Workers};
 
 /// The version of the program, and on a line of its own what `rt version` says of the toolchain that proved it.
-const VERSION: &str = "1.9.0\nrattle-kit-13f logic dac8208d650f15bf";
+const VERSION: &str = "1.10.0\nrattle-kit-13f logic dac8208d650f15bf";
 
 /// The words for the channel that packets name.
 const CHANNEL_TYPES: &[&str] = &["cbch", "sdcch"];
@@ -54,6 +56,13 @@ pub enum Task<'a> {
     Cells,
     /// `tape`.
     Tape(Wanted),
+    /// `tape` of all cells of a table.
+    Tapes {
+        /// Which tapes are wanted.
+        wanted: AllWanted,
+        /// The name of the table's file.
+        file: &'a str,
+    },
     /// `groups`.
     Groups,
     /// `check` of the rows alone.
@@ -65,6 +74,8 @@ pub enum Task<'a> {
         /// Whether there are to be no remarks.
         strict: bool,
     },
+    /// `plan`.
+    Plan,
     /// `texts`.
     Texts {
         /// For how many pages each text is cut.
@@ -85,6 +96,8 @@ pub enum Task<'a> {
         slots: u16,
         /// Which pages of the tapes are read.
         pages: Pages,
+        /// How much is told of each difference.
+        told: Detail,
         /// The name of the book's file.
         file: &'a str,
         /// How many workers play the cells.
@@ -122,18 +135,10 @@ fn task_in<'a, S: AsStr>(words: &'a [S]) -> Option<Task<'a>>
             start: start_in(words)?,
         })),
         "cells" => Some(Task::Cells),
-        "tape" => Some(Task::Tape(Wanted {
-            cell: cell_in(words)?,
-            slots: tape_slots_in(words)?,
-            first_slot: first_slot_in(words)?,
-            from: Sender {
-                address: from_in(words)?,
-                arfcn: arfcn_in(words)?,
-                channel: channel_type_in(words)?,
-            },
-        })),
+        "tape" => tape_in(words),
         "groups" => Some(Task::Groups),
         "check" => check_in(words),
+        "plan" => Some(Task::Plan),
         "texts" => Some(Task::Texts {
             pages: pages_in(words)?,
         }),
@@ -153,6 +158,7 @@ fn task_in<'a, S: AsStr>(words: &'a [S]) -> Option<Task<'a>>
             origin: origin_in(words)?,
             slots: slots_in(words)?,
             pages: wanted_pages(words),
+            told: detail_in(words),
             file: value_of(words, "--book")?,
             workers: workers_in(words)?,
         }),
@@ -173,6 +179,43 @@ fn run_in<'a, S: AsStr>(words: &'a [S], made: Product, sessions: Sessions) -> Op
             workers: workers_in(words)?,
         },
         made,
+    })
+}
+
+/// The `tape` that the words ask for: of one cell, or of all cells of a table.
+fn tape_in<'a, S: AsStr>(words: &'a [S]) -> Option<Task<'a>>
+    requires { slice_get (map S.text words.now) 1 ≡ Some (codes "tape") }
+    ensures { IfSome result (IsTaskOf (map S.text words.now)) }
+{
+    if is_given(words, "--cells") {
+        return tapes_in(words);
+    }
+    Some(Task::Tape(Wanted {
+        cell: cell_in(words)?,
+        slots: tape_slots_in(words)?,
+        first_slot: first_slot_in(words)?,
+        from: Sender {
+            address: from_in(words)?,
+            arfcn: arfcn_in(words)?,
+            channel: channel_type_in(words)?,
+        },
+    }))
+}
+
+/// The `tape` of all cells of a table that the words ask for.
+fn tapes_in<'a, S: AsStr>(words: &'a [S]) -> Option<Task<'a>>
+    requires command { slice_get (map S.text words.now) 1 ≡ Some (codes "tape") }
+    requires given { is_given (map S.text words.now) (codes "--cells") ≡ true }
+    ensures { IfSome result (IsTaskOf (map S.text words.now)) }
+{
+    let slots = tape_slots_in(words)?;
+    Some(Task::Tapes {
+        wanted: AllWanted {
+            slots,
+            first_slot: first_slot_in(words)?,
+            channel: channel_type_in(words)?,
+        },
+        file: value_of(words, "--cells")?,
     })
 }
 
@@ -237,6 +280,17 @@ fn captured_slots<S: AsStr>(words: &[S]) -> Slots
         Slots::Used
     } else {
         Slots::All
+    }
+}
+
+/// How much the words want to be told of each difference.
+fn detail_in<S: AsStr>(words: &[S]) -> Detail
+    ensures { result ≡ detail_given (map S.text words.now) }
+{
+    if is_given(words, "--explain") {
+        Detail::Explained
+    } else {
+        Detail::Plain
     }
 }
 
@@ -458,14 +512,14 @@ fn slots_in<S: AsStr>(words: &[S]) -> Option<u16>
     Some(slots)
 }
 
-/// The name of the file that has the book for `verify`; none if the words ask for another command or name no file. It
-/// is that which `verify` names in its faults, if clap takes the words.
+/// The name of the file that is read beside the input: the book for `verify`, or the table of cells for `tape`; none if
+/// the words ask for another command or name no file. It is that which faults name, if clap takes the words.
 pub fn book_file<'a, S: AsStr>(words: &'a [S]) -> Option<&'a str>
-    ensures file { IfSome result (λ file. GivesValue (map S.text words.now) (codes "--book") file.now) }
-    ensures command { OnSome result (slice_get (map S.text words.now) 1 ≡ Some (codes "verify")) }
+    ensures { IfSome result (λ file. GivesFile (map S.text words.now) file.now) }
 {
     match words.get(1)?.as_str() {
         "verify" => value_of(words, "--book"),
+        "tape" => value_of(words, "--cells"),
         _ => None,
     }
 }
@@ -584,6 +638,7 @@ fn warnc<'a>(alloc: Global) -> Result<Command<'a>, AllocError> {
         .version(VERSION)
         .subcommand_required(true)
         .arg_required_else_help(true)
+        .subcommand(plan(alloc))?
         .subcommand(check(alloc)?)?
         .subcommand(texts(alloc)?)?
         .subcommand(compile(alloc)?)?
@@ -659,6 +714,7 @@ fn verify<'a>(alloc: Global) -> Result<Command<'a>, AllocError> {
         .arg(book(alloc))?
         .arg(slots(alloc))?
         .arg(short(alloc))?
+        .arg(explain(alloc))?
         .arg(group(alloc))?
         .arg(workers(alloc))
 }
@@ -672,6 +728,15 @@ fn check<'a>(alloc: Global) -> Result<Command<'a>, AllocError> {
         .after_help("Example: warnc check --slots 4096 < book.csv")
         .arg(checked_slots(alloc))?
         .arg(strict(alloc)?)
+}
+
+/// The command line of `plan`.
+fn plan<'a>(alloc: Global) -> Command<'a> {
+    Command::new(alloc, "plan")
+        .about(
+            "Reads a plan of alerts, as spreadsheets write it, and writes the book\nthat it comes to, as CSV",
+        )
+        .after_help("Example: warnc plan < plan.csv > book.csv")
 }
 
 /// The command line of `texts`.
@@ -741,10 +806,14 @@ fn cells<'a>(alloc: Global) -> Command<'a> {
 fn tape<'a>(alloc: Global) -> Result<Command<'a>, AllocError> {
     Command::new(alloc, "tape")
         .about(
-            "Reads a capture file of GSMTAP packets over IPv4, also of another\nprogram's making, and writes a tape of it",
+            "Reads a capture file of GSMTAP packets over IPv4, also of another\nprogram's making, and writes a tape of it, or one of each cell",
         )
-        .after_help("Example: warnc tape --cell 1-1 < air.pcap > tape")
-        .arg(cell(alloc))?
+        .after_help(
+            "Examples: warnc tape --cell 1-1 < air.pcap > tape\n          warnc tape --all --cells cells.csv < air.pcap > tapes",
+        )
+        .arg(cell(alloc)?)?
+        .arg(all(alloc)?)?
+        .arg(table(alloc)?)?
         .arg(tape_slots(alloc))?
         .arg(first_slot(alloc))?
         .arg(from(alloc))?
@@ -939,6 +1008,15 @@ fn short<'a>(alloc: Global) -> Arg<'a> {
     )
 }
 
+/// The option of what was expected and what came.
+fn explain<'a>(alloc: Global) -> Arg<'a> {
+    flag(
+        alloc,
+        "explain",
+        "Adds columns: what was expected and what came; a\nrow tells of all broadcasts that are lost in a row",
+    )
+}
+
 /// The option that leaves idle slots out of a capture.
 fn used<'a>(alloc: Global) -> Arg<'a> {
     flag(alloc, "used", "Leaves out slots in which no page is sent")
@@ -975,13 +1053,37 @@ fn start<'a>(alloc: Global) -> Arg<'a> {
 }
 
 /// The option of the cell that a tape names.
-fn cell<'a>(alloc: Global) -> Arg<'a> {
-    option(
+fn cell<'a>(alloc: Global) -> Result<Arg<'a>, AllocError> {
+    optional(
         alloc,
         "cell",
         "LAC-CI",
         "The cell that the tape names, as 1-2: its location\narea code and its cell identity, 0 to 65535 each",
     )
+    .required_unless_present("cells")
+}
+
+/// The option of the tapes of all cells.
+fn all<'a>(alloc: Global) -> Result<Arg<'a>, AllocError> {
+    flag(
+        alloc,
+        "all",
+        "Writes the tapes of all cells of --cells, which\nsays so alone, too",
+    )
+    .requires_arg("cells")
+}
+
+/// The option of the table of cells.
+fn table<'a>(alloc: Global) -> Result<Arg<'a>, AllocError> {
+    optional(
+        alloc,
+        "cells",
+        "FILE",
+        "The file of a table of cells, as CSV: the columns\nlac,ci,arfcn or lac,ci,source or lac,ci,source,arfcn,\nand a row for each tape",
+    )
+    .conflicts_with("cell")?
+    .conflicts_with("from")?
+    .conflicts_with("arfcn")
 }
 
 /// The option of the number of a tape's slots.

@@ -6,7 +6,7 @@ ghost use Rattle.device_ends.specs.Sink.{sink_failed, writer_of};
 ghost use Rattle.device_ends.specs.Source.{reader_of, source_failed};
 ghost use Rattle.device_ends.specs.Stream.{Writes};
 ghost use Rattle.warnc_cli.specs.Ends.{noted_reader};
-ghost use Rattle.warnc_cli.specs.Run.{AnyHasFailed, ByInputs, MayWrite, RefusesInput, WritesSome};
+ghost use Rattle.warnc_cli.specs.Run.{AnyHasFailed, ByInputs, IsOfOneFile, MayWrite, RefusesInput, WritesSome};
 ghost use Rattle.warnc_cli.specs.Run.{WritesSomeUnlessTapes, WroteOfRefused, WroteWhatIsAsked, WroteWithoutMemory};
 ghost use Rattle.warnc_cli.specs.RunSteps.{HasRun, IsDoneBy, IsRefusedBy, IsRunBetween, IsStatusOfSink};
 ghost use Rattle.warnc_cli.specs.RunSteps.{IsVerifyRunBetween, WroteFaultsBy, WroteFrontBy, WroteRemarksBy};
@@ -17,7 +17,9 @@ ghost use Rattle.warnc_verify.specs.Verified.{HasDifferences, IsVerified};
 use crate::command::{Task, asks_for_text, is_given, task_of};
 use crate::ends::{Noted, OpenLine};
 use crate::mistaken::mistaken_for;
-use crate::status::{DEVICE, DONE, MEMORY, REFUSED_INPUT, USAGE, failed, failed_with_book};
+use crate::status::{
+    DEVICE, DONE, MEMORY, REFUSED_INPUT, USAGE, failed, failed_with_book, failed_with_table,
+};
 use crate::unreadable::Unreadable;
 use alert_book::Origin;
 use book_check::check_stream;
@@ -29,12 +31,15 @@ use clap::error::ErrorKind;
 use device_ends::{Sink, Source, write_all};
 use gsmtap::{Settings, Wanted};
 use order_desk::Open;
+use plan::plan_stream;
 use short_pages::Pages;
 use std::alloc::{AllocGlobal, Global};
 use std::convert::AsStr;
 use std::io::{Read, Write};
 use std::sync::Wait;
 use std::thread::Threads;
+use verification::Detail;
+use warnc_air::all::{AllWanted, all_tapes_stream};
 use warnc_air::cells::cells_stream;
 use warnc_air::pcap::pcap_stream;
 use warnc_air::tape::tape_stream;
@@ -62,7 +67,7 @@ pub fn run<T: AllocGlobal + Threads + Wait + Sync, S: AsStr, R: Read, W: Write, 
     run_with_book(rt, words, &mut Unreadable, reader, writer, faults)
 }
 
-/// The same with a book for `verify`: the octets of the file that the words name
+/// The same with a book for `verify`, or a table of cells for `tape`: the octets of the file that the words name
 /// ([`book_file`](crate::book_file)). Other commands don't read it.
 ///
 /// This wraps the three ends, and is `run_between` on them: whose contract says what is written. With status 1 the line
@@ -119,10 +124,11 @@ fn run_noted<
 }
 
 /// The same, between the ends. With status 0 what the words ask for is written. That is one octet at least, but for
-/// `compile` and `live`, since a book without cells has no tapes, and for the report of a group. With 2 and 4 nothing
-/// is written. With 1 `verify` has written the differences, or nothing where there is no run or no tape to judge;
-/// `check` has written the faults or the remarks, or nothing of a book that is too long or has no run; other commands
-/// have written nothing. Of a network whose run ends early the first groups are written with 1 and with 4.
+/// `compile` and `live`, since a book without cells has no tapes, for `whole` and `plan`, and for the report of a
+/// group. With 2 and 4 nothing is written. With 1 `verify` has written the differences, or nothing where there is no
+/// run or no tape to judge; `check` has written the faults or the remarks, or nothing of a book that is too long or has
+/// no run; other commands have written nothing. Of a network whose run ends early the first groups are written with 1
+/// and with 4.
 pub fn run_between<
     T: AllocGlobal + Threads + Wait + Sync,
     S: AsStr,
@@ -153,8 +159,7 @@ pub fn run_between<
         (B.remaining (reader_of book.old)) (R.remaining (reader_of source.old)) }
     ensures device { result ≡ DEVICE → AnyHasFailed book.new source.new sink.new }
     ensures not_read { result ≡ USAGE → source.new ≡ source.old }
-    ensures no_book { result ≡ USAGE ⊎ (slice_get (map S.text words.now) 1 ≢ Some (codes "verify"))
-        → book.new ≡ book.old }
+    ensures no_book { result ≡ USAGE ⊎ IsOfOneFile (map S.text words.now) → book.new ≡ book.old }
     ensures failed { (source_failed book.old ≡ false) → (source_failed source.old ≡ false)
         → (sink_failed sink.old ≡ false) → AnyHasFailed book.new source.new sink.new → result ≡ DEVICE }
     ensures statuses { result ≤ 4 }
@@ -212,19 +217,24 @@ fn run_task<T: AllocGlobal + Threads + Wait + Sync, B: Read, R: Read, W: Write, 
         Task::Pcap(settings) => run_pcap(alloc, settings, source, sink, faults),
         Task::Cells => run_cells(alloc, source, sink, faults),
         Task::Tape(wanted) => run_tape(alloc, wanted, source, sink, faults),
+        Task::Tapes { wanted, file } => {
+            run_all_tapes(alloc, wanted, file, book, source, sink, faults)
+        }
         Task::Groups => run_groups(rt, source, sink, faults),
         Task::Check => run_check(alloc, source, sink, faults),
         Task::Remark { slots, strict } => run_remark(rt, slots, strict, source, sink, faults),
+        Task::Plan => run_plan(alloc, source, sink, faults),
         Task::Texts { pages } => run_texts(alloc, pages, source, sink, faults),
         Task::Make { run, made } => run_books(rt, run, made, source, sink, faults),
         Task::Verify {
             origin,
             slots,
             pages,
+            told,
             file,
             workers,
         } => run_verify(
-            rt, origin, slots, pages, file, workers, book, source, sink, faults,
+            rt, origin, slots, pages, told, file, workers, book, source, sink, faults,
         ),
     }
 }
@@ -351,6 +361,25 @@ fn run_tape<R: Read, W: Write, F: Write>(
     }
 }
 
+/// Runs `tape` of all cells of the table in this file, and returns the status.
+fn run_all_tapes<B: Read, R: Read, W: Write, F: Write>(
+    alloc: Global,
+    wanted: AllWanted,
+    file: &str,
+    table: &mut Source<B>,
+    source: &mut Source<R>,
+    sink: &mut Sink<W>,
+    faults: &mut F,
+) -> u8
+    ensures { HasRun (Task.Tapes wanted file.entry) result B.remaining R.remaining W.contents table.old table.new
+        source.old source.new sink.old sink.new }
+{
+    match all_tapes_stream(alloc, table, source, sink, &wanted) {
+        Ok(()) => DONE,
+        Err(fault) => failed_with_table(&fault, file, faults),
+    }
+}
+
 /// Runs `groups`, and returns the status.
 fn run_groups<T: AllocGlobal + Threads + Sync, R: Read, W: Write, F: Write>(
     rt: &T,
@@ -410,6 +439,25 @@ fn run_remark<T: AllocGlobal + Threads + Wait + Sync, R: Read, W: Write, F: Writ
     }
 }
 
+/// Runs `plan`, and returns the status.
+fn run_plan<R: Read, W: Write, F: Write>(
+    alloc: Global,
+    source: &mut Source<R>,
+    sink: &mut Sink<W>,
+    faults: &mut F,
+) -> u8
+    ensures done { IsDoneBy Task.Plan result R.remaining W.contents source.old sink.old sink.new }
+    ensures wrote { WroteSomeBy Task.Plan result W.contents sink.old sink.new }
+    ensures refused { IsRefusedBy Task.Plan result R.remaining source.old }
+    ensures front { WroteFrontBy Task.Plan result R.remaining W.contents source.old sink.old sink.new }
+    ensures ends { IsRunBetween Task.Plan result W.contents source.new sink.old sink.new }
+{
+    match plan_stream(alloc, source, sink) {
+        Ok(()) => DONE,
+        Err(fault) => failed(&fault, faults),
+    }
+}
+
 /// Runs `texts`, and returns the status.
 fn run_texts<R: Read, W: Write, F: Write>(
     alloc: Global,
@@ -457,6 +505,7 @@ fn run_verify<T: AllocGlobal + Threads + Wait + Sync, B: Read, R: Read, W: Write
     origin: Origin,
     slots: u16,
     pages: Pages,
+    told: Detail,
     file: &str,
     workers: Workers,
     book: &mut Source<B>,
@@ -464,7 +513,7 @@ fn run_verify<T: AllocGlobal + Threads + Wait + Sync, B: Read, R: Read, W: Write
     sink: &mut Sink<W>,
     faults: &mut F,
 ) -> u8
-    ensures done { result ≡ DONE → WritesOutputOfBoth (IsVerified origin slots pages)
+    ensures done { result ≡ DONE → WritesOutputOfBoth (IsVerified origin slots pages told)
         (B.remaining (reader_of book.old)) (R.remaining (reader_of tapes.old))
         (W.contents (writer_of sink.old)) (W.contents (writer_of sink.new)) }
     ensures ends { IsVerifyRunBetween result book.old book.new tapes.old tapes.new sink.old sink.new
@@ -475,11 +524,11 @@ fn run_verify<T: AllocGlobal + Threads + Wait + Sync, B: Read, R: Read, W: Write
     ensures differences { result ≡ REFUSED_INPUT → (IfSome (B.remaining (reader_of book.old)) (λ octets.
         IfSome (R.remaining (reader_of tapes.old)) (IsUnverified origin slots octets))
         × Keeps (W.contents (writer_of sink.old)) (W.contents (writer_of sink.new)))
-        ⊎ WritesOutputOfBoth (HasDifferences origin slots pages)
+        ⊎ WritesOutputOfBoth (HasDifferences origin slots pages told)
         (B.remaining (reader_of book.old)) (R.remaining (reader_of tapes.old))
         (W.contents (writer_of sink.old)) (W.contents (writer_of sink.new)) }
 {
-    match verify_stream(rt, book, tapes, sink, origin, slots, pages, workers) {
+    match verify_stream(rt, book, tapes, sink, origin, slots, pages, told, workers) {
         Ok(()) => DONE,
         Err(fault) => failed_with_book(&fault, file, faults),
     }

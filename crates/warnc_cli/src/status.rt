@@ -2,11 +2,11 @@
 
 ghost use Rattle.std.specs.Prelude.{◌≡◌, ℕ};
 ghost use Rattle.warnc_cli.specs.Status.{status_of_book_fault, status_of_check_fault, status_of_page_fault};
-ghost use Rattle.warnc_cli.specs.Status.{status_of_pcap_fault};
+ghost use Rattle.warnc_cli.specs.Status.{status_of_pcap_fault, status_of_plan_fault};
 ghost use Rattle.warnc_cli.specs.Status.{status_of_product_fault, status_of_read_fault, status_of_remark_fault};
 ghost use Rattle.warnc_cli.specs.Status.{status_of_run_fault};
 ghost use Rattle.warnc_cli.specs.Status.{status_of_tape_fault, status_of_tapes_fault, status_of_texts_fault};
-ghost use Rattle.warnc_cli.specs.Status.{status_of_verify_fault};
+ghost use Rattle.warnc_cli.specs.Status.{status_of_tapes_of_all, status_of_verify_fault};
 
 use alert_book::{BookFault, BookFaultKind};
 use book_check::CheckFault;
@@ -16,8 +16,10 @@ use cbs_page::TextFault;
 use handset::TapeFault;
 use order_desk::{DeskFault, SettleFault};
 use parallel_compile::CompileFault;
+use plan::PlanFault;
 use std::fmt::Display;
 use std::io::Write;
+use warnc_air::all::AllTapesFault;
 use warnc_air::pcap::PcapFault;
 use warnc_air::tape::TapeCommandFault;
 use warnc_inspect::page::PageFault;
@@ -57,6 +59,28 @@ pub(crate) fn failed<E: Fault, F: Write>(fault: &E, faults: &mut F) -> u8
 {
     let _ = writeln!(faults, "warnc: {fault}");
     fault.status()
+}
+
+/// Whether a fault of `tape` of all cells is one of the table.
+fn is_of_table(fault: &AllTapesFault) -> bool {
+    matches!(
+        fault,
+        AllTapesFault::TableReadFailed
+            | AllTapesFault::TableTooLong
+            | AllTapesFault::Table(_)
+            | AllTapesFault::NoBlock(_)
+    )
+}
+
+/// Reports a fault of `tape` of all cells: one of the table is named by its file, since the capture is another input.
+pub(crate) fn failed_with_table<F: Write>(fault: &AllTapesFault, file: &str, faults: &mut F) -> u8
+    ensures { result ≡ status_of_tapes_of_all fault.now }
+{
+    if is_of_table(fault) {
+        let _ = writeln!(faults, "warnc: {file}: {fault}");
+        return fault.status();
+    }
+    failed(fault, faults)
 }
 
 /// Reports a fault of `verify`: a book that couldn't be read is named by its file, since the tapes are another input.
@@ -128,6 +152,21 @@ impl Fault for TapeCommandFault {
     }
 }
 
+impl Fault for AllTapesFault {
+    ghost status_of = { status_of_tapes_of_all };
+
+    fn status(&self) -> u8 {
+        match *self {
+            AllTapesFault::TableTooLong | AllTapesFault::Table(_) => REFUSED_INPUT,
+            AllTapesFault::TooLong | AllTapesFault::Air(_) => REFUSED_INPUT,
+            AllTapesFault::NoBlock(_) => REFUSED_INPUT,
+            AllTapesFault::TableReadFailed | AllTapesFault::ReadFailed => DEVICE,
+            AllTapesFault::WriteFailed => DEVICE,
+            AllTapesFault::Refused => MEMORY,
+        }
+    }
+}
+
 impl Fault for CheckFault {
     ghost status_of = { status_of_check_fault };
 
@@ -149,6 +188,18 @@ impl Fault for RemarkFault {
             RemarkFault::Run(_) | RemarkFault::Remarks(_) => REFUSED_INPUT,
             RemarkFault::ReadFailed | RemarkFault::WriteFailed => DEVICE,
             RemarkFault::Refused => MEMORY,
+        }
+    }
+}
+
+impl Fault for PlanFault {
+    ghost status_of = { status_of_plan_fault };
+
+    fn status(&self) -> u8 {
+        match *self {
+            PlanFault::TooLong | PlanFault::Row(_) => REFUSED_INPUT,
+            PlanFault::ReadFailed | PlanFault::WriteFailed => DEVICE,
+            PlanFault::Refused => MEMORY,
         }
     }
 }

@@ -175,8 +175,8 @@ all -> worked
 
 # another cell, and no number of slots: the tape ends with the last block
 args cells
-worked source,arfcn,channel,blocks,first,last,slots,pages,identifiers
-worked 0.1.0.1,0,cbch,4,1,4,1,1,4370
+worked source,arfcn,channel,blocks,first,last,slots,pages,identifiers,first_time,last_time
+worked 0.1.0.1,0,cbch,4,1,4,1,1,4370,0.000000000,0.706153000
 run -> 0
 all -> worked
 reads 0 356 -> 3 warnc: read failed
@@ -186,7 +186,7 @@ all -> worked
 writer 10 4
 run -> 3
 err -> warnc: write failed
-all -> 40 of 93
+all -> 40 of 138
 fronts 0 23 -> 1 warnc: not a capture file
 fronts 25 106 -> 1 warnc: packet 1: capture is short
 args cells --slots 2
@@ -312,6 +312,116 @@ run -> 0
 says --from <IPV4> -> yes
 ";
 
+const ALL: &str = "
+# the tapes of two cells, in the order of the table: the second has one block
+args tape --all --cells cells.csv
+book lac,ci,source
+book 1,9,0.1.0.2
+book 1,1,0.1.0.1
+in-hex d4c3b2a1020004000000000000000000ffff0000e4000000
+in-hex 00000000000000004300000043000000 4500004300000000401170a9000100010a000000
+in-hex 12791279002f0000 0204010000000000000000200f000200 200010111201118046a3d168341a8d46a3d168341a8d46
+in-hex 00000000000000004300000043000000 4500004300000000401170a9000100010a000000
+in-hex 12791279002f0000 0204010000000000000000530f000200 21a3d168341a8d46a3d168341a8d46a3d168341a8d46a3
+in-hex 00000000000000004300000043000000 4500004300000000401170a9000100010a000000
+in-hex 12791279002f0000 0204010000000000000000860f000200 22d168341a8d46a3d168341a8d46a3d168341a8d46a3d1
+in-hex 00000000000000004300000043000000 4500004300000000401170a9000100010a000000
+in-hex 12791279002f0000 0204010000000000000000b90f000200 3368341a8d46a3d168341a8d46a3d168341a8d46a3d100
+in-hex 00000000000000004300000043000000 4500004300000000401170a9000100020a000000
+in-hex 12791279002f0000 0204010000000000000000200f000200 200010111201118046a3d168341a8d46a3d168341a8d46
+worked-hex 0001 0009 00000001
+worked-hex 200010111201118046a3d168341a8d46a3d168341a8d46
+worked-hex 2f2b2b2b2b2b2b2b2b2b2b2b2b2b2b2b2b2b2b2b2b2b2b
+worked-hex 2f2b2b2b2b2b2b2b2b2b2b2b2b2b2b2b2b2b2b2b2b2b2b
+worked-hex 2f2b2b2b2b2b2b2b2b2b2b2b2b2b2b2b2b2b2b2b2b2b2b
+worked-hex 0001 0001 00000001
+worked-hex 200010111201118046a3d168341a8d46a3d168341a8d46
+worked-hex 21a3d168341a8d46a3d168341a8d46a3d168341a8d46a3
+worked-hex 22d168341a8d46a3d168341a8d46a3d168341a8d46a3d1
+worked-hex 3368341a8d46a3d168341a8d46a3d168341a8d46a3d100
+run -> 0
+all -> worked
+# the option says so alone; the table names a radio channel, too
+args tape --slots 1 --cells=cells.csv
+book lac,ci,source,arfcn
+book 1,9,0.1.0.2,0
+book 1,1,0.1.0.1,0
+run -> 0
+all -> worked
+# a sender of no block, and one cell or sender twice
+book lac,ci,arfcn
+book 1,9,1
+fails -> 1 warnc: cells.csv: row 2: no block
+book lac,ci,source
+book 1,9,0.1.0.2
+book 1,1,0.1.0.3
+fails -> 1 warnc: cells.csv: row 3: no block
+book lac,ci,source
+book 1,9,0.1.0.2
+book 1,9,0.1.0.1
+fails -> 1 warnc: cells.csv: row 3: cell again
+book lac,ci,source
+book 1,9,0.1.0.2
+book 1,8,0.1.0.2
+fails -> 1 warnc: cells.csv: row 3: sender again
+book ci,lac,source
+fails -> 1 warnc: cells.csv: row 1: columns are lac,ci,arfcn or lac,ci,source or lac,ci,source,arfcn
+book-none
+fails -> 1 warnc: cells.csv: row 1: columns are lac,ci,arfcn or lac,ci,source or lac,ci,source,arfcn
+book lac,ci,source
+fails -> 1 warnc: cells.csv: row 2: no row
+book lac,ci,source
+book 1,65536,0.1.0.2
+fails -> 1 warnc: cells.csv: row 2: ci is no number from 0 to 65535
+book lac,ci,source
+book 1,1,0.1.2
+fails -> 1 warnc: cells.csv: row 2: source is no address as 127.0.0.1
+book lac,ci,arfcn
+book 1,1,1024
+fails -> 1 warnc: cells.csv: row 2: arfcn is no number from 0 to 1023
+book lac,ci,arfcn
+book 1,1
+fails -> 1 warnc: cells.csv: row 2: fields aren't one for each column
+# the table is told before the capture, and the capture by its packet
+in a
+fails -> 1 warnc: cells.csv: row 2: fields aren't one for each column
+book lac,ci,arfcn
+book 1,1,0
+fails -> 1 warnc: not a capture file
+in-hex d4c3b2a1020004000000000000000000ffff0000e4000000
+in-hex 00000000000000004300000043000000 4500004300000000401170a9000100010a000000
+in-hex 12791279002f0000 0204010000000000000000200f000200 200010111201118046a3d168341a8d46a3d168341a8d46
+in-hex 00000000000000004300000043000000 4500004300000000401170a9000100010a000000
+in-hex 12791279002f0000 0204010000000000000000530f000200 21a3d168341a8d46a3d168341a8d46a3d168341a8d46a3
+in-hex 00000000000000004300000043000000 4500004300000000401170a9000100010a000000
+in-hex 12791279002f0000 0204010000000000000000860f000200 22d168341a8d46a3d168341a8d46a3d168341a8d46a3d1
+in-hex 00000000000000004300000043000000 4500004300000000401170a9000100010a000000
+in-hex 12791279002f0000 0204010000000000000000b90f000200 3368341a8d46a3d168341a8d46a3d168341a8d46a3d100
+in-hex 00000000000000004300000043000000 4500004300000000401170a9000100020a000000
+in-hex 12791279002f0000 0204010000000000000000200f000200 200010111201118046a3d168341a8d46a3d168341a8d46
+fronts 25 106 -> 1 warnc: packet 1: capture is short
+reads 0 24 -> 3 warnc: read failed
+book-reads 0 9 -> 3 warnc: cells.csv: read failed
+bookless
+fails -> 3 warnc: cells.csv: read failed
+writer 10 10
+run -> 3
+err -> warnc: write failed
+all -> 100 of 200
+args tape --all
+usage -> 2 error:
+args tape --all --cell 1-1
+usage -> 2 error:
+args tape --cells cells.csv --cell 1-1
+usage -> 2 error:
+args tape --cells cells.csv --from 1.2.3.4
+usage -> 2 error:
+args tape --cells cells.csv --arfcn 1
+usage -> 2 error:
+args tape
+usage -> 2 error:
+";
+
 #[test]
 fn tapes_give_captures(rt: HostRuntime) -> Result<(), Fail> {
     expect_rows(&rt, PCAP, 121)
@@ -320,4 +430,9 @@ fn tapes_give_captures(rt: HostRuntime) -> Result<(), Fail> {
 #[test]
 fn captures_give_tapes(rt: HostRuntime) -> Result<(), Fail> {
     expect_rows(&rt, TAPE, 164)
+}
+
+#[test]
+fn captures_give_the_tapes_of_all_cells(rt: HostRuntime) -> Result<(), Fail> {
+    expect_rows(&rt, ALL, 103)
 }

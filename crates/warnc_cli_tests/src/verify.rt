@@ -43,6 +43,12 @@ run -> 1
 out -> lac,ci,id,serial,slot,difference
 out -> 1,1,4370,0010,2,broadcast 0 not whole
 err -> warnc: differences: 1
+args verify --slots 2 --explain --book book.csv
+run -> 1
+out -> lac,ci,id,serial,slot,difference,expected,got
+out -> 1,1,4370,0010,2,broadcast 0 not whole,slots 0 to 1,nothing
+err -> warnc: differences: 1
+args verify --slots 2 --book book.csv
 
 # the text is a pound sign, 01; the broadcast isn't whole
 book cell,1,1
@@ -59,6 +65,13 @@ out -> lac,ci,id,serial,slot,difference
 out -> 1,1,4370,0010,0,page 1 reads otherwise
 out -> 1,1,4370,0010,2,broadcast 0 not whole
 err -> warnc: differences: 2
+args verify --slots 2 --book book.csv --explain
+run -> 1
+out -> lac,ci,id,serial,slot,difference,expected,got
+out -> 1,1,4370,0010,0,page 1 reads otherwise,@,£
+out -> 1,1,4370,0010,2,broadcast 0 not whole,slots 0 to 1,nothing
+err -> warnc: differences: 2
+args verify --slots 2 --book book.csv
 
 # a message that nobody ordered, and the page once more when its periods are over
 book cell,1,1
@@ -234,5 +247,5 @@ usage -> 2 error:
 
 #[test]
 fn tapes_are_judged_by_their_book(rt: HostRuntime) -> Result<(), Fail> {
-    expect_rows(&rt, VERIFY, 202)
+    expect_rows(&rt, VERIFY, 215)
 }
