@@ -35,6 +35,8 @@ IPV4 = b"\x08\x00"
 PCAPNG = b"\x0A\x0D\x0D\x0A"
 ORDERS = {b"\x4D\x3C\x2B\x1A": "<", b"\x1A\x2B\x3C\x4D": ">"}
 INTERFACE, OLD_PACKET, SIMPLE_PACKET, PACKET = 1, 2, 3, 6
+# options of an interface: the resolution of its clock, and the time from which it counts
+TS_RESOLUTION, TS_OFFSET = 9, 14
 FRAMES = 51 * 26 * 2048
 SLOTS = FRAMES // 51 // 8
 MOST_SLOTS = 65535
@@ -98,37 +100,38 @@ def capture_of(octets, used=False, channel=15, start=0):
 
 
 def packets_of(octets):
-    """Returns an iterator over the packets: their number, link type and octets."""
+    """Returns an iterator over the packets: their number, link type, time in nanoseconds or None, and octets."""
     if octets[:4] == PCAPNG:
         return each_in_blocks(octets)
     if len(octets) < 24:
         raise Refused("not a capture file")
     for order in "<>":
-        if struct.unpack_from(order + "I", octets)[0] in (0xA1B2C3D4, 0xA1B23C4D):
+        unit = {0xA1B2C3D4: 1000, 0xA1B23C4D: 1}.get(struct.unpack_from(order + "I", octets)[0])
+        if unit:
             break
     else:
         raise Refused("not a capture file")
     link = struct.unpack_from(order + "I", octets, 20)[0]
     if link not in LINKS:
         raise Refused(unknown(link))
-    return each_packet(octets, order, link)
+    return each_packet(octets, order, link, unit)
 
 
 def unknown(link):
     return f"unknown link type {link}: known are 0, 1, 101, 108, 113, 228 and 276"
 
 
-def each_packet(octets, order, link):
+def each_packet(octets, order, link, unit):
     place, number = 24, 0
     while place < len(octets):
         number += 1
         if len(octets) - place < 16:
             raise Refused(f"packet {number}: capture is short")
-        size = struct.unpack_from(order + "I", octets, place + 8)[0]
+        second, fraction, size = struct.unpack_from(order + "III", octets, place)
         place += 16
         if len(octets) - place < size:
             raise Refused(f"packet {number}: capture is short")
-        yield number, link, octets[place:place + size]
+        yield number, link, second * 10 ** 9 + fraction * unit, octets[place:place + size]
         place += size
 
 
@@ -143,24 +146,45 @@ def each_in_blocks(octets):
                 struct.unpack_from(order + "IHHQ", body)
                 faces = []
             elif kind == INTERFACE:
-                faces.append(struct.unpack_from(order + "HHI", body))
+                faces.append((*struct.unpack_from(order + "HHI", body), tick_of(order, body[8:])))
             elif kind in (PACKET, OLD_PACKET):
                 words = struct.unpack_from(order + ("IQII" if kind == PACKET else "HHQII"), body)
-                link = faces[words[0]][0]
+                link, *_, tick = faces[words[0]]
                 if words[-2] > len(body) - 20:
                     raise IndexError
                 number += 1
-                yield number, link, body[20:20 + words[-2]]
+                high, low = struct.unpack_from(order + "II", body, 4)
+                yield number, link, told(tick, high << 32 | low), body[20:20 + words[-2]]
             elif kind == SIMPLE_PACKET:
                 size = struct.unpack_from(order + "I", body)[0]
-                link, _, longest = faces[0]
+                link, _, longest, _ = faces[0]
                 size = min(size, longest or size)
                 if size > len(body) - 4:
                     raise IndexError
                 number += 1
-                yield number, link, body[4:4 + size]
+                yield number, link, None, body[4:4 + size]
         except (struct.error, IndexError):
             raise Refused(f"packet {number + 1}: wrong block") from None
+
+
+def tick_of(order, octets):
+    """Returns how many nanoseconds a tick lasts by the options of an interface, or None where that isn't known."""
+    values = {}
+    while len(octets) >= 4:
+        code, size = struct.unpack_from(order + "HH", octets)
+        if code == 0 or size > len(octets) - 4:
+            break
+        values.setdefault(code, octets[4:4 + size])
+        octets = octets[4 + size + -size % 4:]
+    if TS_OFFSET in values:
+        return None
+    resolution = values.get(TS_RESOLUTION, b"\6")
+    return 10 ** (9 - resolution[0]) if len(resolution) == 1 and resolution[0] <= 9 else None
+
+
+def told(tick, ticks):
+    """Returns the nanoseconds of ticks, if 64 bits have them."""
+    return ticks * tick if tick is not None and ticks * tick < 1 << 64 else None
 
 
 def block_at(octets, place, order, number):
@@ -254,18 +278,24 @@ def sender_in(link, octets):
 def senders_of(octets):
     """Returns the table of who sends in a capture."""
     found = {}
-    for number, link, inside in packets_of(octets):
+    for number, link, when, inside in packets_of(octets):
         if link not in LINKS:
             raise Refused(f"packet {number}: {unknown(link)}")
         sender = sender_in(link, inside)
         if sender is not None:
-            found.setdefault(sender, []).append(number)
-    rows = [("source", "arfcn", "channel", "blocks", "first", "last", "slots", "pages", "identifiers")]
+            found.setdefault(sender, []).append((number, when))
+    rows = [("source", "arfcn", "channel", "blocks", "first", "last", "slots", "pages", "identifiers", "first_time",
+             "last_time")]
     for (source, arfcn, mark), them in found.items():
         source = struct.pack(">I", source)
-        rows.append((".".join(map(str, source)), arfcn, mark, len(them), them[0], them[-1],
-                     *carried_by(octets, source, arfcn, mark == "sdcch")))
+        (first, began), (last, ended) = them[0], them[-1]
+        rows.append((".".join(map(str, source)), arfcn, mark, len(them), first, last,
+                     *carried_by(octets, source, arfcn, mark == "sdcch"), seconds_of(began), seconds_of(ended)))
     return "".join(",".join(map(str, it)) + "\n" for it in rows).encode()
+
+
+def seconds_of(time):
+    return "" if time is None else f"{time // 10 ** 9}.{time % 10 ** 9:09}"
 
 
 def carried_by(octets, source, arfcn, is_sdcch):
@@ -283,7 +313,7 @@ def carried_by(octets, source, arfcn, is_sdcch):
 
 def tape_of(octets, lac, cell, slots, source=None, channel=None, is_sdcch=False, first_slot=0):
     blocks, first, last = {}, None, None
-    for number, link, inside in packets_of(octets):
+    for number, link, _, inside in packets_of(octets):
         if link not in LINKS:
             raise Refused(f"packet {number}: {unknown(link)}")
         found = block_in(link, inside, source, channel, is_sdcch)
@@ -362,7 +392,7 @@ def random_file(rng, tape, is_sdcch=False):
     """A capture of a tape with another header, order, time and disturbance, and maybe marked as SDCCH."""
     order, magic = rng.choice("<>"), rng.choice([0xA1B2C3D4, 0xA1B23C4D])
     link = rng.choice(LINKS)
-    inside = [it for _, _, it in packets_of(capture_of(tape, rng.random() < 0.3, rng.choice([12, 15])))]
+    inside = [it for *_, it in packets_of(capture_of(tape, rng.random() < 0.3, rng.choice([12, 15])))]
     if is_sdcch:
         inside = [it[:40] + rng.choice([b"\7", b"\x08"]) + it[41:] for it in inside]
     if rng.random() < 0.7:
@@ -370,7 +400,8 @@ def random_file(rng, tape, is_sdcch=False):
     if rng.random() < 0.5:
         return random_blocks(rng, inside)
     inside = [linked(rng, link, it) for it in inside]
-    out = file_header(order, magic, link) + b"".join(packet(it, (rng.randrange(1 << 32), 7), order) for it in inside)
+    out = file_header(order, magic, link) + b"".join(
+        packet(it, (rng.randrange(1 << 32), rng.choice([7, 999999, rng.randrange(1 << 32)])), order) for it in inside)
     if rng.random() < 0.1:
         out = out[:rng.randrange(len(out) + 1)]
     if rng.random() < 0.02:
@@ -384,6 +415,17 @@ def block_of(order, kind, body):
     body += bytes(-len(body) % 4)
     size = struct.pack(order + "I", 12 + len(body))
     return struct.pack(order + "I", kind) + size + body + size
+
+
+def clock(rng, order):
+    """Options that say how an interface counts time, among others."""
+    out = options(rng, order).removesuffix(bytes(4)) if rng.random() < 0.5 else b""
+    if rng.random() < 0.6:
+        value = bytes([rng.choice([0, 3, 6, 6, 9, 9, 10, 0x86, 0x8A])]) + rng.choice([b"", b"", b"", b"\0"])
+        out += struct.pack(order + "HH", TS_RESOLUTION, len(value)) + value + bytes(-len(value) % 4)
+    if rng.random() < 0.05:
+        out += struct.pack(order + "HHQ", TS_OFFSET, 8, rng.randrange(1 << 20))
+    return out + rng.choice([b"", bytes(4)])
 
 
 def options(rng, order):
@@ -409,7 +451,7 @@ def random_blocks(rng, inside):
             link = rng.choice(LINKS) if rng.random() < 0.9 else rng.randrange(65536)
             faces.append((link, rng.choice([0, 0, 65535, 262144, rng.randrange(200)])))
             body = struct.pack(order + "HHI", faces[-1][0], rng.randrange(65536), faces[-1][1])
-            out.append(block_of(order, INTERFACE, body + options(rng, order)))
+            out.append(block_of(order, INTERFACE, body + clock(rng, order)))
         if rng.random() < 0.1:
             other = rng.choice([0, 4, 5, 7, 10, 0xBAD, 0x40000BAD, 0x80000001, rng.randrange(11, 2 ** 32)])
             out.append(block_of(order, other, rng.randbytes(4 * rng.randrange(9))))
@@ -535,16 +577,17 @@ def shown_by_tshark(capture):
 
 def heard_by_tshark(capture):
     """The rows of `cells` for a capture whose blocks are marked as those of a CBCH, by what tshark says of packets."""
-    asked = ("frame.number", "ip.src", "gsmtap.arfcn", "gsmtap.frame_nr")
+    asked = ("frame.number", "frame.time_epoch", "ip.src", "gsmtap.arfcn", "gsmtap.frame_nr")
     wanted = "gsmtap.type == 1 && gsmtap.uplink == 0 && gsmtap.chan_type in {12, 15}"
     fields = [word for name in asked for word in ("-e", name)]
     done = subprocess.run(["tshark", "-r", "-", "-Y", wanted, "-T", "fields", *fields],
                           input=capture, stdout=subprocess.PIPE, stderr=subprocess.DEVNULL, check=True)
     heard = {}
-    for number, source, arfcn, frame in (it.split("\t") for it in done.stdout.decode().splitlines()):
+    for number, time, source, arfcn, frame in (it.split("\t") for it in done.stdout.decode().splitlines()):
         if int(frame) // 51 % 8 < 4:
-            heard.setdefault((source, arfcn, "cbch"), []).append(number)
-    return [[*sender, str(len(them)), them[0], them[-1]] for sender, them in heard.items()]
+            heard.setdefault((source, arfcn, "cbch"), []).append((number, time))
+    return [[*sender, str(len(them)), them[0][0], them[-1][0], them[0][1], them[-1][1]]
+            for sender, them in heard.items()]
 
 
 def beside_tshark(program):
@@ -557,7 +600,8 @@ def beside_tshark(program):
     with open(os.path.join(os.path.dirname(HERE), "examples", "osmo.pcap"), "rb") as it:
         captures = [ran(program, ["pcap"], tapes), it.read()]
     for capture in captures:
-        named = list(csv.reader(ran(program, ["cells"], capture).decode().splitlines()))[1:]
+        table = csv.reader(ran(program, ["cells"], capture).decode().splitlines())
+        named = [[*row[:6], *row[9:]] for row in list(table)[1:]]
         assert named == heard_by_tshark(capture), f"tshark hears {heard_by_tshark(capture)}, cells {named}"
     count = 0
     for lac, cell, blocks in gsm.tapes_of(tapes):

@@ -244,10 +244,12 @@ def usage(commands):
     """Returns usage.md with its list of commands, which is the first list there."""
     lines = []
     for it in commands:
-        # the words of a command aren't broken
+        # the words of a command aren't broken, but between options where they are longer than a line
         words, blank = words_of(it), "\N{NO-BREAK SPACE}"
-        line = f"- `{words.replace(' ', blank)}`: {uncapped(it.text)}"
-        lines += [part.replace(blank, " ") for part in textwrap.wrap(line, WIDTH, subsequent_indent="  ")]
+        words = re.sub(r" (?!\[)" if len(words) > WIDTH - 8 else " ", blank, words)
+        line = f"- `{words}`: {uncapped(it.text)}"
+        lines += [part.replace(blank, " ") for part in textwrap.wrap(line, WIDTH, subsequent_indent="  ",
+                                                                     break_on_hyphens=False)]
     made = "\n".join(lines) + "\n\n"
     return re.sub(r"^- `.*?\n\n", lambda _: made, read("docs/usage.md"), count=1, flags=re.M | re.S)
 

@@ -129,7 +129,7 @@ CHECK_NAMES = ["row", "line", "column", "field", "value", "says"]
 REMARK_NAMES = ["row", "name", "cell", "says"]
 TEXTS_NAMES = ["row", "name", "lang", "coding", "characters", "pages", "room", "first_ucs2", "place"]
 SENDER = re.compile(rb"(?:(?:25[0-5]|2[0-4]\d|1?\d?\d)(?:\.(?!,)|,)){4}\d+,(?:cbch|sdcch)(?:,[1-9]\d*){3}"
-                    rb"(?:,\d+,\d+,(?:\d+(?: \d+)*)?|,,,)")
+                    rb"(?:,\d+,\d+,(?:\d+(?: \d+)*)?|,,,)(?:,(?:\d+\.\d{9})?){2}")
 # what captures begin with: the magic numbers of the classic format in both orders, and the type of pcapng
 MAGICS = tuple(map(bytes.fromhex, ("A1B2C3D4", "D4C3B2A1", "A1B23C4D", "4D3CB2A1", "0A0D0D0A")))
 REPORT_ROW = re.compile(rb"\d+,\d+,\d+,[0-9a-f]{4},\d+,\d+,\d+,(?:yes|no|refused [0-9a-f]{2})")
@@ -506,7 +506,7 @@ def is_of_cells(out):
     """Whether an output is a table of senders, each with no more blocks than packets from its first to its last."""
     lines = out.split(b"\n")
     rows = [it for it in lines[1:-1] if SENDER.fullmatch(it) and are_in_packets(*map(int, it.split(b",")[3:6]))]
-    names = b"source,arfcn,channel,blocks,first,last,slots,pages,identifiers"
+    names = b"source,arfcn,channel,blocks,first,last,slots,pages,identifiers,first_time,last_time"
     return lines[0] == names and lines[-1] == b"" and len(rows) == len(lines) - 2
 
 

@@ -10,9 +10,9 @@ _warnc() {
         before=${COMP_WORDS[COMP_CWORD - 2]}
     fi
     # after an option without a value comes another option
-    case $before in --strict | --network | --full | --short | --used) before= ;; esac
+    case $before in --strict | --network | --full | --short | --explain | --used | --all) before= ;; esac
     if [ "$COMP_CWORD" -eq 1 ]; then
-        words="check texts compile report chart read verify page live pcap cells tape whole groups help -h --help -V --version"
+        words="plan check texts compile report chart read verify page live pcap cells tape whole groups help -h --help -V --version"
     else
         case ${COMP_WORDS[1]}$before in
         texts--pages) words="1 2 3 4 5 6 7 8 9 10 11 12 13 14 15" ;;
@@ -21,7 +21,7 @@ _warnc() {
         page--update) words="0 1 2 3 4 5 6 7 8 9 10 11 12 13 14 15" ;;
         pcap--channel) words="51 52" ;;
         tape--channel) words="cbch sdcch" ;;
-        *--book)
+        *--book | *--cells)
             mapfile -t COMPREPLY < <(compgen -f -- "$word")
             compopt -o filenames
             return
@@ -31,21 +31,22 @@ _warnc() {
             ;;
         *)
             case ${COMP_WORDS[1]} in
+            plan) words="-h --help" ;;
             check) words="--slots --strict -h --help" ;;
             texts) words="--pages -h --help" ;;
             compile) words="--slots --group --network --workers -h --help" ;;
             report) words="--slots --group --network --full --workers -h --help" ;;
             chart) words="--slots --group --network --cell --from --to --workers -h --help" ;;
             read) words="--short -h --help" ;;
-            verify) words="--book --slots --short --group --workers -h --help" ;;
+            verify) words="--book --slots --short --explain --group --workers -h --help" ;;
             page) words="--lang --id --scope --code --update -h --help" ;;
             live) words="--slots --group --network --sessions --workers -h --help" ;;
             pcap) words="--used --channel --start -h --help" ;;
             cells) words="-h --help" ;;
-            tape) words="--cell --slots --first-slot --from --arfcn --channel -h --help" ;;
+            tape) words="--cell --all --cells --slots --first-slot --from --arfcn --channel -h --help" ;;
             whole) words="-h --help" ;;
             groups) words="-h --help" ;;
-            help) words="check texts compile report chart read verify page live pcap cells tape whole groups" ;;
+            help) words="plan check texts compile report chart read verify page live pcap cells tape whole groups" ;;
             esac
             ;;
         esac

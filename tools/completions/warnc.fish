@@ -5,6 +5,7 @@ complete -c warnc -f
 complete -c warnc -s h -l help -d 'Print what is taken'
 complete -c warnc -n __fish_use_subcommand -s V -l version -d 'Print the version and the toolchain'
 
+complete -c warnc -n __fish_use_subcommand -a plan -d 'Reads a plan of alerts, as spreadsheets write it, and writes the book that it comes to, as CSV'
 complete -c warnc -n __fish_use_subcommand -a check -d 'Reads a book of alerts, as CSV, and writes every row that has a fault, its column, and what is wanted there, as CSV'
 complete -c warnc -n __fish_use_subcommand -a texts -d 'Reads a book of alerts, as CSV, and writes what each text of it costs: its coding, its pages, and what forces UCS-2, as CSV'
 complete -c warnc -n __fish_use_subcommand -a compile -d 'Reads a book of alerts, as CSV, and writes the tapes of its cells'
@@ -16,7 +17,7 @@ complete -c warnc -n __fish_use_subcommand -a page -d 'Reads a text and writes t
 complete -c warnc -n __fish_use_subcommand -a live -d 'Does what compile does, with the book\'s alerts shared by sessions that order side by side'
 complete -c warnc -n __fish_use_subcommand -a pcap -d 'Reads tapes of blocks and writes them as a capture file, a GSMTAP packet for each block'
 complete -c warnc -n __fish_use_subcommand -a cells -d 'Reads a capture file of GSMTAP packets over IPv4, and writes a table of who sends cell broadcasts in it, and which, as CSV'
-complete -c warnc -n __fish_use_subcommand -a tape -d 'Reads a capture file of GSMTAP packets over IPv4, also of another program\'s making, and writes a tape of it'
+complete -c warnc -n __fish_use_subcommand -a tape -d 'Reads a capture file of GSMTAP packets over IPv4, also of another program\'s making, and writes a tape of it, or one of each cell'
 complete -c warnc -n __fish_use_subcommand -a whole -d 'Reads tapes, and writes them with four blocks of each page, also of one that was sent in fewer, for programs that read no shorter ones'
 complete -c warnc -n __fish_use_subcommand -a groups -d 'Reads a network book, and writes how many groups of 64 cells it has'
 complete -c warnc -n __fish_use_subcommand -a help -d 'Prints what a command takes'
@@ -45,6 +46,7 @@ complete -c warnc -n '__fish_seen_subcommand_from read' -l short -d 'Reads pages
 complete -c warnc -n '__fish_seen_subcommand_from verify' -r -F -l book -d 'The file of the book; the tapes are the input'
 complete -c warnc -n '__fish_seen_subcommand_from verify' -x -l slots -d 'How many slots each cell\'s run has, 1 to 65535, each 1.883 s'
 complete -c warnc -n '__fish_seen_subcommand_from verify' -l short -d 'Reads pages of one to three blocks, too, as networks send that cut a page after its text'
+complete -c warnc -n '__fish_seen_subcommand_from verify' -l explain -d 'Adds columns'
 complete -c warnc -n '__fish_seen_subcommand_from verify' -x -l group -d 'Takes the book for a network book, and of it the group of this number, 0 to 65535'
 complete -c warnc -n '__fish_seen_subcommand_from verify' -x -l workers -d 'How many workers play cells and make tapes, or run groups, side by side, 1 to 64'
 complete -c warnc -n '__fish_seen_subcommand_from page' -x -l lang -d 'The text\'s language' \
@@ -63,10 +65,12 @@ complete -c warnc -n '__fish_seen_subcommand_from pcap' -l used -d 'Leaves out s
 complete -c warnc -n '__fish_seen_subcommand_from pcap' -x -l channel -d 'The CBCH that the packets name' -a '51 52'
 complete -c warnc -n '__fish_seen_subcommand_from pcap' -x -l start -d 'When the first slot begins, as 2026-11-28T20:00:00Z, so that the capture can be merged with others'
 complete -c warnc -n '__fish_seen_subcommand_from tape' -x -l cell -d 'The cell that the tape names, as 1-2'
+complete -c warnc -n '__fish_seen_subcommand_from tape' -l all -d 'Writes the tapes of all cells of --cells, which says so alone, too'
+complete -c warnc -n '__fish_seen_subcommand_from tape' -r -F -l cells -d 'The file of a table of cells, as CSV'
 complete -c warnc -n '__fish_seen_subcommand_from tape' -x -l slots -d 'How many slots the tape has, 1 to 65535, of 1.883 s; up to the last block if it isn\'t given'
 complete -c warnc -n '__fish_seen_subcommand_from tape' -x -l first-slot -d 'The slot of the tape in which the first block stands, 0 to 65535; 0 if it isn\'t given'
 complete -c warnc -n '__fish_seen_subcommand_from tape' -x -l from -d 'Takes the packets from this IPv4 address alone, as 127.0.0.1; all if it isn\'t given'
 complete -c warnc -n '__fish_seen_subcommand_from tape' -x -l arfcn -d 'Takes the packets of this radio channel alone, 0 to 1023; all if it isn\'t given'
 complete -c warnc -n '__fish_seen_subcommand_from tape' -x -l channel -d 'The channel that packets name, by its own type or, as receivers do that know none, SDCCH' \
     -a 'cbch sdcch'
-complete -c warnc -n '__fish_seen_subcommand_from help' -a 'check texts compile report chart read verify page live pcap cells tape whole groups'
+complete -c warnc -n '__fish_seen_subcommand_from help' -a 'plan check texts compile report chart read verify page live pcap cells tape whole groups'
