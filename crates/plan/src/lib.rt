@@ -4,9 +4,9 @@
 //! book, and by definitions of octets alone the one of the plan. A plan is CSV as a book is, but that
 //!
 //! - columns are separated by the first comma, semicolon or tab that stands neither in quotes nor in a comment;
-//! - empty rows give no row of the book, nor do comments, whose first field begins with `#`, nor headings, which are the
-//!   first other row if its first field is none of `cell`, `write`, `update`, `stop` and `area`, and no field of it
-//!   begins with a digit;
+//! - empty rows give no row of the book, nor do comments, whose first field begins with `#`, nor headings: the first
+//!   other row, if its first field is none of `cell`, `write`, `update`, `stop` and `area`, and no field of it begins
+//!   with a digit;
 //! - white space round fields is dropped, but of TEXT, and so are empty fields behind the last column;
 //! - capitals count as small letters in the first field, LANG, CATEGORY and SCOPE;
 //! - AT and PERIOD may be times, as `0:30:00`, `90 s`, `15 min` or `2 h`, which are rounded up to slots, and of PERIOD
