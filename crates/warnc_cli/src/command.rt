@@ -1070,7 +1070,8 @@ fn all<'a>(alloc: Global) -> Result<Arg<'a>, AllocError> {
         "all",
         "Writes the tapes of all cells of --cells, which\nsays so alone, too",
     )
-    .requires_arg("cells")
+    .requires_arg("cells")?
+    .conflicts_with("cell")
 }
 
 /// The option of the table of cells.
