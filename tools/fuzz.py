@@ -71,8 +71,8 @@ import gsm
 TOP = os.path.dirname(os.path.dirname(os.path.realpath(__file__)))
 PROGRAM = os.path.join(TOP, "crates", "warnc", "out", "warnc")
 SEEDS = os.path.join(TOP, "tools", "fuzz")
-COMMANDS = ("check", "texts", "page", "read", "whole", "compile", "live", "report", "chart", "verify", "pcap", "cells",
-            "tape")
+COMMANDS = ("plan", "check", "texts", "page", "read", "whole", "compile", "live", "report", "chart", "verify", "pcap",
+            "cells", "tape")
 OF_BOOKS = ("compile", "live", "report", "chart")
 # an option without which clap refuses a command
 NEEDED = {"page": "--lang", "tape": "--cell", "verify": "--slots", **dict.fromkeys(OF_BOOKS, "--slots")}
@@ -120,7 +120,8 @@ FAULTS = {"page": TEXT_FAULT + "|text is not UTF-8|text is too long", "read": TA
           "cells": rf"not a capture file|{LINK_FAULT}"
                    rf"|packet [1-9]\d*: (?:{LINK_FAULT}|capture is short|wrong block)",
           "verify": rf"{ROW_FAULT}|{TAPE_FAULT}|differences: [1-9]\d*", **dict.fromkeys(OF_BOOKS, ROW_FAULT),
-          "check": r"row 0: too many rows|(?:faults|remarks): [1-9]\d*", "texts": ROW_FAULT}
+          "check": r"row 0: too many rows|(?:faults|remarks): [1-9]\d*", "texts": ROW_FAULT,
+          "plan": r"plan is too long|row [1-9]\d*(?:, [A-Z]+)?: .+"}
 DIFFERENCE = re.compile(
     rb"\d+,\d+,(?:,,,(?:no tape|other slots|second tape|unknown cell)"
     rb"|\d+,[0-9a-f]{4},\d+,(?:page (?:[1-9]|1[0-5]) reads otherwise"
@@ -441,6 +442,11 @@ def is_of_texts(run, out):
         len(row) == len(names) and row[0].isdigit() and row[3] in ("GSM 7-bit", "UCS-2") for row in rows[1:])
 
 
+def is_of_plan(run, out):
+    """Whether an output is a book: the input itself, or rows that begin with a verb of a book."""
+    return out == run.data or all(row[:1] and row[0].encode() in COLUMNS for row in table_in(out) or [])
+
+
 class Page(html.parser.HTMLParser):
     """A page in HTML, as far as it is well-formed: its open elements,
     and whether one was closed that isn't the last."""
@@ -516,6 +522,7 @@ def is_output(run, out):
         return bool(out)
     forms = {"page": lambda: is_shown(run, out), "read": lambda: is_table(out), "report": lambda: is_report(run, out),
              "chart": lambda: is_chart(out), "verify": lambda: differences_in(out) == 0,
+             "plan": lambda: is_of_plan(run, out),
              "check": lambda: is_of_check(run, out), "texts": lambda: is_of_texts(run, out),
              "pcap": lambda: is_capture(out), "cells": lambda: is_of_cells(out),
              "whole": lambda: len(out) == len(run.data),
@@ -1273,8 +1280,8 @@ def tape_options(chance, command):
 
 
 def rows_options(chance, command, data):
-    """Returns the options of `check` and `texts`."""
-    if chance.random() < 0.5:
+    """Returns the options of `check` and `texts`; `plan` has none."""
+    if command == "plan" or chance.random() < 0.5:
         return {}
     if command == "texts":
         return {"--pages": str(chance.randint(1, 15))}
@@ -1356,7 +1363,7 @@ SIZES = {"workers": (2, 3, 4, 4, 64), "sessions": (2, 2, 3, 64), "pieces": (1, 2
          "devices": (1, 7, 8, 9, 92, 100, 192, 4096, 8192, 20_000), "verify": (1, 2, 4), "captures": (51, 52)}
 # kibioctets over the floor
 SPARES = (0, 1, 4, 16, 64, 256, 1024, 4096, 16384, 98304)
-COMMANDS_OF = {"book": (*OF_BOOKS, "verify"), "rows": ("check", "texts"), "tape": ("read", "whole", "pcap"),
+COMMANDS_OF = {"book": (*OF_BOOKS, "verify"), "rows": ("plan", "check", "texts"), "tape": ("read", "whole", "pcap"),
                "text": ("page",), "capture": ("tape", "cells")}
 MAKERS = {"book": some_book, "rows": some_book, "tape": some_tapes, "text": some_text, "capture": some_capture}
 
