@@ -152,7 +152,7 @@ impl Slate {
 }
 
 /// Whether the command of a bench reads a book beside its input, or a table of cells.
-fn asks_for_book(bench: &Bench) -> bool {
+pub(crate) fn asks_for_book(bench: &Bench) -> bool {
     bench.args.starts_with("verify") || bench.args.contains("--cells")
 }
 

@@ -2,6 +2,7 @@
 
 ghost use Rattle.std.specs.Prelude.{◌≡◌, []};
 
+use crate::attempts::asks_for_book;
 use crate::octets::{Sheet, Written};
 use device_ends::memory::MemoryReader;
 use std::alloc::Global;
@@ -104,7 +105,7 @@ fn reader_of<'a>(octets: &'a [u8], pace: Pace) -> MemoryReader<'a> {
     MemoryReader::new(octets, pace.octets.max(1), pace.calls)
 }
 
-/// Runs the program, and returns the status. `verify` gets a book.
+/// Runs the program, and returns the status. `verify` gets a book, and `tape` a table of cells if it asks for one.
 fn run_on<T: AllocGlobal + Threads + Wait + Sync>(rt: &T, words: &[&str], bench: &mut Bench) -> u8 {
     let length = bench.front.min(bench.input.octets.len());
     let mut reader = reader_of(&bench.input.octets[..length], bench.reader);
@@ -112,7 +113,7 @@ fn run_on<T: AllocGlobal + Threads + Wait + Sync>(rt: &T, words: &[&str], bench:
     bench.faults = Written::new(rt.alloc(), bench.faults_writer);
     let writer = &mut bench.output.writer;
     let faults = &mut bench.faults.writer;
-    if bench.is_bookless || !bench.args.starts_with("verify") {
+    if bench.is_bookless || !asks_for_book(bench) {
         return run(rt, words, &mut reader, writer, faults);
     }
     let mut book = reader_of(&bench.book.octets, bench.book_reader);
