@@ -107,13 +107,14 @@ fn reader_of<'a>(octets: &'a [u8], pace: Pace) -> MemoryReader<'a> {
 
 /// Runs the program, and returns the status. `verify` gets a book, and `tape` a table of cells if it asks for one.
 fn run_on<T: AllocGlobal + Threads + Wait + Sync>(rt: &T, words: &[&str], bench: &mut Bench) -> u8 {
+    let is_with_book = !bench.is_bookless && asks_for_book(bench);
     let length = bench.front.min(bench.input.octets.len());
     let mut reader = reader_of(&bench.input.octets[..length], bench.reader);
     bench.output = Written::new(rt.alloc(), bench.writer);
     bench.faults = Written::new(rt.alloc(), bench.faults_writer);
     let writer = &mut bench.output.writer;
     let faults = &mut bench.faults.writer;
-    if bench.is_bookless || !asks_for_book(bench) {
+    if !is_with_book {
         return run(rt, words, &mut reader, writer, faults);
     }
     let mut book = reader_of(&bench.book.octets, bench.book_reader);
