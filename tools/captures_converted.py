@@ -93,14 +93,29 @@ def by_reference(file, asked):
     return [reference.made(reference.tape_of, file, *it) for it in asked], reference.made(reference.senders_of, file)
 
 
-def without_numbers(answers):
-    """Returns tapes and who sends, without how many packets there are and where."""
+def with_columns(answers, columns):
+    """Returns tapes and who sends, of whom with these columns alone."""
     tapes, table = answers
     if isinstance(table, str):
         return tapes, table
     rows = [it.split(b",") for it in table.splitlines()]
-    return tapes, sorted(b",".join(it[:3] + it[6:]) for it in rows)
+    return tapes, [b",".join(it[at] for at in columns) for it in rows]
 
+
+def without_times(answers):
+    """Returns tapes and who sends, without when packets came: some converters move a file in time."""
+    return with_columns(answers, range(9))
+
+
+def without_numbers(answers):
+    """Returns tapes and who sends, without how many packets there are, where, and when."""
+    tapes, table = with_columns(answers, (0, 1, 2, 6, 7, 8))
+    return tapes, table if isinstance(table, str) else sorted(table)
+
+
+def without_all_but_names(answers):
+    tapes, table = with_columns(answers, range(3))
+    return tapes, table if isinstance(table, str) else sorted(table)
 
 def wrote(words, octets=b""):
     """Returns what one of Wireshark's programs writes to its standard output."""
@@ -254,7 +269,7 @@ def differs(program, run, folder, counts, kinds):
     capture, other, asked = random_captures(program, rng)
     wanted = by_program(program, capture, asked)
     for names, file, has_places in converted(rng, run, capture, len(asked) == 1, folder):
-        part = (lambda answers: answers) if has_places else without_numbers
+        part = without_times if has_places else without_numbers
         found = by_program(program, file, asked)
         wrong += not is_right(f"run {run}: {names}", file, asked, part(wanted), part(found))
         counts.update(names)
@@ -326,7 +341,7 @@ def recordings_of(capture, folder):
 
         until(have_begun, "recorders begin")
         # the last octet of the destination is the tape's number
-        for _, _, octets in reference.packets_of(capture):
+        for *_, octets in reference.packets_of(capture):
             send(octets[19], octets[HEADERS:])
         send(0, END)
         until(lambda: have(END), "packets are recorded")
@@ -357,9 +372,9 @@ def live(program):
         if words not in recordings:
             print(f"captures_converted: '{' '.join(words)}' doesn't run: SKIPPED")
     for words, file in recordings.items():
-        found = without_numbers(by_program(program, file, asked))
+        found = without_all_but_names(by_program(program, file, asked))
         wrong += not is_right(" ".join(words), file, asked, wanted, found)
-        links.update(link for _, link, _ in reference.packets_of(file))
+        links.update(link for _, link, *_ in reference.packets_of(file))
     print(f"captures_converted: {len(recordings)} recordings, {wrong} differ; link types were {sorted(links)}")
     return 1 if wrong else 0
 
