@@ -404,6 +404,9 @@ reads 0 24 -> 3 warnc: read failed
 book-reads 0 9 -> 3 warnc: cells.csv: read failed
 bookless
 fails -> 3 warnc: cells.csv: read failed
+book lac,ci,source
+book 1,9,0.1.0.2
+book 1,1,0.1.0.1
 writer 10 10
 run -> 3
 err -> warnc: write failed
@@ -434,5 +437,5 @@ fn captures_give_tapes(rt: HostRuntime) -> Result<(), Fail> {
 
 #[test]
 fn captures_give_the_tapes_of_all_cells(rt: HostRuntime) -> Result<(), Fail> {
-    expect_rows(&rt, ALL, 103)
+    expect_rows(&rt, ALL, 106)
 }
