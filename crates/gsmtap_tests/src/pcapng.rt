@@ -225,10 +225,9 @@ senders -> packet 2: wrong block
 
 const CLOCKS: &str = "
 hex 0a0d0d0a1c0000004d3c2b1a01000000ffffffffffffffff1c000000
-# interfaces: without options; of seconds, of ten thousand millionths, of 64ths of a second, of nanoseconds from second
-    1
-# on, and of a resolution in two octets; after a name of thousandths; with options that end before the resolution; and
-# with a resolution that is cut
+# interfaces: without options; of seconds, of ten thousand millionths, of 64ths of a second, of nanoseconds counted
+# from the first second on, and of a resolution in two octets; after a name of thousandths; with options that end before
+# the resolution; and with a resolution that is cut
 hex 0100000014000000650000000000000014000000
 hex 0100000020000000650000000000000009000100000000000000000020000000
 hex 01000000200000006500000000000000090001000a0000000000000020000000
