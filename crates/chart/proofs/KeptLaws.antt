@@ -1,13 +1,18 @@
 -- Messages that are kept, after one more entry.
 use Rattle.std.proofs.Common.{◌≡◌, ◌<◌, ◌++◌, ◌∙◌, ℕ, [], ◌∷◌, List, Option, Some, None, map, ap, ap₂, refl}
-use Rattle.std.proofs.Common.{sym, subst}
+use Rattle.std.proofs.Common.{sym, subst, false}
 use Rattle.std.proofs.lemmas.List.{map-append}
 use Rattle.std.specs.Option.{option_map, option_to_list}
 use Rattle.std.proofs.lemmas.List.Elements.{All-append, All-cons, All-map, All-nil}
-use Rattle.bsc_table.specs.Record.{Accepted, accepted_after, added_by, start_of, stopped_by}
+use Rattle.bsc_table.specs.Record.{Accepted, accepted_after, added_by, is_stop_by, is_stop_of, start_of, stop_after}
+use Rattle.bsc_table.specs.Record.{stopped_by}
+use Rattle.bsc_table.specs.declared.command.Command.{Command}
+use Rattle.bsc_table.specs.declared.command.Command.TheVariants as commands
+use Rattle.bsc_table.specs.declared.entry.Answer.{Answer}
+use Rattle.bsc_table.specs.declared.entry.Answer.TheVariants as answers
 use Rattle.bsc_table.specs.declared.entry.Entry.{Entry}
 use Rattle.chart.specs.declared.kept.KeptMessage.{KeptMessage}
-use Rattle.chart.specs.Kept.{accepted_kept, all_kept, kept_stopped, HavePeriods}
+use Rattle.chart.specs.Kept.{accepted_kept, all_kept, kept_stopped, stops, HavePeriods}
 
 -- they are the accepted messages, stopped where the entry stops them
 pub all_stopped : (e : Entry) (kept : List KeptMessage)
@@ -49,3 +54,50 @@ periods_added e old stopped new added are is periods period =
     (All-append (λ (k : KeptMessage). 0 < k.period) stopped (added ∷ [])
     (subst HavePeriods (sym are) (periods_stopped e old periods))
     (All-cons (λ (k : KeptMessage). 0 < k.period) added [] period (All-nil (λ (k : KeptMessage). 0 < k.period))))
+
+-- an entry whose answer doesn't say that a message was stopped stops none
+kills_none : (id serial of_id of_serial : ℕ) (answer : Answer) → stops answer ≡ false
+    → is_stop_by id serial (commands.Kill of_id of_serial) answer ≡ false
+kills_none id serial of_id of_serial (answers.Started slot) none = refl
+kills_none id serial of_id of_serial (answers.Replaced slot completed) none = absurd cc
+kills_none id serial of_id of_serial (answers.Stopped completed) none = absurd cc
+kills_none id serial of_id of_serial (answers.Told completed state) none = refl
+kills_none id serial of_id of_serial answers.Unknown none = refl
+kills_none id serial of_id of_serial (answers.Cause cause) none = refl
+kills_none id serial of_id of_serial answers.Refused none = refl
+
+stops_none : (id serial : ℕ) (command : Command) (answer : Answer) → stops answer ≡ false
+    → is_stop_by id serial command answer ≡ false
+stops_none id serial (commands.Kill of_id of_serial) answer none = kills_none id serial of_id of_serial answer none
+stops_none id serial (commands.Status of_id of_serial) answer none = refl
+stops_none id serial (commands.Write of_id new None category dcs period broadcasts contents) answer none = refl
+stops_none id serial (commands.Write of_id new (Some of_serial) category dcs period broadcasts contents) answer none =
+    by_answer answer none
+  where
+    by_answer : (a : Answer) → stops a ≡ false
+        → is_stop_by id serial (commands.Write of_id new (Some of_serial) category dcs period broadcasts contents) a
+        ≡ false
+    by_answer (answers.Started slot) kept = refl
+    by_answer (answers.Replaced slot completed) kept = absurd cc
+    by_answer (answers.Stopped completed) kept = absurd cc
+    by_answer (answers.Told completed state) kept = refl
+    by_answer answers.Unknown kept = refl
+    by_answer (answers.Cause cause) kept = refl
+    by_answer answers.Refused kept = refl
+
+-- and all messages stay as they are
+stop_stays : (stop : Option ℕ) (slot : ℕ) → stop_after stop false slot ≡ stop
+stop_stays None slot = refl
+stop_stays (Some at) slot = refl
+
+message_stays : (e : Entry) (k : KeptMessage) → stops e.answer ≡ false → kept_stopped e k ≡ k
+message_stays e k none =
+    ap (λ (stop : Option ℕ). record k { stop = stop })
+    (rw (stops_none k.id k.serial e.command e.answer none) (stop_stays k.stop e.slot))
+
+pub messages_stay : (e : Entry) (kept : List KeptMessage) → stops e.answer ≡ false
+    → map (kept_stopped e) kept ≡ kept
+messages_stay e [] none = refl
+messages_stay e (k ∷ rest) none =
+    ap₂ (λ (one : KeptMessage) (others : List KeptMessage). one ∷ others) (message_stays e k none)
+    (messages_stay e rest none)

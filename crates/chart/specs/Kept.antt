@@ -1,5 +1,7 @@
 -- What is kept of an accepted message as a log is walked (own). The contracts of private functions alone speak of it.
-use Rattle.std.specs.Prelude.{ℕ, ◌<◌, ◌&&◌, nat_le, nat_lt, if◌then◌else◌, List, map, All}
+use Rattle.std.specs.Prelude.{ℕ, ◌<◌, ◌&&◌, nat_le, nat_lt, if◌then◌else◌, Bool, true, false, List, map, All}
+use Rattle.bsc_table.specs.declared.entry.Answer.{Answer}
+use Rattle.bsc_table.specs.declared.entry.Answer.TheVariants as answers
 use Rattle.bsc_table.specs.declared.entry.Entry.{Entry}
 use Rattle.bsc_table.specs.Record.{Accepted, is_stop_of, rank_of, stop_after}
 use Rattle.chart.specs.declared.kept.KeptMessage.{KeptMessage}
@@ -34,6 +36,16 @@ HavePeriods kept = All (λ k. 0 < k.period) kept
 -- what is kept of it after one more entry
 abbrev pub kept_stopped : Entry → KeptMessage → KeptMessage
 kept_stopped e k = record k { stop = stop_after k.stop (is_stop_of k.id k.serial e) e.slot }
+
+-- an answer says that a message was stopped
+abbrev pub stops : Answer → Bool
+stops (answers.Started slot) = false
+stops (answers.Replaced slot completed) = true
+stops (answers.Stopped completed) = true
+stops (answers.Told completed state) = false
+stops answers.Unknown = false
+stops (answers.Cause cause) = false
+stops answers.Refused = false
 
 -- what a message reserves at a slot of its reservation
 abbrev pub load_within : Reserved → (slot : ℕ) → ℕ

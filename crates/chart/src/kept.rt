@@ -10,7 +10,7 @@ ghost use Rattle.bsc_table.specs.Orders.{IsWellFormed};
 ghost use Rattle.bsc_table.specs.Record.{accepted_after, accepted_in, added_by, predecessor_of, claim_of, claims_of};
 ghost use Rattle.bsc_table.specs.Record.{excess_beyond, is_background_category, is_of_pair, is_stop_of, replaced_in};
 ghost use Rattle.bsc_table.specs.Record.{start_of};
-ghost use Rattle.chart.specs.Kept.{accepted_kept, all_kept, kept_stopped, HavePeriods};
+ghost use Rattle.chart.specs.Kept.{accepted_kept, all_kept, kept_stopped, stops, HavePeriods};
 
 use bsc_table::{Answer, Category, Command, Entry};
 use cbs_page::Serial;
@@ -258,10 +258,27 @@ fn added_by(all: &[KeptMessage], place: u16, entry: &Entry) -> Option<KeptMessag
     }
 }
 
-/// Stops the messages that an entry stops.
+/// Whether an answer says that a message was stopped.
+fn stops(answer: Answer) -> bool
+    ensures { result ≡ stops answer }
+{
+    match answer {
+        Answer::Replaced { .. } | Answer::Stopped { .. } => true,
+        Answer::Started { .. }
+        | Answer::Told { .. }
+        | Answer::Unknown
+        | Answer::Cause(_)
+        | Answer::Refused => false,
+    }
+}
+
+/// Stops the messages that an entry stops. Most entries of a long log stop none, so their answers are looked at first.
 fn stop_by(all: &mut Vec<KeptMessage>, entry: &Entry)
     ensures { all.new.items ≡ map (kept_stopped entry.now) all.old.items }
 {
+    if !stops(entry.answer) {
+        return;
+    }
     for place in 0..all.len() {
         all[place] = all[place].stopped_by(entry);
     }
