@@ -2,3 +2,4 @@ pub mod RunRecords
 pub mod Unremarked
 pub mod EngineLaws
 pub mod OneTable
+mod FirstSends

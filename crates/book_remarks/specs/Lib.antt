@@ -1,4 +1,5 @@
 pub mod Answers
+pub mod MarkSteps
 pub mod Remarks
 pub mod RemarksText
 pub mod TableSteps

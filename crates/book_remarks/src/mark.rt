@@ -1,20 +1,23 @@
 //! What became of each order of a book in a cell of its run.
 
-ghost use Rattle.std.specs.Prelude.{◌≡◌, ◌==◌, [], is_some, IfOk, OnOk};
+ghost use Rattle.std.specs.Prelude.{◌≡◌, ◌≤◌, ◌==◌, [], is_some, length, slice_index_or, IfOk, IfSome, None, OnOk};
 ghost use Rattle.std.specs.List.{list_any, slice_get};
 ghost use Rattle.std.specs.Option.{option_copied};
 ghost use Rattle.alert_book.specs.Row.{is_write};
 ghost use Rattle.bsc_table.specs.Book.{air_pairs, aired_pair};
 ghost use Rattle.bsc_table.specs.Record.{start_of};
+ghost use Rattle.report.specs.LastPages.{first_airing, page_count_of};
 ghost use Rattle.scheduler.specs.Pages.{airs_page};
 ghost use Rattle.book_remarks.specs.Answers.{accepted_after, asks, cells_named, column_of, is_done, is_entry_of};
 ghost use Rattle.book_remarks.specs.Answers.{is_never_whole, is_ordered, is_unseen, kills_alert, mark_by, mark_of};
 ghost use Rattle.book_remarks.specs.Answers.{mark_of_entry, marks_from, may_ask, names, sends_page, writes_version};
+ghost use Rattle.book_remarks.specs.MarkSteps.{IsFirstOf};
 
 use alert_book::{Action, Alert, Order};
 use bsc_table::{Aired, Answer, CellRecord, Command, Entry};
 use cbsp_wire::Cell;
 use cbsp_wire::cells::contains;
+use report::first_last_pages;
 use std::alloc::{AllocError, Global};
 use std::marker::Model;
 
@@ -195,13 +198,39 @@ fn sends_page(air: &[Option<Aired>], slot: u16, place: usize, page: usize) -> bo
     is_sent(later, place, page)
 }
 
-/// Whether no broadcast of a write is whole from this slot on, which is the entry at a place of the log.
-fn is_never_whole(air: &[Option<Aired>], slot: u16, place: usize, command: &Command) -> bool
+/// The same of a page that is on the air first in a slot that is known: most messages that nobody sees are never there,
+/// and all others are there first when they began.
+fn sends_page_by(
+    air: &[Option<Aired>],
+    slot: u16,
+    place: usize,
+    page: usize,
+    first: Option<u16>,
+) -> bool
+    requires { first ≡ first_airing place page (air_pairs air.now) 0 }
+    ensures { result ≡ sends_page (air_pairs air.now) slot place page }
+{
+    match first {
+        None => false,
+        Some(first) => slot <= first || sends_page(air, slot, place, page),
+    }
+}
+
+/// Whether no broadcast of a write is whole from this slot on, which is the entry at a place of the log, and whose last
+/// page is on the air first in this slot, if it is.
+fn is_never_whole(
+    air: &[Option<Aired>],
+    slot: u16,
+    place: usize,
+    command: &Command,
+    first: Option<u16>,
+) -> bool
+    requires { first ≡ first_airing place (page_count_of command.now) (air_pairs air.now) 0 }
     ensures { result ≡ is_never_whole (air_pairs air.now) slot place command.now }
 {
     match command {
         Command::Write { contents, .. } => {
-            !sends_page(air, slot, place, contents.as_slice().len())
+            !sends_page_by(air, slot, place, contents.as_slice().len(), first)
         }
         Command::Kill { .. } => false,
         Command::Status { .. } => false,
@@ -223,10 +252,11 @@ pub(crate) fn starts(entry: &Entry) -> bool
 }
 
 /// Whether an entry at a place of the log started a message of which no broadcast is whole.
-fn is_unseen(air: &[Option<Aired>], place: usize, entry: &Entry) -> bool
+fn is_unseen(air: &[Option<Aired>], place: usize, entry: &Entry, first: Option<u16>) -> bool
+    requires { first ≡ first_airing place (page_count_of entry.now.command) (air_pairs air.now) 0 }
     ensures { result ≡ is_unseen (air_pairs air.now) place entry.now }
 {
-    starts(entry) && is_never_whole(air, entry.slot, place, &entry.command)
+    starts(entry) && is_never_whole(air, entry.slot, place, &entry.command, first)
 }
 
 /// What became of an order, by the answer to it at a slot.
@@ -245,17 +275,27 @@ fn mark_by(slot: u16, unseen: bool, answer: Answer) -> Mark
 }
 
 /// What became of an order that asked, by its entry, which is at this place of the log.
-fn mark_of_entry(air: &[Option<Aired>], place: usize, next: Option<&Entry>) -> Mark
+fn mark_of_entry(
+    air: &[Option<Aired>],
+    place: usize,
+    next: Option<&Entry>,
+    first: Option<u16>,
+) -> Mark
+    requires { IsFirstOf (air_pairs air.now) place (option_copied next) first }
     ensures { result ≡ mark_of_entry (air_pairs air.now) place (option_copied next.entry) }
 {
     match next {
-        Some(entry) => mark_by(entry.slot, is_unseen(air, place, entry), entry.answer),
+        Some(entry) => mark_by(
+            entry.slot,
+            is_unseen(air, place, entry, first),
+            entry.answer,
+        ),
         None => Mark::LeftOut,
     }
 }
 
 /// What became of an order in a cell that has accepted the first versions of these alerts, and whose log goes on with
-/// this entry, at this place.
+/// this entry, at this place, whose last page is on the air first in this slot.
 fn mark_of(
     order: &Order,
     cell: Cell,
@@ -263,7 +303,9 @@ fn mark_of(
     air: &[Option<Aired>],
     place: usize,
     next: Option<&Entry>,
+    first: Option<u16>,
 ) -> Mark
+    requires { IsFirstOf (air_pairs air.now) place (option_copied next) first }
     ensures { result ≡ mark_of order.now cell accepted.now (air_pairs air.now) place (option_copied next.entry) }
 {
     if !names(order, cell) {
@@ -272,7 +314,7 @@ fn mark_of(
     if !is_entry_of(order, next) || !may_ask(accepted, order) {
         return Mark::LeftOut;
     }
-    mark_of_entry(air, place, next)
+    mark_of_entry(air, place, next, first)
 }
 
 /// Whether a cell did what was ordered.
@@ -306,6 +348,16 @@ fn entry_at(log: &[Entry], place: usize) -> Option<&Entry>
     }
 }
 
+/// The slot of these at a place, if there is one.
+fn first_at(firsts: &[Option<u16>], place: usize) -> Option<u16>
+    ensures { result ≡ slice_index_or firsts.now place None }
+{
+    match firsts.get(place) {
+        Some(first) => *first,
+        None => None,
+    }
+}
+
 /// What became of orders in a cell that has sent these pages and has this log.
 fn marks_of(
     alloc: Global,
@@ -314,14 +366,17 @@ fn marks_of(
     log: &[Entry],
     orders: &[Order],
 ) -> Result<Vec<Mark>, AllocError>
+    requires { length air.now ≤ 65535 }
     ensures { IfOk result (λ marks. marks.items ≡ marks_from cell (air_pairs air.now) log.now 0 [] orders.now) }
 {
+    let firsts = first_last_pages(alloc, log, air)?;
     let mut marks = Vec::with_capacity(alloc, orders.len())?;
     let mut accepted = Vec::new(alloc);
     let mut place = 0;
     for order in orders {
         let next = entry_at(log, place);
-        let mark = mark_of(order, cell, accepted.as_slice(), air, place, next);
+        let first = first_at(firsts.as_slice(), place);
+        let mark = mark_of(order, cell, accepted.as_slice(), air, place, next, first);
         place += usize::from(asks(order, cell, accepted.as_slice(), next));
         keep_accepted(&mut accepted, order, mark)?;
         marks.push(mark)?;
@@ -341,6 +396,8 @@ pub fn column_of(
 ) -> Result<CellColumn, AllocError>
     ensures { IfOk result (λ column. column ≡ column_of orders.now run.now) }
 {
+    // A run's air has as many slots as the run: 65,535 at most.
+    run.slots();
     let cell = run.cell();
     Ok(CellColumn {
         cell,

@@ -85,7 +85,7 @@ stops_none id serial (commands.Write of_id new (Some of_serial) category dcs per
     by_answer (answers.Cause cause) kept = refl
     by_answer answers.Refused kept = refl
 
--- and all messages stay as they are
+-- and each message stays as it is
 stop_stays : (stop : Option ℕ) (slot : ℕ) → stop_after stop false slot ≡ stop
 stop_stays None slot = refl
 stop_stays (Some at) slot = refl
@@ -95,6 +95,7 @@ message_stays e k none =
     ap (λ (stop : Option ℕ). record k { stop = stop })
     (rw (stops_none k.id k.serial e.command e.answer none) (stop_stays k.stop e.slot))
 
+-- so an entry that stops none leaves all as they are
 pub messages_stay : (e : Entry) (kept : List KeptMessage) → stops e.answer ≡ false
     → map (kept_stopped e) kept ≡ kept
 messages_stay e [] none = refl

@@ -26,7 +26,8 @@ use Rattle.handset.specs.Reception.{ShownMessage}
 use Rattle.report.specs.declared.row.Row.{Row}
 use Rattle.report.specs.Rows.{accepted_at, cell_rows, entry_rows, first_shown, is_at, message_row, refusal_rows}
 use Rattle.report.specs.Rows.{rows_from}
-use Rattle.report.specs.RowSteps.{first_airing, first_last_page, last_pages, page_count_of, row_at, row_by, rows_by}
+use Rattle.report.specs.LastPages.{first_airing, first_last_page, page_count_of}
+use Rattle.report.specs.RowSteps.{last_pages, row_at, row_by, rows_by}
 use Rattle.report.specs.RowSteps.{started_row, stop_at}
 use Rattle.report.specs.RowSteps.{stop_in, stop_of_command}
 use Rattle.report.proofs.FirstAiring.{first-found}

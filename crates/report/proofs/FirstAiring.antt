@@ -6,7 +6,7 @@ use Rattle.std.specs.List.{range_with_len}
 use Rattle.std.proofs.lemmas.List.{length_push}
 use Rattle.scheduler.specs.Air.{Air}
 use Rattle.scheduler.specs.Pages.{airs_page, times_aired}
-use Rattle.report.specs.RowSteps.{first_airing}
+use Rattle.report.specs.LastPages.{first_airing}
 use Rattle.report.proofs.StepLaws.{counted}
 
 -- the slot after those in front

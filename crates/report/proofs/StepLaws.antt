@@ -25,7 +25,8 @@ use Rattle.handset.specs.Reception.{ShownMessage}
 use Rattle.handset.specs.Tape.{TapeReading, reading_of, readings_of}
 use Rattle.report.specs.declared.row.Row.{Row}
 use Rattle.report.specs.Rows.{AreOfOneCells, cell_rows, is_shown, report_rows}
-use Rattle.report.specs.RowSteps.{Pair, first_airing, has_name, is_pair, stop_at, stop_of_command}
+use Rattle.report.specs.LastPages.{first_airing}
+use Rattle.report.specs.RowSteps.{Pair, has_name, is_pair, stop_at, stop_of_command}
 use Rattle.report.proofs.ListLaws.{flat_map-place}
 
 -- a set with one more pair, and the messages with one more

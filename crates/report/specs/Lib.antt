@@ -1,6 +1,7 @@
 pub mod Rows
 pub mod Cause
 pub mod ReportText
+pub mod LastPages
 pub mod Laws
 pub mod RowSteps
 pub mod TextSteps

@@ -5,7 +5,8 @@ ghost use Rattle.std.specs.Prelude.{◌≡◌, ◌+◌, ◌<◌, ◌≤◌, if�
 ghost use Rattle.std.specs.Prelude.{ℕ, None, slice_index_or};
 ghost use Rattle.scheduler.specs.Pages.{airs_page};
 ghost use Rattle.bsc_table.specs.Book.{air_pairs};
-ghost use Rattle.report.specs.RowSteps.{first_last_page, last_pages, pages_at, page_count_of};
+ghost use Rattle.report.specs.LastPages.{first_last_page, pages_at, page_count_of};
+ghost use Rattle.report.specs.RowSteps.{last_pages};
 
 use bsc_table::{Aired, Command, Entry};
 use std::alloc::{AllocError, Global};
@@ -67,8 +68,13 @@ fn note_page(firsts: &mut [Option<u16>], log: &[Entry], aired: Aired, slot: u16)
     }
 }
 
-/// The first slot of a run that airs the last page of the message of each entry, by the entry's place in the log.
-pub(crate) fn first_last_pages(
+/// The first slot of a run that airs the last page of the message of each entry of a cell's log, by the entry's place
+/// there: none if no slot does, or the entry is no write. It is one walk over the slots.
+///
+/// # Errors
+///
+/// Out of memory.
+pub fn first_last_pages(
     alloc: Global,
     log: &[Entry],
     air: &[Option<Aired>],

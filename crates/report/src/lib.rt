@@ -21,6 +21,7 @@ mod table;
 pub use cause::cause_words;
 pub use cells::rows;
 pub use fault::ReportFault;
+pub use last_pages::first_last_pages;
 pub use laws::report_laws;
 pub use output::{text_of, text_with, write_part, write_report};
 pub use row::{Columns, Demand, Row, Showing};

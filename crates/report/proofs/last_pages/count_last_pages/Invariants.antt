@@ -1,7 +1,7 @@
 use Rattle.std.proofs.Common.{◌≡◌, length, slice_index, EachIndex}
 use Rattle.scheduler.specs.Pages.{times_aired}
 use Rattle.bsc_table.specs.Book.{air_pairs}
-use Rattle.report.specs.RowSteps.{pages_at}
+use Rattle.report.specs.LastPages.{pages_at}
 use Rattle.report.proofs.last_pages.count_last_pages.Given as goal
 
 abbrev pub invariant-loop-used : goal.invariant-loop-used

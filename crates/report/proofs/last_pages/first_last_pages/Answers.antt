@@ -3,7 +3,7 @@ use Rattle.std.specs.Prelude.{if◌then◌else◌}
 use Rattle.std.proofs.lemmas.List.{with_items_is}
 use Rattle.scheduler.specs.Pages.{airs_page}
 use Rattle.bsc_table.specs.Book.{aired_pair}
-use Rattle.report.specs.RowSteps.{pages_at}
+use Rattle.report.specs.LastPages.{pages_at}
 use Rattle.report.proofs.StepLaws.{first-more}
 use Rattle.report.proofs.last_pages.first_last_pages.Goals as goal
 

@@ -1,6 +1,6 @@
 use Rattle.std.proofs.Common.{◌≡◌, ◌<◌, ◌≤◌, ℕ, None, length, slice_index_or, drop}
 use Rattle.bsc_table.specs.Book.{air_pairs}
-use Rattle.report.specs.RowSteps.{first_airing, pages_at}
+use Rattle.report.specs.LastPages.{first_airing, pages_at}
 use Rattle.report.proofs.last_pages.first_last_pages.Given as goal
 
 abbrev pub invariant-loop-slot : goal.invariant-loop-slot
