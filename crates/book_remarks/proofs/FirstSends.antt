@@ -104,4 +104,4 @@ first-of-next log air firsts place each = by_entry (slice_get log place) refl
     by_entry (Some e) is =
         each place (slice_get_within log place e is)
         ∙ ap (λ (found : Option Entry).
-            first_airing place (option_map_or (λ (one : Entry). page_count_of one.command) found 0) air 0) is
+        first_airing place (option_map_or (λ (one : Entry). page_count_of one.command) found 0) air 0) is

@@ -4,7 +4,7 @@ use Rattle.std.proofs.Common.{sym, subst, false}
 use Rattle.std.proofs.lemmas.List.{map-append}
 use Rattle.std.specs.Option.{option_map, option_to_list}
 use Rattle.std.proofs.lemmas.List.Elements.{All-append, All-cons, All-map, All-nil}
-use Rattle.bsc_table.specs.Record.{Accepted, accepted_after, added_by, is_stop_by, is_stop_of, start_of, stop_after}
+use Rattle.bsc_table.specs.Record.{Accepted, accepted_after, added_by, is_stop_by, start_of, stop_after}
 use Rattle.bsc_table.specs.Record.{stopped_by}
 use Rattle.bsc_table.specs.declared.command.Command.{Command}
 use Rattle.bsc_table.specs.declared.command.Command.TheVariants as commands

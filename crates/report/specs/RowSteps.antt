@@ -1,12 +1,12 @@
 -- Steps on the way to the rows of a cell (own). The contracts of private functions alone speak of them.
 use Rattle.std.specs.Prelude.{◌≡◌, ℕ, ◌+◌, ◌*◌, ◌==◌, ◌&&◌, Bool, if◌then◌else◌, min, Option, Some, None}
-use Rattle.std.specs.Prelude.{List, [], ◌∷◌, length, find, slice_index, slice_index_or, drop}
+use Rattle.std.specs.Prelude.{List, [], length, find, slice_index, slice_index_or, drop}
 use Rattle.std.specs.List.{flat_map, list_any, range_with_len, slice_get}
 use Rattle.std.specs.Option.{option_map, option_map_or, unwrap_or, option_to_list}
 use Rattle.std.specs.Map.{lookup}
 use Rattle.cbsp_wire.specs.declared.message.Cell.{Cell}
 use Rattle.scheduler.specs.Air.{Air}
-use Rattle.scheduler.specs.Pages.{airs_page, times_aired}
+use Rattle.scheduler.specs.Pages.{times_aired}
 use Rattle.bsc_table.specs.declared.command.Command.{Command}
 use Rattle.bsc_table.specs.declared.command.Command.TheVariants as commands
 use Rattle.bsc_table.specs.declared.entry.Answer.{Answer}
@@ -15,7 +15,7 @@ use Rattle.bsc_table.specs.declared.entry.Entry.{Entry}
 use Rattle.bsc_table.specs.Record.{is_stop_of, rank_of}
 use Rattle.handset.specs.Reception.{ShownMessage}
 use Rattle.report.specs.declared.row.Row.{Row}
-use Rattle.report.specs.LastPages.{page_count_of, pages_at}
+use Rattle.report.specs.LastPages.{pages_at}
 use Rattle.report.specs.Rows.{demand_of, refusal_row, showing_of, is_shown}
 
 -- how often the slots of an air list air the last page of the entry at a place
