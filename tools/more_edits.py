@@ -7,14 +7,16 @@ functions have an open goal. An edit counts as refused there only if a goal of i
 function calls another that isn't proved. All others, and those that change more than one function, or a constant or a
 macro, are tried alone: each is refused if the crate isn't proved with it.
 
-Usage: more_edits.py [--batch N] [--lanes N] [--since COMMIT] [CRATE..]
+Usage: more_edits.py [--batch N] [--lanes N] [--rooms N] [--since COMMIT] [CRATE..]
 
-With names of crates, those alone are tried; with --since, those that changed since that commit. tools/edits_tried says
-of each crate when all of its edits were last refused, and on which commit (with a `+` if the crate had changes of its
-own). The last line is 'N refused, M not refused', and the run fails if M is not 0.
+With names of crates, those alone are tried; with --since, those that changed since that commit. With --batch 1 each
+edit is tried alone, which is quicker where most functions of a crate call one another. tools/edits_tried says of each
+crate when all of its edits were last refused, and on which commit (with a `+` if the crate had changes of its own). The
+last line is 'N refused, M not refused', and the run fails if M is not 0.
 """
 import argparse
 import os
+import queue
 import re
 import shutil
 import subprocess
@@ -109,16 +111,17 @@ class Edit:
 
 
 class Room:
-    """A copy of the repository's crates in which one crate may be changed."""
+    """A copy of the repository's crates, as they stand in a folder, in which one crate may be changed."""
 
-    def __init__(self, folder, name):
+    def __init__(self, folder, name, top=TOP):
+        self.folder = folder
         self.crate = os.path.join(folder, "crates", name)
         self.original = os.path.join(TOP, "crates", name)
         os.makedirs(os.path.join(folder, "crates"))
         for file in ("crates.txt", "HANDLES"):
-            shutil.copy(os.path.join(TOP, file), folder)
-        for other in os.listdir(os.path.join(TOP, "crates")):
-            shutil.copytree(os.path.join(TOP, "crates", other), os.path.join(folder, "crates", other), symlinks=True,
+            shutil.copy(os.path.join(top, file), folder)
+        for other in os.listdir(os.path.join(top, "crates")):
+            shutil.copytree(os.path.join(top, "crates", other), os.path.join(folder, "crates", other), symlinks=True,
                             ignore=None if other == name else shutil.ignore_patterns("incremental"))
 
     def check(self, texts, *flags):
@@ -200,23 +203,52 @@ def is_refused_alone(room, edit):
     return has_refusal(said)
 
 
-def try_crate(name, size):
-    """Returns how many edits of a crate were refused, and the names of the others."""
-    crate = os.path.join(TOP, "crates", name)
-    edits = [Edit(crate, it) for it in sorted(os.listdir(os.path.join(crate, "more-edits"))) if it.endswith(".edit")]
-    began, refused = time.monotonic(), set()
-    together, alone = batches(crate, edits, size)
-    with tempfile.TemporaryDirectory(prefix="more-edits-") as folder:
-        room = Room(folder, name)
-        said = room.check({})
+class Rooms:
+    """Some rooms for one crate, in which checks run side by side."""
+
+    def __init__(self, folder, name, count):
+        self.free = queue.Queue()
+        first = Room(os.path.join(folder, "0"), name)
+        said = first.check({})
         if not re.search(r"^logic=proved", said, re.M):
             print(said[-2000:])
             raise SystemExit(f"{name}: the crate isn't proved as it stands, so no edit says anything")
-        for batch, texts in together:
-            said = room.check(texts, "--allow-holes")
-            refused.update(edit.name for edit in batch if has_open_goal(said, edit))
-            alone += [edit for edit in batch if edit.name not in refused]
-        refused.update(edit.name for edit in alone if is_refused_alone(room, edit))
+        self.free.put(first)
+        for number in range(1, count):
+            # what the first has kept of its check serves the others, too
+            self.free.put(Room(os.path.join(folder, str(number)), name, first.folder))
+        self.pool = ThreadPoolExecutor(count)
+
+    def in_one(self, call, *given):
+        room = self.free.get()
+        try:
+            return call(room, *given)
+        finally:
+            self.free.put(room)
+
+    def each(self, call, items):
+        """Returns what the call says of each item, in a room that is free then."""
+        return list(self.pool.map(lambda it: self.in_one(call, it), items))
+
+
+def refused_together(room, shared):
+    """Returns which edits of a batch are refused by its one check."""
+    batch, texts = shared
+    said = room.check(texts, "--allow-holes")
+    return {edit.name for edit in batch if has_open_goal(said, edit)}
+
+
+def try_crate(name, size, count):
+    """Returns how many edits of a crate were refused, and the names of the others."""
+    crate = os.path.join(TOP, "crates", name)
+    edits = [Edit(crate, it) for it in sorted(os.listdir(os.path.join(crate, "more-edits"))) if it.endswith(".edit")]
+    began = time.monotonic()
+    together, alone = batches(crate, edits, size)
+    with tempfile.TemporaryDirectory(prefix="more-edits-") as folder:
+        rooms = Rooms(folder, name, count)
+        refused = set().union(*rooms.each(refused_together, together))
+        alone += [edit for batch, _ in together for edit in batch if edit.name not in refused]
+        refused.update(edit.name for edit, is_refused in zip(alone, rooms.each(is_refused_alone, alone)) if is_refused)
     left = [it.name for it in edits if it.name not in refused]
     minutes = (time.monotonic() - began) / 60
     print(f"{name}: {len(refused)} of {len(edits)} refused, {len(together)} batches and {len(alone)} alone, "
@@ -257,6 +289,8 @@ def main():
     parser = argparse.ArgumentParser(description=__doc__, formatter_class=argparse.RawDescriptionHelpFormatter)
     parser.add_argument("--batch", type=int, default=12, help="how many edits share a check at most")
     parser.add_argument("--lanes", type=int, default=lanes(MEMORY), help="how many crates are tried at a time")
+    parser.add_argument("--rooms", type=int, help="how many checks of a crate run at a time; if no number is given, so "
+                        "many that all crates together have as many as there are lanes")
     parser.add_argument("--since", metavar="COMMIT", help="tries the crates that changed since this commit")
     parser.add_argument("crates", metavar="CRATE", nargs="*")
     words = parser.parse_args()
@@ -269,8 +303,9 @@ def main():
     if words.since is not None:
         changed = changed_since(words.since)
         names = [it for it in names if it in changed]
+    rooms = words.rooms or max(1, words.lanes // max(1, len(names)))
     with ThreadPoolExecutor(words.lanes) as pool:
-        counts = list(pool.map(lambda it: try_crate(it, words.batch), names))
+        counts = list(pool.map(lambda it: try_crate(it, words.batch, rooms), names))
     refused, left = sum(it[0] for it in counts), sum(it[1] for it in counts)
     keep_record({name: count for name, (count, lost) in zip(names, counts) if not lost})
     print(f"{refused} refused, {left} not refused")
