@@ -4,5 +4,6 @@ pub mod NameLaws
 pub mod SentLaws
 pub mod TimeLaws
 pub mod ByNameLaws
+pub mod CameLaws
 pub mod FoundLaws
 mod Worked

@@ -3,6 +3,7 @@ pub mod Sent
 pub mod Judged
 pub mod Difference
 pub mod Kept
+pub mod Came
 pub mod ByName
 pub mod Names
 pub mod Rows

@@ -1,25 +1,24 @@
 //! What is told beside differences: what was expected, and what came.
 
-ghost use Rattle.std.specs.Prelude.{◌≡◌, ◌++◌, find, map, IfOk, OnOk, string_bytes};
+ghost use Rattle.std.specs.Prelude.{◌≡◌, ◌++◌, ◌≤◌, AllPairs, find, map, IfOk, OnOk, string_bytes};
 ghost use Rattle.std.specs.List.{flat_map};
-ghost use Rattle.std.specs.Option.{option_map, option_to_list};
-ghost use Rattle.verification.specs.Asked.{AskedMessage};
-ghost use Rattle.verification.specs.ByName.{AreByName};
+ghost use Rattle.std.specs.Option.{option_to_list};
+ghost use Rattle.verification.specs.Asked.{asked_of_log};
+ghost use Rattle.verification.specs.Came.{came_asked, AllHavePages};
 ghost use Rattle.verification.specs.Explained.{end_slot, explained_kind, explained_of, explanation, field_of};
 ghost use Rattle.verification.specs.Explained.{is_message_of, limit_text};
-ghost use Rattle.verification.specs.Judged.{judged_in};
 ghost use Rattle.verification.specs.Kept.{asked_kept};
 ghost use Rattle.verification.specs.RowText.{kind_text};
 ghost use Rattle.verification.specs.Sent.{sent_in};
 ghost use Rattle.verification.specs.Table.{difference_lines, told_line};
 
 use crate::asked::{Asked, asked_messages};
+use crate::came::{Came, message_of, messages_with_pages};
 use crate::difference::{Difference, Kind};
-use crate::judged::judged_pages;
 use crate::lines::told_line;
 use crate::lost::explained_broadcasts;
 use crate::page_fields::{explained_page, field_of, octets_sent};
-use crate::sent::{SentPage, sent_pages, sort_by_name};
+use crate::sent::{sent_pages, sort_by_name};
 use crate::text::kind_text;
 use bsc_table::CellRecord;
 use cbs_page::PAGE_OCTETS;
@@ -50,31 +49,12 @@ impl Model for Explanation {
 }
 
 impl<'a> Asked<'a> {
-    /// Whether it is the message of a difference.
-    fn is_message_of(&self, difference: &Difference) -> bool
-        ensures { result ≡ is_message_of difference.now (asked_kept self.now) }
-    {
-        self.id == difference.id && self.serial == difference.serial.number()
-    }
-
     /// The first slot after the periods of its requested broadcasts.
     fn end_slot(&self) -> u64
         ensures { result ≡ end_slot (asked_kept self.now) }
     {
         u64::from(self.start) + u64::from(self.broadcasts) * u64::from(self.period)
     }
-}
-
-/// The message of a difference, if it is one of these.
-fn message_of<'a>(messages: &[Asked<'a>], difference: &Difference) -> Option<Asked<'a>>
-    ensures { option_map asked_kept result ≡ find (is_message_of difference.now) (map asked_kept messages.now) }
-{
-    for asked in messages {
-        if asked.is_message_of(difference) {
-            return Some(*asked);
-        }
-    }
-    None
 }
 
 /// What is told of a page that came, and of what was expected in its place. The only error is out of memory.
@@ -121,22 +101,21 @@ fn limit_text(alloc: Global, asked: &Asked, kind: Kind) -> Result<String, AllocE
 fn explained_kind(
     alloc: Global,
     slots: u16,
-    asked: &Asked,
-    sent: &[SentPage],
+    message: &Came,
     page: &Option<[u8; PAGE_OCTETS]>,
     kind: Kind,
 ) -> Result<Option<Explanation>, AllocError>
-    requires { AreByName sent.now }
+    requires { AllPairs (λ a b. a.slot ≤ b.slot) message.now.pages.items }
     ensures { IfOk result (λ told. option_to_list told
-        ≡ explained_kind slots (asked_kept asked.now) (judged_in (asked_kept asked.now) sent.now) page.now kind) }
+        ≡ explained_kind slots (came_asked message.now) message.now.pages.items page.now kind) }
 {
+    let asked = &message.asked;
     match kind {
         Kind::Otherwise { page: number } => {
             Ok(Some(explained_page(alloc, asked, number, page)?))
         }
         Kind::NotWhole { broadcast } => {
-            let pages = judged_pages(alloc, asked, sent)?;
-            explained_broadcasts(alloc, slots, asked, &pages, broadcast)
+            explained_broadcasts(alloc, slots, asked, &message.pages, broadcast)
         }
         _ => {
             let limit = limit_text(alloc, asked, kind)?;
@@ -149,19 +128,17 @@ fn explained_kind(
 fn explained(
     alloc: Global,
     slots: u16,
-    messages: &[Asked],
-    sent: &[SentPage],
+    came: &[Came],
     blocks: &[[u8; 23]],
     difference: &Difference,
 ) -> Result<Option<Explanation>, AllocError>
-    requires by_name { AreByName sent.now }
-    requires same { (a : AskedMessage) → judged_in a sent.now ≡ judged_in a (sent_in blocks.now) }
+    requires { AllHavePages (sent_in blocks.now) came.now }
     ensures { IfOk result (λ told. option_to_list told ≡ explained_of slots
-        (find (is_message_of difference.now) (map asked_kept messages.now)) blocks.now difference.now) }
+        (find (is_message_of difference.now) (map came_asked came.now)) blocks.now difference.now) }
 {
     let page = octets_sent(blocks, difference);
-    match message_of(messages, difference) {
-        Some(asked) => explained_kind(alloc, slots, &asked, sent, &page, difference.kind),
+    match message_of(came, difference) {
+        Some(message) => explained_kind(alloc, slots, message, &page, difference.kind),
         None => {
             let nothing = String::new(alloc);
             Ok(Some(explained_sent(alloc, difference.kind, nothing, &page)?))
@@ -186,6 +163,41 @@ fn push_lines(
     }
 }
 
+/// Messages, each with its pages in some blocks. The only error is out of memory.
+fn came_in<'a>(
+    alloc: Global,
+    messages: &[Asked<'a>],
+    blocks: &[[u8; 23]],
+) -> Result<Vec<Came<'a>>, AllocError>
+    ensures asked { IfOk result (λ came. map came_asked came.items ≡ map asked_kept messages.now) }
+    ensures pages { IfOk result (λ came. AllHavePages (sent_in blocks.now) came.items) }
+{
+    let mut sent = sent_pages(alloc, blocks)?;
+    sort_by_name(&mut sent)?;
+    messages_with_pages(alloc, messages, &sent)
+}
+
+/// Appends the lines of differences, one after another. The only error is out of memory.
+fn push_all_lines(
+    alloc: Global,
+    text: &mut Vec<u8>,
+    run: &CellRecord,
+    came: &[Came],
+    blocks: &[[u8; 23]],
+    found: &[Difference],
+) -> Result<(), AllocError>
+    requires asked { map came_asked came.now ≡ asked_of_log run.now.log }
+    requires pages { AllHavePages (sent_in blocks.now) came.now }
+    ensures { OnOk result (text.new.items
+        ≡ text.old.items ++ flat_map (difference_lines run.now blocks.now) found.now) }
+{
+    for difference in found {
+        let told = explained(alloc, run.slots(), came, blocks, difference)?;
+        push_lines(alloc, text, run.cell(), difference, &told)?;
+    }
+    Ok(())
+}
+
 /// The lines that the explained table has of differences between a cell's record and the blocks of its tape.
 ///
 /// # Errors
@@ -204,11 +216,7 @@ pub fn explained_lines(
         return Ok(lines);
     }
     let messages = asked_messages(alloc, run.log())?;
-    let mut sent = sent_pages(alloc, blocks)?;
-    sort_by_name(&mut sent)?;
-    for difference in found {
-        let told = explained(alloc, run.slots(), &messages, &sent, blocks, difference)?;
-        push_lines(alloc, &mut lines, run.cell(), difference, &told)?;
-    }
+    let came = came_in(alloc, &messages, blocks)?;
+    push_all_lines(alloc, &mut lines, run, &came, blocks, found)?;
     Ok(lines)
 }

@@ -6,6 +6,7 @@
 
 mod asked;
 mod broadcasts;
+mod came;
 mod cell;
 mod detail;
 mod difference;
