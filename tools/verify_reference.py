@@ -5,9 +5,11 @@ itself.
 
 Usage: verify_reference.py PROGRAM [RUNS]    random books, whose tapes are left as they are in every third run, and else
                                              spoilt: octets changed, slots swapped, dropped and doubled, blocks shifted,
-                                             tapes missing, doubled, cut or foreign; in every fourth run pages have
+                                             tapes missing, doubled, cut or foreign; in every fifth run they are
+                                             recorded some slots late or early, too; in every fourth run pages have
                                              fewer blocks, and are judged with --short; the rows of both programs have
-                                             to be the same. PROGRAM is a built `warnc`
+                                             to be the same, and so have those with which --explain says that all
+                                             pages of a tape come early or late. PROGRAM is a built `warnc`
 """
 import csv
 import io
@@ -99,8 +101,8 @@ def differences_of_message(one, sent, slots):
             yield due, one.ident, one.serial, 4, turn
 
 
-def differences_of_cell(asked, blocks, slots):
-    sent, found, names = list(sent_in(blocks)), [], {(it.ident, it.serial) for it in asked}
+def differences_of_cell(asked, sent, slots):
+    found, names = [], {(it.ident, it.serial) for it in asked}
     for one in asked:
         found += differences_of_message(one, [(slot, number, one.is_right(number, total, dcs, text))
                                               for slot, ident, serial, number, total, dcs, text in sent
@@ -112,13 +114,38 @@ def differences_of_cell(asked, blocks, slots):
     return sorted(found)
 
 
+def shift_of_cell(asked, sent, slots):
+    """Returns by how many slots all pages come early, or late if it is less than 0, or 0 if they don't.
+
+    A shift moves no page before its message's start, and one first page to it; and it is none if all pages come in the
+    time of their messages.
+    """
+    if not any(kind in (1, 2, 3) for *_, kind, _ in differences_of_cell(asked, sent, slots)):
+        return 0
+    by_name = {(it.ident, it.serial): it for it in asked}
+    early = [by_name[page[1:3]].start - page[0] for page in sent if page[1:3] in by_name]
+    shift = max(early, default=0)
+    first, end = max(0, shift), min(slots, slots + shift)
+    moved = [(slot + shift, *page) for slot, *page in sent if slot + shift >= 0]
+    for due, ident, serial, kind, _ in differences_of_cell(asked, moved, slots):
+        period = by_name[ident, serial].period if kind == 4 else 0
+        if kind != 4 or first <= due - period and due <= end:
+            return 0
+    return shift
+
+
+def name_of_shift(shift):
+    return f"all pages come {abs(shift)} slot{'s' * (abs(shift) > 1)} {'early' if shift > 0 else 'late'}"
+
+
 WORDS = ("page {} reads otherwise", "before its start", "after its stop", "after its last broadcast",
          "broadcast {} not whole", "not ordered")
 
 
 def table_of(cells, asked, tapes, slots):
-    """Returns the table of a book's cells and of tapes (LAC, CI, blocks)."""
-    lines = ["lac,ci,id,serial,slot,difference"]
+    """Returns the table of a book's cells and of tapes (LAC, CI, blocks), and the rows that --explain adds, and
+    that each stands before the others of its cell."""
+    lines, shifts = ["lac,ci,id,serial,slot,difference"], []
     for cell in cells:
         own = [it for it in tapes if it[:2] == cell]
         if not own:
@@ -126,7 +153,10 @@ def table_of(cells, asked, tapes, slots):
         elif len(own[0][2]) != 4 * slots:
             lines.append(f"{cell[0]},{cell[1]},,,,other slots")
         else:
-            for slot, ident, serial, kind, number in differences_of_cell(asked.get(cell, []), own[0][2], slots):
+            sent = list(sent_in(own[0][2]))
+            if shift := shift_of_cell(asked.get(cell, []), sent, slots):
+                shifts.append((f"{cell[0]},{cell[1]},,,,{name_of_shift(shift)},,", True))
+            for slot, ident, serial, kind, number in differences_of_cell(asked.get(cell, []), sent, slots):
                 lines.append(f"{cell[0]},{cell[1]},{ident},{serial:04x},{slot},{WORDS[kind].format(number)}")
     seen = set()
     for lac, ci, *_ in tapes:
@@ -135,7 +165,31 @@ def table_of(cells, asked, tapes, slots):
         elif (lac, ci) in seen:
             lines.append(f"{lac},{ci},,,,second tape")
         seen.add((lac, ci))
-    return "".join(it + "\n" for it in lines)
+    return "".join(it + "\n" for it in lines), shifts
+
+
+def shifts_in(explained):
+    """Returns the rows of a table that say that all pages come early or late, each with whether it stands right before
+    the first other row of its cell."""
+    rows = list(csv.reader(io.StringIO(explained)))
+    found = []
+    for at, row in enumerate(rows):
+        if row[5].startswith("all pages come "):
+            is_first = all(it[:2] != row[:2] for it in rows[:at])
+            found.append((",".join(row), is_first and at + 1 < len(rows) and rows[at + 1][:2] == row[:2]))
+    return found
+
+
+def recorded_elsewhere(rng, tapes, longer, slots):
+    """Returns tapes that begin some slots later or earlier than the run: those of a longer run, without its first
+    slots, or after idle ones."""
+    made = []
+    for (lac, ci, blocks), (_, _, more) in zip(tapes, longer):
+        by = rng.randrange(1, 9)
+        after = more[4 * by:] if rng.random() < 0.7 else blocks[4 * by:] + [gsm.IDLE] * (4 * by)
+        made.append((lac, ci, (after if rng.random() < 0.5 else [gsm.IDLE] * (4 * by) + blocks)[:4 * slots]))
+        made[-1][2].extend([gsm.IDLE] * (4 * slots - len(made[-1][2])))
+    return made
 
 
 def spoilt(rng, tapes):
@@ -216,25 +270,33 @@ def differs(program, seed):
     report = run(program, ["report", "--slots", str(slots)], octets)
     made = run(program, ["compile", "--slots", str(slots)], octets)
     tapes = gsm.tapes_of(made.stdout)
-    if seed % 3:
+    is_moved = seed % 5 == 2
+    if is_moved:
+        longer = run(program, ["compile", "--slots", str(slots + 8)], octets)
+        tapes = recorded_elsewhere(rng, tapes, gsm.tapes_of(longer.stdout), slots)
+    if seed % 3 and (not is_moved or rng.random() < 0.3):
         tapes = spoilt(rng, tapes)
     else:
         rng.shuffle(tapes)
     is_short = seed % 4 == 1
     tapes = [(lac, ci, shortened(rng, blocks)) for lac, ci, blocks in tapes] if is_short else tapes
     judged_tapes = [(lac, ci, completed(blocks)) for lac, ci, blocks in tapes] if is_short else tapes
-    table = table_of(cells, asked_of(report.stdout.decode(), orders, slots), judged_tapes, slots)
+    table, shifts = table_of(cells, asked_of(report.stdout.decode(), orders, slots), judged_tapes, slots)
     given = b"".join(gsm.tape_of(*it) for it in tapes)
     with tempfile.NamedTemporaryFile() as file:
         file.write(octets)
         file.flush()
-        said = run(program, ["verify", "--slots", str(slots), "--book", file.name] + ["--short"] * is_short, given)
+        words = ["verify", "--slots", str(slots), "--book", file.name] + ["--short"] * is_short
+        said = run(program, words, given)
+        explained = run(program, [*words, "--explain"], given).stdout.decode()
     count = table.count("\n") - 1
     status, faults = (1, f"warnc: differences: {count}\n") if count else (0, "")
     wanted = table, faults, status
-    if (said.stdout.decode(), said.stderr.decode(), said.returncode) == wanted and (seed % 3 or is_short or not count):
+    is_kept = seed % 3 or is_short or is_moved or not count
+    is_same = (said.stdout.decode(), said.stderr.decode(), said.returncode) == wanted
+    if is_same and is_kept and shifts_in(explained) == shifts:
         return False
-    print(f"run {seed}:\n{book}{table}{said.stdout.decode()}{said.stderr.decode()}")
+    print(f"run {seed}:\n{book}{table}{shifts}\n{said.stdout.decode()}{said.stderr.decode()}{explained}")
     return True
 
 

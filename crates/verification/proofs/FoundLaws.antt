@@ -24,7 +24,9 @@ use Rattle.verification.specs.FoundSteps.{AreJudgedBy, IsJudgedBy, explained_fou
 use Rattle.verification.specs.FoundSteps.{rows_of_finding, rows_of_found, rows_of_state, text_of_detail}
 use Rattle.verification.specs.FoundSteps.{text_of_found}
 use Rattle.verification.specs.Table.{AreLinesOfCells, IsExplained, IsTable, IsTextOf, difference_lines}
-use Rattle.verification.specs.Table.{explained_header, finding_line, lines_of_cell, lines_of_finding, other_line}
+use Rattle.verification.specs.Table.{explained_header, finding_line, finds_untimely, lines_in_front, lines_of_cell}
+use Rattle.verification.specs.Table.{lines_of_finding, other_line, shift_lines}
+use Rattle.verification.specs.Shift.{is_untimely}
 use Rattle.handset.specs.Recording.{TapeRecording}
 use Rattle.verification.specs.Rows.{AreJudged, AreRows, AreRowsBy, AreRowsOfCells, AreTapeRows}
 use Rattle.verification.specs.Rows.{difference_row, is_known, is_tape_of, other_row, other_rows, finding_row}
@@ -337,7 +339,11 @@ lines-of-found told r (Some tape) found.NoTape is_told is = absurd is
 lines-of-found told r (Some tape) found.OtherSlots is_told is =
     sym (append-nil (finding_line r.cell findings.OtherSlots))
 lines-of-found told r (Some tape) (found.Judged ds lines) is_told is =
-    is.2 ∙ ap (λ t. lines_told t r tape.blocks ds.items) is_told ∙ sym (each r tape ds.items)
+    is.2 ∙ ap (λ t. lines_told t r tape.blocks ds.items) is_told
+    ∙ ap (λ some. (if some then shift_lines r tape.blocks else [])
+    ++ flat_map (difference_lines r tape.blocks) ds.items)
+    (sym (untimely r.cell ds.items))
+    ∙ ap (λ xs. lines_in_front r (Some tape) (map (difference_row r.cell) ds.items) ++ xs) (sym (each r tape ds.items))
   where
     each : (r : Record) (tape : TapeRecording) (ds : List Difference) →
         flat_map (λ (row : Row). lines_of_finding r (Some tape) row.finding) (map (difference_row r.cell) ds)
@@ -348,6 +354,12 @@ lines-of-found told r (Some tape) (found.Judged ds lines) is_told is =
         (map (difference_row r.cell) ds)
         ∙ ap (λ xs. difference_lines r tape.blocks d ++ xs) (each r tape ds)
         ∙ sym (flat_map-cons (difference_lines r tape.blocks) d ds)
+
+    untimely : (cell : Cell) (ds : List Difference) →
+        list_any (λ (row : Row). finds_untimely row.finding) (map (difference_row cell) ds)
+        ≡ list_any (λ (d : Difference). is_untimely d.kind) ds
+    untimely cell [] = refl
+    untimely cell (d ∷ ds) = ap (λ (some : Bool). is_untimely d.kind || some) (untimely cell ds)
 
 lines-of-cells : (told : Detail) (tapes : List TapeRecording) (cells : List CellState) → told ≡ detail.Explained →
     AllByRecursion (IsFound told tapes) cells →

@@ -5,5 +5,6 @@ pub mod SentLaws
 pub mod TimeLaws
 pub mod ByNameLaws
 pub mod CameLaws
+pub mod ShiftLaws
 pub mod FoundLaws
 mod Worked

@@ -1,6 +1,7 @@
 -- What is kept of the tapes of a run so far (own), and when that stands for a list of tapes.
-use Rattle.std.specs.Prelude.{◌≡◌, ℕ, true, false, ◌==◌, Option, Some, None, List, [], ◌∷◌, ◌++◌, map, find, All}
-use Rattle.std.specs.List.{flat_map}
+use Rattle.std.specs.Prelude.{◌≡◌, ℕ, true, false, ◌==◌, if◌then◌else◌, Option, Some, None, List, [], ◌∷◌, ◌++◌}
+use Rattle.std.specs.Prelude.{map, find, All}
+use Rattle.std.specs.List.{flat_map, list_any}
 use Rattle.cbsp_wire.specs.declared.message.Cell.{Cell}
 use Rattle.bsc_table.specs.Record.{Record}
 use Rattle.verification.specs.declared.detail.Detail.{Detail}
@@ -13,7 +14,8 @@ use Rattle.verification.specs.declared.row.Row.{Row}
 use Rattle.verification.specs.Difference.{AreDifferences}
 use Rattle.handset.specs.Recording.{TapeRecording}
 use Rattle.verification.specs.Rows.{is_tape_of, other_rows, AreRows}
-use Rattle.verification.specs.Table.{difference_lines, IsTable}
+use Rattle.verification.specs.Shift.{is_untimely}
+use Rattle.verification.specs.Table.{difference_lines, shift_lines, IsTable}
 
 -- how much is told, the cells of the run, each with what was found of it, the cells of the tapes, and the rows of tapes
 -- that aren't judged
@@ -23,10 +25,19 @@ pub record FindingsState : Type 0 where
   pub seen : List Cell
   pub others : List Row
 
+-- the lines of a cell's differences, after that of the shift of its pages
+abbrev pub shift_lines_for : Record → (blocks : List (List ℕ)) → List Difference → List ℕ
+shift_lines_for r blocks differences =
+    if list_any (λ d. is_untimely d.kind) differences then shift_lines r blocks else []
+
+abbrev pub explained_lines : Record → (blocks : List (List ℕ)) → List Difference → List ℕ
+explained_lines r blocks differences =
+    shift_lines_for r blocks differences ++ flat_map (difference_lines r blocks) differences
+
 -- the lines that are told of a cell's differences, where more than these is told
 abbrev pub lines_told : Detail → Record → (blocks : List (List ℕ)) → List Difference → List ℕ
 lines_told detail.Plain r blocks differences = []
-lines_told detail.Explained r blocks differences = flat_map (difference_lines r blocks) differences
+lines_told detail.Explained r blocks differences = explained_lines r blocks differences
 
 -- what was found of a cell by a tape of these slots and blocks
 abbrev pub IsFoundIn : Detail → Record → (slots : ℕ) → (blocks : List (List ℕ)) → CellFinding → Type 0

@@ -11,5 +11,7 @@ pub mod RowText
 pub mod Found
 pub mod FoundSteps
 pub mod Explained
+pub mod Shift
+pub mod ShiftSteps
 pub mod Table
 pub mod LineSteps

@@ -7,18 +7,20 @@ ghost use Rattle.verification.specs.Asked.{asked_of_log};
 ghost use Rattle.verification.specs.Came.{came_asked, AllHavePages};
 ghost use Rattle.verification.specs.Explained.{end_slot, explained_kind, explained_of, explanation, field_of};
 ghost use Rattle.verification.specs.Explained.{is_message_of, limit_text};
+ghost use Rattle.verification.specs.Found.{explained_lines, shift_lines_for};
 ghost use Rattle.verification.specs.Kept.{asked_kept};
 ghost use Rattle.verification.specs.RowText.{kind_text};
 ghost use Rattle.verification.specs.Sent.{sent_in};
-ghost use Rattle.verification.specs.Table.{difference_lines, told_line};
+ghost use Rattle.verification.specs.Table.{difference_lines, shift_lines, told_line};
 
 use crate::asked::{Asked, asked_messages};
 use crate::came::{Came, message_of, messages_with_pages};
 use crate::difference::{Difference, Kind};
-use crate::lines::told_line;
+use crate::lines::{shift_line, told_line};
 use crate::lost::explained_broadcasts;
 use crate::page_fields::{explained_page, field_of, octets_sent};
 use crate::sent::{sent_pages, sort_by_name};
+use crate::shift::{any_is_untimely, shift_of};
 use crate::text::kind_text;
 use bsc_table::CellRecord;
 use cbs_page::PAGE_OCTETS;
@@ -177,6 +179,45 @@ fn came_in<'a>(
     messages_with_pages(alloc, messages, &sent)
 }
 
+/// The line of the shift of all pages, if they have one, or no lines. The only error is out of memory.
+fn shift_lines(
+    alloc: Global,
+    run: &CellRecord,
+    messages: &[Asked],
+    came: &[Came],
+    blocks: &[[u8; 23]],
+) -> Result<Vec<u8>, AllocError>
+    requires log { map asked_kept messages.now ≡ asked_of_log run.now.log }
+    requires same { map came_asked came.now ≡ map asked_kept messages.now }
+    requires pages { AllHavePages (sent_in blocks.now) came.now }
+    ensures { IfOk result (λ lines. lines.items ≡ shift_lines run.now blocks.now) }
+{
+    match shift_of(alloc, run.slots(), messages, came, blocks)? {
+        Some(shift) => shift_line(alloc, run.cell(), shift),
+        None => Ok(Vec::new(alloc)),
+    }
+}
+
+/// The same where the differences are such that a shift may be why. The only error is out of memory.
+fn shift_lines_for(
+    alloc: Global,
+    run: &CellRecord,
+    messages: &[Asked],
+    came: &[Came],
+    blocks: &[[u8; 23]],
+    found: &[Difference],
+) -> Result<Vec<u8>, AllocError>
+    requires log { map asked_kept messages.now ≡ asked_of_log run.now.log }
+    requires same { map came_asked came.now ≡ map asked_kept messages.now }
+    requires pages { AllHavePages (sent_in blocks.now) came.now }
+    ensures { IfOk result (λ lines. lines.items ≡ shift_lines_for run.now blocks.now found.now) }
+{
+    if any_is_untimely(found) {
+        return shift_lines(alloc, run, messages, came, blocks);
+    }
+    Ok(Vec::new(alloc))
+}
+
 /// Appends the lines of differences, one after another. The only error is out of memory.
 fn push_all_lines(
     alloc: Global,
@@ -209,14 +250,14 @@ pub fn explained_lines(
     blocks: &[[u8; 23]],
     found: &[Difference],
 ) -> Result<Vec<u8>, AllocError>
-    ensures { IfOk result (λ lines. lines.items ≡ flat_map (difference_lines run.now blocks.now) found.now) }
+    ensures { IfOk result (λ lines. lines.items ≡ explained_lines run.now blocks.now found.now) }
 {
-    let mut lines = Vec::new(alloc);
     if found.is_empty() {
-        return Ok(lines);
+        return Ok(Vec::new(alloc));
     }
     let messages = asked_messages(alloc, run.log())?;
     let came = came_in(alloc, &messages, blocks)?;
+    let mut lines = shift_lines_for(alloc, run, &messages, &came, blocks, found)?;
     push_all_lines(alloc, &mut lines, run, &came, blocks, found)?;
     Ok(lines)
 }

@@ -21,6 +21,7 @@ mod page_fields;
 mod pages;
 mod row;
 mod sent;
+mod shift;
 mod text;
 
 pub use cell::differences;

@@ -3,11 +3,13 @@
 ghost use Rattle.std.specs.Prelude.{◌≡◌, ◌++◌, ℕ, List, [], IfOk, OnOk, map, string_bytes};
 ghost use Rattle.csv.specs.Writing.{default_writer, row_text};
 ghost use Rattle.verification.specs.LineSteps.{HasWritten};
-ghost use Rattle.verification.specs.Table.{explained_header, finding_line, finding_name, told_line};
+ghost use Rattle.verification.specs.Table.{explained_header, finding_line, finding_name, shift_line, shift_name};
+ghost use Rattle.verification.specs.Table.{slots_named, told_line, whole_line};
 
 use crate::difference::Difference;
 use crate::explained::Explanation;
 use crate::row::Finding;
+use crate::shift::Shift;
 use crate::text::kind_text;
 use cbsp_wire::Cell;
 use csv::{Writer, WriterBuilder};
@@ -84,12 +86,11 @@ fn finding_name(alloc: Global, finding: &Finding) -> Result<String, AllocError>
     }
 }
 
-/// The line of a finding that tells of a whole cell or tape. The only error is out of memory.
-pub fn finding_line(alloc: Global, cell: Cell, finding: &Finding) -> Result<Vec<u8>, AllocError>
-    ensures { IfOk result (λ octets. octets.items ≡ finding_line cell finding.now) }
+/// The line of a finding of a whole cell or tape. The only error is out of memory.
+fn whole_line(alloc: Global, cell: Cell, name: &str) -> Result<Vec<u8>, AllocError>
+    ensures { IfOk result (λ octets. octets.items ≡ whole_line cell name.now) }
 {
     let (mut lac, mut ci) = (Buffer::new(), Buffer::new());
-    let name = finding_name(alloc, finding)?;
     line(
         alloc,
         &[
@@ -103,6 +104,48 @@ pub fn finding_line(alloc: Global, cell: Cell, finding: &Finding) -> Result<Vec<
             b"",
         ],
     )
+}
+
+/// The line of a finding that tells of a whole cell or tape. The only error is out of memory.
+pub fn finding_line(alloc: Global, cell: Cell, finding: &Finding) -> Result<Vec<u8>, AllocError>
+    ensures { IfOk result (λ octets. octets.items ≡ finding_line cell finding.now) }
+{
+    let name = finding_name(alloc, finding)?;
+    whole_line(alloc, cell, &name)
+}
+
+/// A number of slots. The only error is out of memory.
+fn slots_named(alloc: Global, slots: usize) -> Result<String, AllocError>
+    ensures { IfOk result (λ text. string_bytes text ≡ slots_named slots) }
+{
+    if slots == 1 {
+        return String::from_str(alloc, "1 slot");
+    }
+    format!(in alloc; "{slots} slots")
+}
+
+/// What a shift is called. The only error is out of memory.
+fn shift_name(alloc: Global, shift: Shift) -> Result<String, AllocError>
+    ensures { IfOk result (λ text. string_bytes text ≡ shift_name shift) }
+{
+    match shift {
+        Shift::Early(slots) => {
+            let slots = slots_named(alloc, slots as usize)?;
+            format!(in alloc; "all pages come {slots} early")
+        }
+        Shift::Late(slots) => {
+            let slots = slots_named(alloc, slots)?;
+            format!(in alloc; "all pages come {slots} late")
+        }
+    }
+}
+
+/// The line of a cell whose pages are all shifted. The only error is out of memory.
+pub fn shift_line(alloc: Global, cell: Cell, shift: Shift) -> Result<Vec<u8>, AllocError>
+    ensures { IfOk result (λ octets. octets.items ≡ shift_line cell shift) }
+{
+    let name = shift_name(alloc, shift)?;
+    whole_line(alloc, cell, &name)
 }
 
 /// The line of what is told of a difference. The only error is out of memory.

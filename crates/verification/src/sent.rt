@@ -1,6 +1,6 @@
 //! The pages that a tape sends.
 
-ghost use Rattle.std.specs.Prelude.{◌≡◌, ◌≤◌, AllPairs, IfOk, OnOk};
+ghost use Rattle.std.specs.Prelude.{◌≡◌, ◌<◌, ◌≤◌, ◌^◌, All, AllPairs, IfOk, OnOk};
 ghost use Rattle.verification.specs.Asked.{AskedMessage};
 ghost use Rattle.verification.specs.ByName.{AreByName, name_number};
 ghost use Rattle.verification.specs.Judged.{judged_in};
@@ -42,6 +42,8 @@ impl SentPage {
 pub fn sent_pages(alloc: Global, blocks: &[[u8; 23]]) -> Result<Vec<SentPage>, AllocError>
     ensures pages { IfOk result (λ sent. sent.items ≡ sent_in blocks.now) }
     ensures rising { IfOk result (λ sent. AllPairs (λ a b. a.slot ≤ b.slot) sent.items) }
+    // Slots are far from the greatest number, so that they may be added to.
+    ensures few { IfOk result (λ sent. All (λ s. s.slot < 2 ^ 62) sent.items) }
 {
     let mut sent = Vec::new(alloc);
     for place in 0..blocks.len() {

@@ -432,6 +432,260 @@ next -> 1,5,4372,0032,8,broadcast 1 not whole,slots 4 to 7,pages 2 of 2
 next -> none
 ";
 
+/// Tapes on which all pages come early or late, and tapes that only look so.
+const SHIFTED: &str = "
+# a message of slots 6, 7, 10 and 11, five slots early
+cell 7 16
+play 6
+write 4370 0010 - normal 4 2 AB/CD -> Started { slot: 6 }
+end
+blank
+idle 1
+send 4370 0010 en 1 2 AB
+send 4370 0010 en 2 2 CD
+idle 2
+send 4370 0010 en 1 2 AB
+send 4370 0010 en 2 2 CD
+idle 9
+explain
+take 7
+rows -> 1,7,,,,all pages come 5 slots early,,
+next -> 1,7,4370,0010,1,before its start,from slot 6,AB
+next -> 1,7,4370,0010,10,broadcast 0 not whole,slots 6 to 9,pages 2 of 2
+next -> 1,7,4370,0010,14,broadcast 1 not whole,slots 10 to 13,nothing
+next -> none
+
+# the plain table doesn't say it
+cell 7 16
+play 6
+write 4370 0010 - normal 4 2 AB/CD -> Started { slot: 6 }
+end
+begin
+take 7
+rows -> 1,7,4370,0010,1,before its start
+next -> 1,7,4370,0010,10,broadcast 0 not whole
+next -> 1,7,4370,0010,14,broadcast 1 not whole
+next -> none
+
+# the last page in slot 9, only two slots early: by five slots it would come in slot 14, after its last broadcast
+cell 7 16
+play 6
+write 4370 0010 - normal 4 2 AB/CD -> Started { slot: 6 }
+end
+swap 6 9
+explain
+take 7
+rows -> 1,7,4370,0010,1,before its start,from slot 6,AB
+next -> 1,7,4370,0010,10,broadcast 0 not whole,slots 6 to 9,pages 2 of 2
+next -> 1,7,4370,0010,14,broadcast 1 not whole,slots 10 to 13,nothing
+next -> none
+
+# all five slots early, but for another page in slot 8
+cell 7 16
+play 6
+write 4370 0010 - normal 4 2 AB/CD -> Started { slot: 6 }
+end
+blank
+idle 1
+send 4370 0010 en 1 2 AB
+send 4370 0010 en 2 2 CD
+idle 2
+send 4370 0010 en 1 2 AB
+send 4370 0010 en 2 2 CD
+idle 1
+send 4370 0011 en 1 1 AB
+idle 7
+explain
+take 7
+rows -> 1,7,4370,0010,1,before its start,from slot 6,AB
+next -> 1,7,4370,0011,8,not ordered,,AB
+next -> 1,7,4370,0010,10,broadcast 0 not whole,slots 6 to 9,pages 2 of 2
+next -> 1,7,4370,0010,14,broadcast 1 not whole,slots 10 to 13,nothing
+next -> none
+
+# of slots 0, 2 and 4, three slots late; and the slots before the run's may have pages of other messages, but no others
+cell 8 12
+write 4371 0020 - normal 2 3 X -> Started { slot: 0 }
+end
+blank
+idle 1
+send 4371 0022 en 1 1 Z
+idle 1
+send 4371 0020 en 1 1 X
+idle 1
+send 4371 0020 en 1 1 X
+idle 1
+send 4371 0020 en 1 1 X
+idle 4
+explain
+take 8
+rows -> 1,8,,,,all pages come 3 slots late,,
+next -> 1,8,4371,0022,1,not ordered,,Z
+next -> 1,8,4371,0020,2,broadcast 0 not whole,slots 0 to 1,nothing
+next -> 1,8,4371,0020,7,after its last broadcast,up to slot 6,X
+next -> none
+cell 8 12
+write 4371 0020 - normal 2 3 X -> Started { slot: 0 }
+end
+swap 1 9
+explain
+take 8
+rows -> 1,8,4371,0020,2,broadcast 0 not whole,slots 0 to 1,nothing
+next -> 1,8,4371,0020,7,after its last broadcast,up to slot 6,X
+next -> 1,8,4371,0022,9,not ordered,,Z
+next -> none
+
+# one slot late, and one slot early
+cell 8 4
+write 4371 0020 - normal 1 3 X -> Started { slot: 0 }
+end
+blank
+idle 1
+send 4371 0020 en 1 1 X
+send 4371 0020 en 1 1 X
+send 4371 0020 en 1 1 X
+explain
+take 8
+rows -> 1,8,,,,all pages come 1 slot late,,
+next -> 1,8,4371,0020,1,broadcast 0 not whole,slots 0 to 0,nothing
+next -> 1,8,4371,0020,3,after its last broadcast,up to slot 3,X
+next -> none
+cell 8 4
+play 1
+write 4371 0020 - normal 1 2 X -> Started { slot: 1 }
+end
+blank
+send 4371 0020 en 1 1 X
+send 4371 0020 en 1 1 X
+idle 2
+explain
+take 8
+rows -> 1,8,,,,all pages come 1 slot early,,
+next -> 1,8,4371,0020,0,before its start,from slot 1,X
+next -> 1,8,4371,0020,3,broadcast 1 not whole,slots 2 to 2,nothing
+next -> none
+
+# recorded from slot 5 on, and five slots longer than the run: the first message, of slots 0, 4, 8, 12, 16 and 20, was
+# on air before, so that only the second, of slots 6 and 10, says by how many slots they are early
+cell 9 16
+write 4371 0020 - normal 4 0 X -> Started { slot: 0 }
+play 6
+write 4371 0021 - normal 4 2 Y -> Started { slot: 6 }
+end
+blank
+idle 1
+send 4371 0021 en 1 1 Y
+idle 1
+send 4371 0020 en 1 1 X
+idle 1
+send 4371 0021 en 1 1 Y
+idle 1
+send 4371 0020 en 1 1 X
+idle 3
+send 4371 0020 en 1 1 X
+idle 3
+send 4371 0020 en 1 1 X
+explain
+take 9
+rows -> 1,9,,,,all pages come 5 slots early,,
+next -> 1,9,4371,0021,1,before its start,from slot 6,Y
+next -> 1,9,4371,0021,10,nothing sent from slot 6 to 13,broadcasts 0 to 1,nothing
+next -> none
+
+# of a tape that has the slots from 5 on a broadcast from slot 8 on is lost
+cell 9 16
+write 4371 0020 - normal 4 0 X -> Started { slot: 0 }
+play 6
+write 4371 0021 - normal 4 2 Y -> Started { slot: 6 }
+end
+silence 3
+explain
+take 9
+rows -> 1,9,4371,0021,1,before its start,from slot 6,Y
+next -> 1,9,4371,0020,4,broadcast 0 not whole,slots 0 to 3,nothing
+next -> 1,9,4371,0021,10,nothing sent from slot 6 to 13,broadcasts 0 to 1,nothing
+next -> none
+
+# one that is stopped at slot 5, of slots 0, 2 and 4, and one of slots 6 and 9, of which the tape has the first alone
+cell 8 12
+write 4371 0020 - normal 2 0 X -> Started { slot: 0 }
+play 5
+kill 4371 0020 -> Stopped { completed: 3 }
+play 1
+write 4371 0021 - normal 3 2 Y -> Started { slot: 6 }
+end
+blank
+idle 5
+send 4371 0020 en 1 1 X
+idle 1
+send 4371 0020 en 1 1 X
+idle 1
+send 4371 0020 en 1 1 X
+idle 1
+send 4371 0021 en 1 1 Y
+explain
+take 8
+rows -> 1,8,,,,all pages come 5 slots late,,
+next -> 1,8,4371,0020,2,nothing sent from slot 0 to 3,broadcasts 0 to 1,nothing
+next -> 1,8,4371,0020,5,after its stop,up to slot 5,X
+next -> 1,8,4371,0021,9,broadcast 0 not whole,slots 6 to 8,nothing
+next -> none
+
+# a tape that isn't shifted, with a page after the last broadcast, and one that only lacks its first broadcast
+cell 8 8
+write 4371 0020 - normal 2 3 X -> Started { slot: 0 }
+end
+blank
+send 4371 0020 en 1 1 X
+idle 1
+send 4371 0020 en 1 1 X
+idle 3
+send 4371 0020 en 1 1 X
+idle 1
+explain
+take 8
+rows -> 1,8,4371,0020,6,after its last broadcast,up to slot 6,X
+next -> 1,8,4371,0020,6,broadcast 2 not whole,slots 4 to 5,nothing
+next -> none
+cell 8 8
+write 4371 0020 - normal 2 0 X -> Started { slot: 0 }
+end
+tape
+silence 0
+explain
+take 8
+rows -> 1,8,4371,0020,2,broadcast 0 not whole,slots 0 to 1,nothing
+next -> none
+
+# before the rows of its own cell, which isn't the first, and of no cell whose tape has other slots
+cell 1 4
+write 4371 0020 - normal 4 0 X -> Started { slot: 0 }
+end
+cell 2 4
+play 1
+write 4371 0020 - normal 1 2 X -> Started { slot: 1 }
+end
+cell 3 4
+end
+explain
+blank
+send 4371 0020 en 1 1 X
+send 4371 0020 en 1 1 X
+idle 1
+take 3
+idle 1
+take 2
+blank
+idle 4
+take 1
+rows -> 1,1,4371,0020,4,broadcast 0 not whole,slots 0 to 3,nothing
+next -> 1,2,,,,all pages come 1 slot early,,
+next -> 1,2,4371,0020,0,before its start,from slot 1,X
+next -> 1,2,4371,0020,3,broadcast 1 not whole,slots 2 to 2,nothing
+next -> 1,3,,,,other slots,,
+next -> none
+";
+
 /// Pages as octets, and texts that CSV quotes. The content of a page of A is C1 46 A3 D1 68 34 1A, ten times 8D 46 A3
 /// D1 68 34 1A and then 8D 46 A3 D1 00: all its other characters are carriage returns.
 const OCTETS: &str = "
@@ -548,6 +802,13 @@ fn lost(rt: HostRuntime) -> Result<(), Fail> {
 #[test]
 fn octets(rt: HostRuntime) -> Result<(), Fail> {
     let cells = expect_lines(&rt, rt.alloc(), OCTETS, 53)?;
+    drop(cells);
+    Ok(())
+}
+
+#[test]
+fn shifted(rt: HostRuntime) -> Result<(), Fail> {
+    let cells = expect_lines(&rt, rt.alloc(), SHIFTED, 228)?;
     drop(cells);
     Ok(())
 }

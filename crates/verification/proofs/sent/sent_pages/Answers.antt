@@ -1,5 +1,5 @@
 use Rattle.std.proofs.Common.{◌≡◌, ◌≤◌, ◌∙◌, ◌+◌, ◌++◌, [], ◌∷◌, List, Option, ap, sym, subst, arith, drop}
-use Rattle.std.proofs.Common.{map, append-nil, refl, Some, None}
+use Rattle.std.proofs.Common.{map, append-nil, refl, Some, None, All, ◌<◌, ◌*◌, length, get_or}
 use Rattle.std.specs.List.{AllPairs}
 use Rattle.std.specs.Option.{option_to_list}
 use Rattle.std.proofs.lemmas.List.{drop_all, take_rest}
@@ -9,6 +9,7 @@ use Rattle.verification.specs.declared.sent.SentPage.{SentPage}
 use Rattle.verification.specs.Sent.{sent_at, sent_from, sent_in}
 use Rattle.verification.proofs.ListLaws.{rest-more, rest-none}
 use Rattle.verification.proofs.SentLaws.{sent-next}
+use Rattle.verification.proofs.ShiftLaws.{sent-below}
 use Rattle.verification.proofs.TimeLaws.{sent-rising}
 use Rattle.verification.proofs.sent.sent_pages.Goals as goal
 use Rattle.verification.proofs.sent.sent_pages.Goals.{in-Some+in_ok-push, in_default}
@@ -57,3 +58,11 @@ whole c =
 pub returns-clause-rising : goal.returns-clause-rising
 returns-clause-rising c =
     subst (AllPairs (λ (a b : SentPage). a.slot ≤ b.slot)) (sym (whole c)) (sent-rising 0 c.args.blocks.now)
+
+pub returns-clause-few : goal.returns-clause-few
+returns-clause-few c =
+    subst (All (λ (s : SentPage). s.slot < 4611686018427387904)) (sym (whole c))
+    (λ k d within.
+    let below : 4 * (get_or (sent_in c.args.blocks.now) k d).slot < 0 + length c.args.blocks.now =
+    sent-below 0 c.args.blocks.now k d within in
+    omega (arith, c.told-blocks))
