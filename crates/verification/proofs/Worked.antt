@@ -1,5 +1,5 @@
 -- What some tapes have of what was asked, computed. The pages are in UCS-2, so that their octets are the text's own.
-use Rattle.std.proofs.Common.{◌≡◌, ℕ, ◌++◌, List, [], ◌∷◌, None, replicate, refl}
+use Rattle.std.proofs.Common.{◌≡◌, ℕ, ◌++◌, List, [], ◌∷◌, Some, None, replicate, refl}
 use Rattle.std.specs.List.{flat_map}
 use Rattle.cbs_page.specs.declared.content.Content.{Content}
 use Rattle.bsc_table.specs.declared.command.Category.TheVariants.{Normal}
@@ -12,6 +12,8 @@ use Rattle.verification.specs.declared.difference.Kind.TheVariants as kinds
 use Rattle.verification.specs.Asked.{asked_of_log}
 use Rattle.verification.specs.Difference.{all_differences}
 use Rattle.verification.specs.Sent.{sent_in}
+use Rattle.verification.specs.Shift.{shift_of_sent}
+use Rattle.verification.specs.declared.shift.Shift.TheVariants as shifts
 use lib.Utf8.{encode}
 
 -- so many of the carriage returns that fill a page
@@ -36,12 +38,15 @@ idle = (0x2F ∷ []) ∷ (0x2F ∷ []) ∷ (0x2F ∷ []) ∷ (0x2F ∷ []) ∷ [
 
 -- message 1112, serial number 0010, of the pages A and B, twice from slot 0 on in periods of four slots; killed at the
 -- slot, if one is given
-abbrev write : Entry
-write = record {
+abbrev write_at : ℕ → Entry
+write_at slot = record {
   command = commands.Write 0x1112 0x0010 None Normal (record { 0 = 0x48 }) 4 2 (content 65 ∷ content 66 ∷ []);
-  slot = 0;
-  answer = answers.Started 0;
+  slot = slot;
+  answer = answers.Started slot;
 }
+
+abbrev write : Entry
+write = write_at 0
 
 abbrev kill : ℕ → Entry
 kill slot = record { command = commands.Kill 0x1112 0x0010; slot = slot; answer = answers.Stopped 1 }
@@ -97,3 +102,22 @@ worked_not_shown :
     ∷ record { slot = 6; id = 0x1112; serial = 0x0011; kind = kinds.NotOrdered } ∷ []
 unfolding encode
 worked_not_shown = refl
+
+-- three slots late, of slots 0, 1, 4 and 5; and one slot early, of slots 2, 3, 6 and 7, but not if the last page is late
+worked_late_shift :
+    shift_of_sent 12 (asked_of_log (write ∷ [])) (sent_in (idle ++ (idle ++ (idle ++ (whole ++ whole)))))
+    ≡ Some (shifts.Late 3)
+unfolding encode
+worked_late_shift = refl
+
+worked_early_shift :
+    shift_of_sent 12 (asked_of_log (write_at 2 ∷ [])) (sent_in (idle ++ (whole ++ whole))) ≡ Some (shifts.Early 1)
+unfolding encode
+worked_early_shift = refl
+
+worked_no_shift :
+    shift_of_sent 12 (asked_of_log (write_at 2 ∷ []))
+    (sent_in (idle ++ (whole ++ (page_of 0x10 0x12 65 ++ (idle ++ (idle ++ (idle ++ page_of 0x10 0x22 66)))))))
+    ≡ None
+unfolding encode
+worked_no_shift = refl
