@@ -103,7 +103,8 @@ worked_not_shown :
 unfolding encode
 worked_not_shown = refl
 
--- three slots late, of slots 0, 1, 4 and 5; and one slot early, of slots 2, 3, 6 and 7, but not if the last page is late
+-- three slots late, of slots 0, 1, 4 and 5; and one slot early, of slots 2, 3, 6 and 7, but not if the last page is
+-- late
 worked_late_shift :
     shift_of_sent 12 (asked_of_log (write ∷ [])) (sent_in (idle ++ (idle ++ (idle ++ (whole ++ whole)))))
     ≡ Some (shifts.Late 3)
