@@ -11,3 +11,4 @@ pub mod Times
 pub mod OptionWalk
 pub mod TapesLaws
 pub mod TapesFaults
+pub mod Walks

@@ -59,7 +59,8 @@ by-front : (order : Option OctetOrder) (n : ℕ) (octets : List ℕ) → 12 ≤ 
 by-front None n octets fits = refl
 by-front (Some order) n octets fits = rw (number-front order 4 n octets (omega arith)) refl
 
-length-front : (format : Format) (order : OctetOrder) (n : ℕ) (octets : List ℕ) → least format ≤ n →
+-- and so is the length that they say
+pub length-front : (format : Format) (order : OctetOrder) (n : ℕ) (octets : List ℕ) → least format ≤ n →
     n ≤ length octets → length_in format order (take n octets) ≡ length_in format order octets
 length-front (Classic link unit) order n octets fits inside =
     ap (λ said. Some (16 + said)) (number-front order 8 n octets (omega arith))

@@ -13,6 +13,8 @@ pub mod TapeOfCapture
 pub mod TapeSteps
 pub mod TapesOfCapture
 pub mod TapesSteps
+pub mod Walk
+pub mod WalkSteps
 pub mod Heard
 pub mod HeardSteps
 pub mod Laws

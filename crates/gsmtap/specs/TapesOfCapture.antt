@@ -4,7 +4,9 @@ use Rattle.gsmtap.specs.File.{Packet}
 use Rattle.gsmtap.specs.Taken.{ComesTo, IsFileFault, Taking}
 use Rattle.gsmtap.specs.TapeOfCapture.{IsTapeOfCapture, after_packet, nothing_known, slots_taken}
 use Rattle.gsmtap.specs.Track.{Known}
+use Rattle.gsmtap.specs.declared.fault.AirFault.{AirFault}
 use Rattle.gsmtap.specs.declared.fault.AirFaultKind.{AirFaultKind}
+use Rattle.gsmtap.specs.declared.fault.AirFaultKind.TheVariants as kind
 use Rattle.gsmtap.specs.declared.tape.Wanted.{Wanted}
 use Rattle.gsmtap.specs.declared.tapes.TapesFault.{TapesFault}
 use Rattle.gsmtap.specs.declared.tapes.TapesFault.TheVariants as faults
@@ -53,3 +55,8 @@ pub record HasSilentTape (wanted : List Wanted) (input : List ℕ) (place : ℕ)
 abbrev pub IsTapesFault : List Wanted → (input : List ℕ) → TapesFault → Type 0
 IsTapesFault wanted input (faults.Air fault) = IsFileFault (for_tapes wanted) input fault.packet fault.kind
 IsTapesFault wanted input (faults.NoBlock place) = HasSilentTape wanted input place
+
+-- the fault of a tape that is made alone
+abbrev pub fault_alone : TapesFault → AirFault
+fault_alone (faults.Air fault) = fault
+fault_alone (faults.NoBlock place) = record { packet = 0; kind = kind.NoBlock }

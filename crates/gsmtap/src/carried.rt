@@ -9,11 +9,13 @@ ghost use Rattle.gsmtap.specs.TapeOfCapture.{blocks_in};
 
 use crate::fault::AirFault;
 use crate::tap::Station;
-use crate::tape::{Sender, Wanted, fault_at, opened, read_pieces, slots_filled};
+use crate::tape::{Sender, Wanted, slots_filled};
+use crate::tapes::read_file;
 use cbch_blocks::idle;
 use cbsp_wire::Cell;
 use handset::page_in_front;
 use std::alloc::{AllocError, Global};
+use std::slice;
 
 /// What the blocks of one sender carry.
 #[derive(Drop, Debug)]
@@ -38,15 +40,12 @@ pub fn carried_by(alloc: Global, input: &[u8], station: Station) -> Result<Carri
     ensures carried { IfOk result (λ carried. IsCarriedBy station input.now (summary_of carried)) }
     ensures fault { IfErr result (IsUncarried station input.now) }
 {
-    let (reader, octets) = match opened(alloc, input) {
-        Ok(opened) => opened,
-        Err(kind) => return Err(fault_at(0, kind)),
-    };
-    let air = match read_pieces(alloc, &wanted_of(station), reader, octets) {
-        Ok(air) => air,
+    let wanted = wanted_of(station);
+    let airs = match read_file(alloc, input, slice::from_ref(&wanted)) {
+        Ok(airs) => airs,
         Err(fault) => return Err(fault),
     };
-    Ok(carried_in(alloc, &air.blocks)?)
+    Ok(carried_in(alloc, &airs[0].blocks)?)
 }
 
 /// The tape of a sender's blocks alone, whatever cell it names.

@@ -1,9 +1,11 @@
 //! The pieces of a capture file: packets with their headers in the classic format, and blocks in pcapng.
 
-ghost use Rattle.std.specs.Prelude.{◌≡◌, ◌<◌, ◌≤◌, ◌^◌, length, [], IfOk, MatchResult};
+ghost use Rattle.std.specs.Prelude.{◌≡◌, ◌<◌, ◌≤◌, ◌^◌, length, [], IfOk};
+ghost use Rattle.std.specs.Prelude.{MatchOption, MatchResult};
 ghost use Rattle.gsmtap.specs.PieceSteps.{BeginsWithPiece, IsFrontFault, meant, section_of};
-ghost use Rattle.gsmtap.specs.Pieces.{least, meaning, piece_length};
+ghost use Rattle.gsmtap.specs.Pieces.{IsCutPiece, IsWrongPiece, least, meaning, piece_length};
 ghost use Rattle.gsmtap.specs.Taken.{no_section};
+ghost use Rattle.gsmtap.specs.declared.fault.AirFaultKind.TheVariants as kinds;
 
 use crate::blocks::block_length;
 use crate::fault::AirFaultKind;
@@ -106,16 +108,38 @@ impl Reader {
             (λ it. BeginsWithPiece (section_of self.now) octets.now it.0.now it.1.now)
             (IsFrontFault (section_of self.now) octets.now) }
     {
+        match self.next_piece(octets) {
+            Ok(Some(split)) => Ok(split),
+            Ok(None) => Err(AirFaultKind::Short),
+            Err(kind) => Err(kind),
+        }
+    }
+
+    /// The first piece of octets, if it is whole, and what follows it.
+    ///
+    /// # Errors
+    ///
+    /// Returns [`AirFaultKind::WrongBlock`] if a block's first octets contradict themselves.
+    pub fn next_piece<'a>(
+        &self,
+        octets: &'a [u8],
+    ) -> Result<Option<(&'a [u8], &'a [u8])>, AirFaultKind>
+        requires { 0 < length octets.now }
+        ensures { MatchResult result
+            (λ next. MatchOption next (IsCutPiece (section_of self.now) octets.now)
+            (λ it. BeginsWithPiece (section_of self.now) octets.now it.0.now it.1.now))
+            (λ kind. (kind ≡ kinds.WrongBlock) × IsWrongPiece (section_of self.now) octets.now) }
+    {
         if octets.len() < self.least() {
-            return Err(AirFaultKind::Short);
+            return Ok(None);
         }
         let Some(length) = self.length_of(octets) else {
             return Err(AirFaultKind::WrongBlock);
         };
         if octets.len() < length {
-            return Err(AirFaultKind::Short);
+            return Ok(None);
         }
-        Ok(octets.split_at(length))
+        Ok(Some(octets.split_at(length)))
     }
 
     /// How many octets say how long a piece is.

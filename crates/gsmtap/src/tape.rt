@@ -4,25 +4,26 @@ ghost use Rattle.std.specs.Prelude.{◌≡◌, ◌+◌, ◌*◌, ◌<◌, ◌≤
 ghost use Rattle.std.specs.Prelude.{Err, []};
 ghost use Rattle.handset.specs.Tape.{octets_of_blocks, tape_octets};
 ghost use Rattle.gsmtap.specs.PieceSteps.{packet_of, section_of};
-ghost use Rattle.gsmtap.specs.Taken.{AreKnown, Opens};
-ghost use Rattle.gsmtap.specs.TapeOfCapture.{IsAirFault, IsTapeOfCapture, after_packet, blocks_in, for_tape};
+ghost use Rattle.gsmtap.specs.Taken.{Opens};
+ghost use Rattle.gsmtap.specs.TapeOfCapture.{IsAirFault, IsTapeOfCapture, after_packet, blocks_in};
 ghost use Rattle.gsmtap.specs.TapeOfCapture.{most_slots, nothing_known, slots_filled, slots_taken};
 ghost use Rattle.gsmtap.specs.TapeOfCapture.{tape_of_known};
-ghost use Rattle.gsmtap.specs.TapeSteps.{IsBeginFault, IsFoundKind, IsPacketKind, IsPieceFault, after_found};
-ghost use Rattle.gsmtap.specs.TapeSteps.{count_of, known_of, last_slot};
+ghost use Rattle.gsmtap.specs.TapeSteps.{IsBeginFault, IsPacketKind, known_of, last_slot};
 
 use crate::fault::{AirFault, AirFaultKind};
 use crate::file::{is_pcapng, link_number, link_numbered, order_of, unit_of};
-use crate::pieces::{Captured, Found, Reader};
+use crate::pieces::{Captured, Reader};
 use crate::tap::sent_in;
+use crate::tapes::tapes_of_capture;
 use crate::track::Air;
 use cbch_blocks::idle;
 use cbsp_wire::Cell;
 use handset::MAX_SLOTS;
 use std::alloc::{AllocError, Global};
+use std::slice;
 
 /// How many octets the header of a capture file has in the classic format.
-const FILE_HEADER: usize = 24;
+pub(crate) const FILE_HEADER: usize = 24;
 
 /// As blocks of which channel the blocks of a cell broadcast channel are marked.
 #[derive(Clone, Copy, Debug, PartialEq, Eq)]
@@ -72,18 +73,10 @@ pub fn tape_of_capture(alloc: Global, input: &[u8], wanted: &Wanted) -> Result<V
     ensures tape { IfOk result (λ output. IsTapeOfCapture wanted.now input.now output.items) }
     ensures fault { IfErr result (IsAirFault wanted.now input.now) }
 {
-    let (reader, octets) = match opened(alloc, input) {
-        Ok(opened) => opened,
-        Err(kind) => return Err(fault_at(0, kind)),
-    };
-    let air = match read_pieces(alloc, wanted, reader, octets) {
-        Ok(air) => air,
-        Err(fault) => return Err(fault),
-    };
-    if air.track.is_none() {
-        return Err(fault_at(0, AirFaultKind::NoBlock));
+    match tapes_of_capture(alloc, input, slice::from_ref(wanted)) {
+        Ok(output) => Ok(output),
+        Err(fault) => Err(fault.alone()),
     }
-    Ok(tape_of(alloc, wanted, &air)?)
 }
 
 /// What is known of a capture file at its first packet or block, and the octets from there on.
@@ -117,37 +110,6 @@ pub fn fault_at(packet: u64, kind: AirFaultKind) -> AirFault
     AirFault { packet, kind }
 }
 
-/// What is known of a tape after all pieces of a file, from its first one on.
-pub(crate) fn read_pieces(
-    alloc: Global,
-    wanted: &Wanted,
-    mut reader: Reader,
-    octets: &[u8],
-) -> Result<Air, AirFault>
-    requires { length octets.now < 2 ^ 48 }
-    ensures known { IfOk result (λ air. AreKnown (for_tape wanted.now) (section_of reader) octets.now (known_of air)) }
-    ensures long { IfOk result (λ air. length air.blocks.items ≡ 4 * slots_taken wanted.now) }
-    ensures fault { IfErr result (IsPieceFault (for_tape wanted.now) (section_of reader) octets.now) }
-{
-    let mut air = air_for(alloc, wanted)?;
-    let mut left = octets;
-    let mut number = 0;
-    'pieces: while !left.is_empty() {
-        let next = number + 1;
-        let (piece, rest) = match reader.split(left) {
-            Ok(split) => split,
-            Err(kind) => return Err(fault_at(next, kind)),
-        };
-        let found = reader.enter(piece)?;
-        match take(&mut air, wanted.from, &found) {
-            Ok(packets) => number += packets,
-            Err(kind) => return Err(fault_at(next, kind)),
-        }
-        left = rest;
-    }
-    Ok(air)
-}
-
 /// No block of a tape.
 pub(crate) fn air_for(alloc: Global, wanted: &Wanted) -> Result<Air, AllocError>
     ensures { IfOk result (λ air. known_of air ≡ nothing_known (slots_taken wanted.now)) }
@@ -165,28 +127,6 @@ fn most_slots(wanted: Option<u16>) -> u16
     match wanted {
         Some(slots) => slots,
         None => MAX_SLOTS as u16,
-    }
-}
-
-/// Places the block that a packet carries, if one was found and it does, and returns how many packets there were.
-fn take(air: &mut Air, from: Sender, found: &Found) -> Result<u64, AirFaultKind>
-    requires { last_slot air.old.track < 2 ^ 60 }
-    ensures placed { OnOk result (after_found (after_packet from) (known_of air.old) found.now
-        ≡ Ok (known_of air.new)) }
-    ensures many { IfOk result (λ packets. packets ≡ count_of found.now) }
-    ensures long { length air.new.blocks.items ≡ length air.old.blocks.items }
-    ensures bound { OnOk result (last_slot air.new.track
-        ≤ last_slot air.old.track + 3328 * count_of found.now) }
-    ensures fault { IfErr result (λ kind. after_found (after_packet from) (known_of air.old) found.now ≡ Err kind) }
-    ensures kinds { IfErr result (IsFoundKind found.now) }
-{
-    match found {
-        Found::Packet(packet) => match take_packet(air, from, packet) {
-            Ok(()) => Ok(1),
-            Err(kind) => Err(kind),
-        },
-        Found::Nothing => Ok(0),
-        Found::Wrong => Err(AirFaultKind::WrongBlock),
     }
 }
 

@@ -1,16 +1,17 @@
 //! The tapes that a capture file is, one for each of many senders.
 
-ghost use Rattle.std.specs.Prelude.{◌≡◌, ◌<◌, ◌≤◌, ◌^◌, length, position, IfErr, IfOk, OnOk, Ok, Err};
-ghost use Rattle.gsmtap.specs.PieceSteps.{packet_of, section_of};
-ghost use Rattle.gsmtap.specs.Taken.{AreKnown, ComesTo, IsFileFault};
+ghost use Rattle.std.specs.Prelude.{◌≡◌, ◌<◌, ◌≤◌, ◌^◌, ℕ, List, length, position, IfErr, IfOk, OnOk, Ok, Err};
+ghost use Rattle.gsmtap.specs.PieceSteps.{packet_of};
+ghost use Rattle.gsmtap.specs.Taken.{ComesTo, IsFileFault};
 ghost use Rattle.gsmtap.specs.TapesOfCapture.{AreTapesOfCapture, IsTapesFault, after_each, for_tapes, is_silent};
-ghost use Rattle.gsmtap.specs.TapesOfCapture.{none_known};
+ghost use Rattle.gsmtap.specs.TapesOfCapture.{fault_alone, none_known};
 ghost use Rattle.gsmtap.specs.TapesSteps.{AreLong, AreNear, known_of_each, tapes_of_known};
-ghost use Rattle.gsmtap.specs.TapeSteps.{IsFoundKind, IsPacketKind, IsPieceFault, after_found, count_of, known_of};
+ghost use Rattle.gsmtap.specs.TapeSteps.{IsFoundKind, IsPacketKind, after_found, count_of, known_of};
 ghost use Rattle.gsmtap.specs.declared.track.Air.{Air};
 
 use crate::fault::{AirFault, AirFaultKind};
-use crate::pieces::{Captured, Found, Reader};
+use crate::front::Front;
+use crate::pieces::{Captured, Found};
 use crate::tape::{Wanted, air_for, fault_at, opened, take_packet, tape_of};
 use crate::track::Air;
 use std::alloc::{AllocError, Global};
@@ -25,6 +26,18 @@ pub enum TapesFault {
     /// No packet has a block of the sender whose tape has this place, from 0.
     #[error("tape {0}: no block")]
     NoBlock(usize),
+}
+
+impl TapesFault {
+    /// The fault of a tape that is wanted alone, as [`tape_of_capture`](crate::tape_of_capture) returns it.
+    pub fn alone(self) -> AirFault
+        ensures { result ≡ fault_alone self }
+    {
+        match self {
+            TapesFault::Air(fault) => fault,
+            TapesFault::NoBlock(_) => fault_at(0, AirFaultKind::NoBlock),
+        }
+    }
 }
 
 /// The tapes that a capture file is, as [`tape_of_capture`](crate::tape_of_capture) makes each of them, one after the
@@ -47,9 +60,21 @@ pub fn tapes_of_capture(
         Ok(airs) => airs,
         Err(fault) => return Err(TapesFault::Air(fault)),
     };
-    match first_silent(&airs) {
+    made(alloc, wanted, &airs)
+}
+
+/// The tapes of a file, one after the other, of which this is known after all of its packets.
+pub(crate) fn made(alloc: Global, wanted: &[Wanted], airs: &[Air]) -> Result<Vec<u8>, TapesFault>
+    requires { AreLong wanted.now (known_of_each airs.now) }
+    ensures tapes { IfOk result (λ output. (input : List ℕ) →
+        ComesTo (for_tapes wanted.now) input (known_of_each airs.now) →
+        AreTapesOfCapture wanted.now input output.items) }
+    ensures fault { IfErr result (λ fault. (input : List ℕ) →
+        ComesTo (for_tapes wanted.now) input (known_of_each airs.now) → IsTapesFault wanted.now input fault) }
+{
+    match first_silent(airs) {
         Some(place) => Err(TapesFault::NoBlock(place)),
-        None => match tapes_of(alloc, wanted, &airs) {
+        None => match tapes_of(alloc, wanted, airs) {
             Ok(output) => Ok(output),
             Err(AllocError) => Err(TapesFault::Air(fault_at(0, AirFaultKind::Refused))),
         },
@@ -57,7 +82,11 @@ pub fn tapes_of_capture(
 }
 
 /// What is known of each tape after all pieces of a file.
-fn read_file(alloc: Global, input: &[u8], wanted: &[Wanted]) -> Result<Vec<Air>, AirFault>
+pub(crate) fn read_file(
+    alloc: Global,
+    input: &[u8],
+    wanted: &[Wanted],
+) -> Result<Vec<Air>, AirFault>
     requires { length input.now < 2 ^ 48 }
     ensures known { IfOk result (λ airs. ComesTo (for_tapes wanted.now) input.now (known_of_each airs.items)) }
     ensures fault { IfErr result (λ fault. IsFileFault (for_tapes wanted.now) input.now fault.packet fault.kind) }
@@ -66,42 +95,23 @@ fn read_file(alloc: Global, input: &[u8], wanted: &[Wanted]) -> Result<Vec<Air>,
         Ok(opened) => opened,
         Err(kind) => return Err(fault_at(0, kind)),
     };
-    read_pieces(alloc, wanted, reader, octets)
-}
-
-/// What is known of each tape after all pieces of a file, from its first one on.
-fn read_pieces(
-    alloc: Global,
-    wanted: &[Wanted],
-    mut reader: Reader,
-    octets: &[u8],
-) -> Result<Vec<Air>, AirFault>
-    requires { length octets.now < 2 ^ 48 }
-    ensures known { IfOk result (λ airs. AreKnown (for_tapes wanted.now) (section_of reader) octets.now
-        (known_of_each airs.items)) }
-    ensures fault { IfErr result (IsPieceFault (for_tapes wanted.now) (section_of reader) octets.now) }
-{
-    let mut airs = airs_for(alloc, wanted)?;
-    let mut left = octets;
-    let mut number = 0;
-    'pieces: while !left.is_empty() {
-        let next = number + 1;
-        let (piece, rest) = match reader.split(left) {
-            Ok(split) => split,
-            Err(kind) => return Err(fault_at(next, kind)),
-        };
-        let found = reader.enter(piece)?;
-        match take(&mut airs, wanted, &found) {
-            Ok(packets) => number += packets,
-            Err(kind) => return Err(fault_at(next, kind)),
-        }
-        left = rest;
+    let mut front = Front {
+        reader,
+        airs: airs_for(alloc, wanted)?,
+        packets: 0,
+    };
+    let taken = match front.take_pieces(wanted, octets) {
+        Ok(taken) => taken,
+        Err(fault) => return Err(fault),
+    };
+    if taken < octets.len() {
+        return Err(fault_at(front.packets + 1, AirFaultKind::Short));
     }
-    Ok(airs)
+    Ok(front.airs)
 }
 
 /// No block of any of the tapes.
-fn airs_for(alloc: Global, wanted: &[Wanted]) -> Result<Vec<Air>, AllocError>
+pub(crate) fn airs_for(alloc: Global, wanted: &[Wanted]) -> Result<Vec<Air>, AllocError>
     ensures { IfOk result (λ airs. known_of_each airs.items ≡ none_known wanted.now) }
 {
     let mut airs = Vec::new(alloc);
@@ -112,7 +122,11 @@ fn airs_for(alloc: Global, wanted: &[Wanted]) -> Result<Vec<Air>, AllocError>
 }
 
 /// Offers the packet that was found, if one was, to each tape, and returns how many packets there were.
-fn take(airs: &mut Vec<Air>, wanted: &[Wanted], found: &Found) -> Result<u64, AirFaultKind>
+pub(crate) fn take(
+    airs: &mut Vec<Air>,
+    wanted: &[Wanted],
+    found: &Found,
+) -> Result<u64, AirFaultKind>
     requires many { length airs.old.items ≡ length wanted.now }
     requires near { AreNear (2 ^ 59) (known_of_each airs.old.items) }
     ensures placed { OnOk result (after_found (after_each wanted.now) (known_of_each airs.old.items) found.now

@@ -1,7 +1,7 @@
 use Rattle.std.proofs.Common.{arith, sym}
 use Rattle.gsmtap.specs.PieceSteps.{section_of}
 use Rattle.gsmtap.proofs.PieceSteps.{begins_with_piece}
-use Rattle.gsmtap.proofs.pieces.Reader.split.Goals as goal
+use Rattle.gsmtap.proofs.pieces.Reader.next_piece.Goals as goal
 
 pub returns : goal.returns
 returns c =
