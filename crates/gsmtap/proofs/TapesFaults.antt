@@ -1,5 +1,6 @@
 -- A fault of tapes that are walked together is the fault of one of them alone.
-use Rattle.std.proofs.Common.{◌≡◌, ◌⊎◌, ℕ, ◌+◌, ◌*◌, ◌<◌, List, [], ◌∷◌, ◌++◌, length, refl, sym, ap, ◌∙◌, subst, inl, inr}
+use Rattle.std.proofs.Common.{◌≡◌, ◌⊎◌, ℕ, ◌+◌, ◌*◌, ◌<◌, List, [], ◌∷◌, ◌++◌, length, refl, sym, ap, ◌∙◌, subst, inl}
+use Rattle.std.proofs.Common.{inr}
 use Rattle.std.proofs.Common.{arith, append-nil, get_or, Option, Some, None, false, Result, Ok, Err, nat_lt}
 use Rattle.std.specs.Prelude.{not, is_none}
 use Rattle.std.specs.List.{prefix_len}

@@ -18,17 +18,17 @@ use Rattle.gsmtap.specs.Taken.{AreTaken, ComesTo, IsFileFault, Opens, Taking}
 use Rattle.gsmtap.specs.TapeSteps.{IsBeginFault, IsFoundKind, after_found, count_of, known_of}
 use Rattle.gsmtap.specs.TapesOfCapture.{after_each, for_tapes, none_known}
 use Rattle.gsmtap.specs.TapesSteps.{AreLong, AreNear, known_of_each}
-use Rattle.gsmtap.specs.Walk.{AreLeft, HasFault, HasNoBegin, HaveNoPiece, IsUnopened, IsWalkOf, StandsAt}
+use Rattle.gsmtap.specs.Walk.{AreLeft, IsLastingFault, HasNoBegin, HaveNoPiece, IsUnopened, IsWalkOf, StandsAt}
 use Rattle.gsmtap.specs.WalkSteps.{IsToOpen, IsToTake}
 use Rattle.gsmtap.specs.declared.fault.AirFault.{AirFault}
 use Rattle.gsmtap.specs.declared.fault.AirFaultKind.{AirFaultKind}
 use Rattle.gsmtap.specs.declared.fault.AirFaultKind.TheVariants as kind
-use Rattle.gsmtap.specs.declared.front.Front.{Front}
+use Rattle.gsmtap.specs.declared.frontier.Frontier.{Frontier}
 use Rattle.gsmtap.specs.declared.pieces.Found.{Found}
 use Rattle.gsmtap.specs.declared.tape.Wanted.{Wanted}
 use Rattle.gsmtap.specs.declared.track.Air.{Air}
-use Rattle.gsmtap.specs.declared.walk.Stage.{Stage}
-use Rattle.gsmtap.specs.declared.walk.Stage.TheVariants as stage
+use Rattle.gsmtap.specs.declared.walk.WalkStage.{WalkStage}
+use Rattle.gsmtap.specs.declared.walk.WalkStage.TheVariants as stage
 use Rattle.gsmtap.specs.declared.walk.Walk.{Walk}
 use Rattle.gsmtap.proofs.PacketSteps.{all_taken, fault_of_begin, fault_of_pieces, least_is, none_taken, one_more}
 use Rattle.gsmtap.proofs.PacketSteps.{wrong_found, wrong_front}
@@ -36,7 +36,8 @@ use Rattle.gsmtap.proofs.PieceSteps.{length-front}
 use Rattle.gsmtap.proofs.TapesLaws.{long_many, long_taken, near_below, near_taken}
 
 -- octets that go on as they begin
-longer : (front rest more : List ℕ) (octets : List ℕ) → octets ≡ front ++ rest → octets ++ more ≡ front ++ (rest ++ more)
+longer : (front rest more octets : List ℕ) → octets ≡ front ++ rest →
+    octets ++ more ≡ front ++ (rest ++ more)
 longer front rest more octets split = ap (λ it. it ++ more) split ∙ append_assoc front rest more
 
 pub begins_longer : (section : Section) (octets piece rest more : List ℕ) →
@@ -153,7 +154,8 @@ few_taken by here octets there left number known are =
     ap length are.split ∙ length-append (flat_map (λ piece. piece) are.pieces) left in
     omega (arith, whole, are.many, few_brought here are.pieces there are.packets are.bring)
 
-pub few_left : (wanted : List Wanted) (input : List ℕ) (front : Front) (left : List ℕ) →
+-- so the packets before what is left of a file are few
+pub few_left : (wanted : List Wanted) (input : List ℕ) (front : Frontier) (left : List ℕ) →
     AreLeft wanted input front left → 12 * front.packets + length left ≤ length input
 few_left wanted input front left are =
     omega (
@@ -172,7 +174,7 @@ back_of octets front rest split =
     ap (λ n. drop n octets) many ∙ ap (drop (length front)) split ∙ drop-append_seam front rest
 
 -- more octets came
-pub left_longer : (wanted : List Wanted) (input : List ℕ) (front : Front) (left more : List ℕ) →
+pub left_longer : (wanted : List Wanted) (input : List ℕ) (front : Frontier) (left more : List ℕ) →
     AreLeft wanted input front left → AreLeft wanted (input ++ more) front (left ++ more)
 left_longer wanted input front left more are = record {
   here = are.here;
@@ -183,14 +185,16 @@ left_longer wanted input front left more are = record {
       (known_of_each front.airs.items) more are.are;
 }
 
-pub fault_longer : (wanted : List Wanted) (input : List ℕ) (fault : AirFault) (more : List ℕ) → HasFault wanted input fault →
-    HasFault wanted (input ++ more) fault
+-- a fault that lasts does so after more octets
+pub fault_longer : (wanted : List Wanted) (input : List ℕ) (fault : AirFault) (more : List ℕ) →
+    IsLastingFault wanted input fault → IsLastingFault wanted (input ++ more) fault
 fault_longer wanted input fault more has rest =
     subst (λ octets. IsFileFault (for_tapes wanted) octets fault.packet fault.kind)
     (sym (append_assoc input more rest)) (has (more ++ rest))
 
 -- one piece more
-pub one_left : (wanted : List Wanted) (input : List ℕ) (front next : Front) (left piece rest : List ℕ) (what : Found) →
+pub one_left : (wanted : List Wanted) (input : List ℕ) (front next : Frontier) (left piece rest : List ℕ)
+    (what : Found) →
     AreLeft wanted input front left → BeginsWithPiece (section_of front.reader) left piece rest →
     meant (section_of next.reader) what ≡ meaning (section_of front.reader) piece →
     after_found (after_each wanted) (known_of_each front.airs.items) what ≡ Ok (known_of_each next.airs.items) →
@@ -208,12 +212,12 @@ one_left wanted input front next left piece rest what are begins is comes many =
 }
 
 -- a piece that is at fault
-pub wrong_left : (wanted : List Wanted) (input : List ℕ) (front : Front) (left piece rest : List ℕ) (new : Section)
+pub wrong_left : (wanted : List Wanted) (input : List ℕ) (front : Frontier) (left piece rest : List ℕ) (new : Section)
     (what : Found) (why : AirFaultKind) → AreLeft wanted input front left →
     BeginsWithPiece (section_of front.reader) left piece rest →
     meant new what ≡ meaning (section_of front.reader) piece →
     after_found (after_each wanted) (known_of_each front.airs.items) what ≡ Err why → IsFoundKind what why →
-    HasFault wanted input (record { packet = front.packets + 1; kind = why })
+    IsLastingFault wanted input (record { packet = front.packets + 1; kind = why })
 wrong_left wanted input front left piece rest new what why are begins is comes of_kind more =
     fault_of_pieces (for_tapes wanted) (input ++ more) are.here (are.after ++ more) (front.packets + 1) why
     (opens_longer input are.here are.after more are.opens)
@@ -224,9 +228,9 @@ wrong_left wanted input front left piece rest new what why are begins is comes o
     (begins_longer (section_of front.reader) left piece rest more begins) is comes of_kind)
 
 -- octets that contradict themselves
-pub wrong_begin : (wanted : List Wanted) (input : List ℕ) (front : Front) (left : List ℕ) (why : AirFaultKind) →
+pub wrong_begin : (wanted : List Wanted) (input : List ℕ) (front : Frontier) (left : List ℕ) (why : AirFaultKind) →
     AreLeft wanted input front left → (why ≡ kind.WrongBlock) × IsWrongPiece (section_of front.reader) left →
-    HasFault wanted input (record { packet = front.packets + 1; kind = why })
+    IsLastingFault wanted input (record { packet = front.packets + 1; kind = why })
 wrong_begin wanted input front left why are is more =
     subst (λ it. IsFileFault (for_tapes wanted) (input ++ more) (front.packets + 1) it) (sym is.0)
     (fault_of_pieces (for_tapes wanted) (input ++ more) are.here (are.after ++ more) (front.packets + 1) kind.WrongBlock
@@ -239,12 +243,12 @@ wrong_begin wanted input front left why are is more =
 
 -- memory was refused
 pub is_refused : (wanted : List Wanted) (input : List ℕ) (fault : AirFault) →
-    fault ≡ record { packet = 0; kind = kind.Refused } → HasFault wanted input fault
+    fault ≡ record { packet = 0; kind = kind.Refused } → IsLastingFault wanted input fault
 is_refused wanted input fault is more =
     subst (λ (it : AirFault). IsFileFault (for_tapes wanted) (input ++ more) it.packet it.kind) (sym is) refl
 
 -- the file ends inside a piece
-pub cut_left : (wanted : List Wanted) (input : List ℕ) (front : Front) (left : List ℕ) →
+pub cut_left : (wanted : List Wanted) (input : List ℕ) (front : Frontier) (left : List ℕ) →
     AreLeft wanted input front left → IsCutPiece (section_of front.reader) left →
     IsFileFault (for_tapes wanted) input (front.packets + 1) kind.Short
 cut_left wanted input front left are cut =
@@ -253,7 +257,7 @@ cut_left wanted input front left are cut =
     (known_of_each front.airs.items) kind.Short are.are cut)
 
 -- or after one
-pub none_left : (wanted : List Wanted) (input : List ℕ) (front : Front) (left : List ℕ) →
+pub none_left : (wanted : List Wanted) (input : List ℕ) (front : Frontier) (left : List ℕ) →
     AreLeft wanted input front left → left ≡ [] → ComesTo (for_tapes wanted) input (known_of_each front.airs.items)
 none_left wanted input front left are end = record {
   here = are.here;
@@ -265,7 +269,7 @@ none_left wanted input front left are end = record {
 }
 
 -- before the first piece
-pub first_left : (wanted : List Wanted) (input : List ℕ) (front : Front) (after : List ℕ) →
+pub first_left : (wanted : List Wanted) (input : List ℕ) (front : Frontier) (after : List ℕ) →
     Opens input (section_of front.reader) after → known_of_each front.airs.items ≡ none_known wanted →
     front.packets ≡ 0 → AreLeft wanted input front after
 first_left wanted input front after opens none number = record {
@@ -307,8 +311,9 @@ begin_longer input more kind.StepsBack is enough = is
 begin_longer input more kind.NoBlock is enough = is
 begin_longer input more kind.Refused is enough = is
 
+-- so a fault of a begin that is long enough lasts
 pub begin_fault : (wanted : List Wanted) (input : List ℕ) (why : AirFaultKind) → IsBeginFault input why →
-    (is_pcapng input ≡ false → 24 ≤ length input) → HasFault wanted input (record { packet = 0; kind = why })
+    (is_pcapng input ≡ false → 24 ≤ length input) → IsLastingFault wanted input (record { packet = 0; kind = why })
 begin_fault wanted input why is enough more =
     fault_of_begin (for_tapes wanted) (input ++ more) why (begin_longer input more why is enough)
 
@@ -318,7 +323,7 @@ pub no_begin : (wanted : List Wanted) (input : List ℕ) → HasNoBegin input �
 no_begin wanted input none = (refl, record { classic = none.classic; unknown = inl none.short })
 
 -- what is known of tapes where pieces are left
-pub near_left : (wanted : List Wanted) (input : List ℕ) (front : Front) (left : List ℕ) →
+pub near_left : (wanted : List Wanted) (input : List ℕ) (front : Frontier) (left : List ℕ) →
     AreLeft wanted input front left → length input < 2 ^ 48 → AreNear (2 ^ 59) (known_of_each front.airs.items)
 near_left wanted input front left are few =
     near_below (known_of_each front.airs.items) (3328 * front.packets) (2 ^ 59)
@@ -326,43 +331,49 @@ near_left wanted input front left are few =
     (near_taken wanted are.here are.after (section_of front.reader) left front.packets
     (known_of_each front.airs.items) are.are)
 
-pub long_left : (wanted : List Wanted) (input : List ℕ) (front : Front) (left : List ℕ) →
+-- each tape has four places for each of its slots
+pub long_left : (wanted : List Wanted) (input : List ℕ) (front : Frontier) (left : List ℕ) →
     AreLeft wanted input front left → AreLong wanted (known_of_each front.airs.items)
 long_left wanted input front left are =
     long_taken wanted are.here are.after (section_of front.reader) left front.packets
     (known_of_each front.airs.items) are.are
 
-pub many_left : (wanted : List Wanted) (input : List ℕ) (front : Front) (left : List ℕ) →
+-- and there are as many tapes as are wanted
+pub many_left : (wanted : List Wanted) (input : List ℕ) (front : Frontier) (left : List ℕ) →
     AreLeft wanted input front left → length front.airs.items ≡ length wanted
 many_left wanted input front left are =
     sym (length-map front.airs.items known_of)
     ∙ long_many wanted (known_of_each front.airs.items) (long_left wanted input front left are)
 
 -- where a walk stands, by its stage
-at_stage : (there : Stage) (wanted : List Wanted) (input : List ℕ) (walk : Walk) → IsWalkOf wanted input walk →
+at_stage : (there : WalkStage) (wanted : List Wanted) (input : List ℕ) (walk : Walk) → IsWalkOf wanted input walk →
     walk.stage ≡ there → StandsAt there wanted input walk.front walk.left.items
 at_stage there wanted input walk is at =
-    subst (λ (it : Stage). StandsAt it wanted input walk.front walk.left.items) at is.stands
+    subst (λ (it : WalkStage). StandsAt it wanted input walk.front walk.left.items) at is.stands
 
+-- its pieces are taken
 pub at_pieces : (wanted : List Wanted) (input : List ℕ) (walk : Walk) → IsWalkOf wanted input walk →
     walk.stage ≡ stage.Pieces →
     AreLeft wanted input walk.front walk.left.items × HaveNoPiece (section_of walk.front.reader) walk.left.items
 at_pieces wanted input walk is at = at_stage stage.Pieces wanted input walk is at
 
+-- or it has a fault
 pub at_fault : (wanted : List Wanted) (input : List ℕ) (walk : Walk) (fault : AirFault) → IsWalkOf wanted input walk →
-    walk.stage ≡ stage.Fault fault → HasFault wanted input fault
+    walk.stage ≡ stage.Fault fault → IsLastingFault wanted input fault
 at_fault wanted input walk fault is at = at_stage (stage.Fault fault) wanted input walk is at
 
+-- or nothing was taken of it
 pub at_begin : (wanted : List Wanted) (input : List ℕ) (walk : Walk) → IsWalkOf wanted input walk →
     walk.stage ≡ stage.Begin → IsUnopened wanted input walk.front walk.left.items
 at_begin wanted input walk is at = (at_stage stage.Begin wanted input walk is at).0
 
 -- a fault of a front is one of the file that it is
-pub fault_now : (wanted : List Wanted) (input : List ℕ) (fault : AirFault) → HasFault wanted input fault →
+pub fault_now : (wanted : List Wanted) (input : List ℕ) (fault : AirFault) → IsLastingFault wanted input fault →
     IsFileFault (for_tapes wanted) input fault.packet fault.kind
 fault_now wanted input fault has =
     subst (λ octets. IsFileFault (for_tapes wanted) octets fault.packet fault.kind) (append-nil input) (has [])
 
+-- octets without a whole piece, some at least, are cut
 pub cut_of : (section : Section) (left : List ℕ) → HaveNoPiece section left → 0 < length left →
     IsCutPiece section left
 cut_of section left none some = elim none [
@@ -381,12 +392,13 @@ made_for IsSo given wanted airs there input same here made comes =
     (subst (λ (it : List Wanted). ComesTo (for_tapes it) input (known_of_each airs)) (sym same)
     (subst (λ (it : List Air). ComesTo (for_tapes wanted) input (known_of_each it)) (sym here) comes)))
 
-pub fault_for : (given wanted : List Wanted) (octets left : List ℕ) (front : Front) (input : List ℕ)
+-- the same of a fault
+pub fault_for : (given wanted : List Wanted) (octets left : List ℕ) (front : Frontier) (input : List ℕ)
     (fault : AirFault) → given ≡ wanted → octets ≡ left →
-    ((it : List ℕ) → AreLeft given it front octets → HasFault given it fault) → AreLeft wanted input front left →
-    HasFault wanted input fault
+    ((it : List ℕ) → AreLeft given it front octets → IsLastingFault given it fault) → AreLeft wanted input front left →
+    IsLastingFault wanted input fault
 fault_for given wanted octets left front input fault same here has are =
-    subst (λ (it : List Wanted). HasFault it input fault) same
+    subst (λ (it : List Wanted). IsLastingFault it input fault) same
     (has input
     (subst (λ (it : List Wanted). AreLeft it input front octets) (sym same)
     (subst (λ it. AreLeft wanted input front it) (sym here) are)))
@@ -399,6 +411,7 @@ opens_back input here after opens = elim opens [
   | inr blocks ↦ ([], sym blocks.rest_is)
 ]
 
+-- so those octets are its last ones
 pub after_begin : (input : List ℕ) (here : Section) (after : List ℕ) → Opens input here after →
     (length after ≤ length input) × (drop (length input - length after) input ≡ after)
 after_begin input here after opens =

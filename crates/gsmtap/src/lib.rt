@@ -12,7 +12,7 @@ pub mod capture;
 pub mod carried;
 pub mod fault;
 pub mod file;
-mod front;
+mod frontier;
 pub mod heard;
 mod laws;
 mod options;

@@ -10,7 +10,7 @@ ghost use Rattle.gsmtap.specs.TapeSteps.{IsFoundKind, IsPacketKind, after_found,
 ghost use Rattle.gsmtap.specs.declared.track.Air.{Air};
 
 use crate::fault::{AirFault, AirFaultKind};
-use crate::front::Front;
+use crate::frontier::Frontier;
 use crate::pieces::{Captured, Found};
 use crate::tape::{Wanted, air_for, fault_at, opened, take_packet, tape_of};
 use crate::track::Air;
@@ -95,7 +95,7 @@ pub(crate) fn read_file(
         Ok(opened) => opened,
         Err(kind) => return Err(fault_at(0, kind)),
     };
-    let mut front = Front {
+    let mut front = Frontier {
         reader,
         airs: airs_for(alloc, wanted)?,
         packets: 0,

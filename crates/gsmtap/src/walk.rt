@@ -3,13 +3,13 @@
 ghost use Rattle.std.specs.Prelude.{◌≡◌, ◌≤◌, ◌++◌, ℕ, List, [], false, drop, length, IfErr, IfOk, MatchBool, OnOk};
 ghost use Rattle.gsmtap.specs.File.{is_pcapng};
 ghost use Rattle.gsmtap.specs.TapesOfCapture.{AreTapesOfCapture, IsTapesFault};
-ghost use Rattle.gsmtap.specs.Walk.{HasFault, HasNoBegin, IsWalkOf, OfSome};
+ghost use Rattle.gsmtap.specs.Walk.{IsLastingFault, HasNoBegin, IsWalkOf, OfSome};
 ghost use Rattle.gsmtap.specs.WalkSteps.{IsToOpen, IsToTake};
 ghost use Rattle.gsmtap.specs.declared.tape.Wanted.{Wanted};
 
 use crate::fault::{AirFault, AirFaultKind};
 use crate::file::is_pcapng;
-use crate::front::Front;
+use crate::frontier::Frontier;
 use crate::pieces::Reader;
 use crate::tape::{FILE_HEADER, Wanted, fault_at, opened};
 use crate::tapes::{TapesFault, airs_for, made};
@@ -17,7 +17,7 @@ use std::alloc::{AllocError, Global};
 
 /// How far a walk has come.
 #[derive(Clone, Copy, Debug, PartialEq, Eq)]
-pub enum Stage {
+pub enum WalkStage {
     /// Too few octets came to say what the file is.
     Begin,
     /// All whole pieces were taken of what came.
@@ -32,8 +32,8 @@ pub enum Stage {
 pub struct Walk {
     alloc: Global,
     wanted: Vec<Wanted>,
-    stage: Stage,
-    front: Front,
+    stage: WalkStage,
+    front: Frontier,
     left: Vec<u8>,
 }
 
@@ -50,8 +50,8 @@ impl Walk {
         Ok(Walk {
             alloc,
             wanted,
-            stage: Stage::Begin,
-            front: Front {
+            stage: WalkStage::Begin,
+            front: Frontier {
                 reader: Reader::of_blocks(alloc),
                 airs,
                 packets: 0,
@@ -68,7 +68,7 @@ impl Walk {
             IsWalkOf wanted (input ++ octets.now) self.new }
     {
         if let Err(fault) = self.take(octets) {
-            self.stage = Stage::Fault(fault);
+            self.stage = WalkStage::Fault(fault);
             self.left = Vec::new(self.alloc);
         }
     }
@@ -80,18 +80,18 @@ impl Walk {
             IsWalkOf wanted (input ++ octets.now) self.new) }
         ensures wanted { self.new.wanted ≡ self.old.wanted }
         ensures fault { IfErr result (λ fault. (wanted : List Wanted) (input : List ℕ) →
-            IsWalkOf wanted input self.old → HasFault wanted (input ++ octets.now) fault) }
+            IsWalkOf wanted input self.old → IsLastingFault wanted (input ++ octets.now) fault) }
     {
         match self.stage {
-            Stage::Begin => {
+            WalkStage::Begin => {
                 self.left.extend_from_slice(octets)?;
                 self.open()
             }
-            Stage::Pieces => {
+            WalkStage::Pieces => {
                 self.left.extend_from_slice(octets)?;
                 self.take_pieces()
             }
-            Stage::Fault(_) => Ok(()),
+            WalkStage::Fault(_) => Ok(()),
         }
     }
 
@@ -102,7 +102,7 @@ impl Walk {
             IsWalkOf wanted input self.new) }
         ensures wanted { self.new.wanted ≡ self.old.wanted }
         ensures fault { IfErr result (λ fault. (wanted : List Wanted) (input : List ℕ) →
-            IsToOpen wanted input self.old → HasFault wanted input fault) }
+            IsToOpen wanted input self.old → IsLastingFault wanted input fault) }
     {
         if has_no_begin(&self.left) {
             return Ok(());
@@ -111,7 +111,7 @@ impl Walk {
             Ok((reader, after)) => (reader, after.len()),
             Err(kind) => return Err(fault_at(0, kind)),
         };
-        self.stage = Stage::Pieces;
+        self.stage = WalkStage::Pieces;
         self.front.reader = reader;
         let before = self.left.len() - after;
         drop_front(&mut self.left, before);
@@ -125,7 +125,7 @@ impl Walk {
             IsWalkOf wanted input self.new) }
         ensures wanted { self.new.wanted ≡ self.old.wanted }
         ensures fault { IfErr result (λ fault. (wanted : List Wanted) (input : List ℕ) →
-            IsToTake wanted input self.old → HasFault wanted input fault) }
+            IsToTake wanted input self.old → IsLastingFault wanted input fault) }
     {
         let taken = match self.front.take_pieces(&self.wanted, &self.left) {
             Ok(taken) => taken,
@@ -148,15 +148,15 @@ impl Walk {
             IsWalkOf wanted input self → IsTapesFault wanted input fault) }
     {
         match self.stage {
-            Stage::Begin => Err(TapesFault::Air(fault_at(0, AirFaultKind::NoCapture))),
-            Stage::Pieces => {
+            WalkStage::Begin => Err(TapesFault::Air(fault_at(0, AirFaultKind::NoCapture))),
+            WalkStage::Pieces => {
                 if self.left.is_empty() {
                     made(self.alloc, &self.wanted, &self.front.airs)
                 } else {
                     Err(TapesFault::Air(fault_at(self.front.packets + 1, AirFaultKind::Short)))
                 }
             }
-            Stage::Fault(fault) => Err(TapesFault::Air(fault)),
+            WalkStage::Fault(fault) => Err(TapesFault::Air(fault)),
         }
     }
 }

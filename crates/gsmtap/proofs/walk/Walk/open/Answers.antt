@@ -4,7 +4,7 @@ use Rattle.gsmtap.specs.File.{is_pcapng}
 use Rattle.gsmtap.specs.PieceSteps.{section_of}
 use Rattle.gsmtap.specs.Taken.{Opens}
 use Rattle.gsmtap.specs.TapeSteps.{IsBeginFault}
-use Rattle.gsmtap.specs.Walk.{HasFault}
+use Rattle.gsmtap.specs.Walk.{IsLastingFault}
 use Rattle.gsmtap.specs.declared.fault.AirFault.{AirFault}
 use Rattle.gsmtap.proofs.Walks.{after_begin, begin_fault, to_take}
 use Rattle.gsmtap.proofs.walk.Walk.open.Goals as goal
@@ -15,7 +15,7 @@ returns-in-Err-clause-fault c wanted input is =
     subst (λ octets. IsBeginFault octets c.in-Err.kind) (c.deref-2.ensures.value ∙ is.unopened.left_are)
     c.in-Err.ensures in
     let enough : is_pcapng c.deref.result.now ≡ false → 24 ≤ length c.deref.result.now = search rules in
-    subst (λ (fault : AirFault). HasFault wanted input fault) (sym c.fault_at.ensures)
+    subst (λ (fault : AirFault). IsLastingFault wanted input fault) (sym c.fault_at.ensures)
     (begin_fault wanted input c.in-Err.kind begin
     (subst (λ octets. is_pcapng octets ≡ false → 24 ≤ length octets)
     (c.deref.ensures.value ∙ is.unopened.left_are) enough))

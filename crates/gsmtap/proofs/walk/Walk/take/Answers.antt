@@ -1,7 +1,7 @@
 use Rattle.std.proofs.Common.{◌++◌, ◌∙◌, length-append, arith, ap, subst, sym}
 use Rattle.std.proofs.lemmas.Result.{IfErr-weaker, on_ok_weaker}
 use Rattle.gsmtap.specs.Walk.{AreLeft, StandsAt}
-use Rattle.gsmtap.specs.declared.walk.Stage.{Stage}
+use Rattle.gsmtap.specs.declared.walk.WalkStage.{WalkStage}
 use Rattle.gsmtap.proofs.Walks.{at_begin, at_fault, at_pieces, fault_longer, left_longer}
 use Rattle.gsmtap.proofs.walk.Walk.take.Goals as goal
 
@@ -82,7 +82,7 @@ returns-in-Fault-clause-walked c wanted input is =
     record {
       wanted_are = is.wanted_are;
       stands =
-          subst (λ (it : Stage). StandsAt it wanted (input ++ c.args.octets.now) walk.front walk.left.items)
+          subst (λ (it : WalkStage). StandsAt it wanted (input ++ c.args.octets.now) walk.front walk.left.items)
           (sym c.in-Fault.is)
           (fault_longer wanted input _ c.args.octets.now (at_fault wanted input walk _ is c.in-Fault.is));
     }

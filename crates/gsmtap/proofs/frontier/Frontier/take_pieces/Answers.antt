@@ -1,10 +1,10 @@
 use Rattle.std.proofs.Common.{◌+◌, ◌∙◌, ◌++◌, arith, ap, subst, sym, append_assoc}
 use Rattle.gsmtap.specs.PieceSteps.{BeginsWithPiece, section_of}
-use Rattle.gsmtap.specs.Walk.{AreLeft, HasFault}
+use Rattle.gsmtap.specs.Walk.{AreLeft, IsLastingFault}
 use Rattle.gsmtap.specs.declared.fault.AirFault.{AirFault}
 use Rattle.gsmtap.proofs.PacketSteps.{count_few}
 use Rattle.gsmtap.proofs.Walks.{back_of, few_left, many_left, near_left, one_left, wrong_begin, wrong_left}
-use Rattle.gsmtap.proofs.front.Front.take_pieces.Goals as goal
+use Rattle.gsmtap.proofs.frontier.Frontier.take_pieces.Goals as goal
 
 pub overflow_add-next : goal.overflow_add-next
 overflow_add-next c =
@@ -23,7 +23,7 @@ returns-in-Err c = record {
   taken = tt;
   whole = tt;
   fault = λ input are.
-      subst (λ (fault : AirFault). HasFault c.args.wanted.now input fault) (sym c.fault_at.ensures)
+      subst (λ (fault : AirFault). IsLastingFault c.args.wanted.now input fault) (sym c.fault_at.ensures)
       (wrong_begin c.args.wanted.now input c.pieces.self c.pieces.left.now c.in-Err.kind
       (c.pieces.invariant.taken input are) c.in-Err.ensures);
 }
@@ -53,8 +53,9 @@ pub returns-in-Err-take-clause-fault : goal.returns-in-Err-take-clause-fault
 returns-in-Err-take-clause-fault c input are =
     let begins : BeginsWithPiece (section_of c.pieces.self.reader) c.pieces.left.now c.in-Ok-Some.split.0.now
     c.in-Ok-Some.split.1.now = rw c.in-Ok-Some.field-0-is at c.in-Ok-Some.ensures in
-    subst (λ (fault : AirFault). HasFault c.args.wanted.now input fault) (sym c.fault_at-in-Err-take.ensures)
-    (wrong_left c.args.wanted.now input c.pieces.self c.pieces.left.now c.in-Ok-Some.split.0.now c.in-Ok-Some.split.1.now
+    subst (λ (fault : AirFault). IsLastingFault c.args.wanted.now input fault) (sym c.fault_at-in-Err-take.ensures)
+    (wrong_left c.args.wanted.now input c.pieces.self c.pieces.left.now c.in-Ok-Some.split.0.now
+        c.in-Ok-Some.split.1.now
     (section_of c.enter.new.self) c.in_ok-found.found c.in-Err-take.kind (c.pieces.invariant.taken input are)
     begins c.in_ok-found.ensures c.in-Err-take.ensures.fault c.in-Err-take.ensures.kinds)
 

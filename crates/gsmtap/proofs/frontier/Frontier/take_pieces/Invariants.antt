@@ -1,6 +1,6 @@
 use Rattle.std.proofs.Common.{◌≡◌, ◌++◌, ℕ, List, length}
 use Rattle.gsmtap.specs.Walk.{AreLeft}
-use Rattle.gsmtap.proofs.front.Front.take_pieces.Given as goal
+use Rattle.gsmtap.proofs.frontier.Frontier.take_pieces.Given as goal
 
 abbrev pub invariant-pieces : goal.invariant-pieces
 invariant-pieces l = record {

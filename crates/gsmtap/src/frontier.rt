@@ -2,7 +2,7 @@
 
 ghost use Rattle.std.specs.Prelude.{◌≡◌, ◌<◌, ◌≤◌, ℕ, List, drop, length, IfErr, IfOk};
 ghost use Rattle.gsmtap.specs.PieceSteps.{section_of};
-ghost use Rattle.gsmtap.specs.Walk.{AreLeft, HasFault, HaveNoPiece};
+ghost use Rattle.gsmtap.specs.Walk.{AreLeft, IsLastingFault, HaveNoPiece};
 ghost use Rattle.gsmtap.specs.WalkSteps.{AreLeftOfSome};
 
 use crate::fault::AirFault;
@@ -13,7 +13,7 @@ use crate::track::Air;
 
 /// What is known of a capture file, and of the tapes that are wanted of it, where one of the file's pieces begins.
 #[derive(Drop)]
-pub struct Front {
+pub struct Frontier {
     /// What is known of the file.
     pub reader: Reader,
     /// What is known of each tape.
@@ -22,7 +22,7 @@ pub struct Front {
     pub packets: u64,
 }
 
-impl Front {
+impl Frontier {
     /// Takes the whole pieces that octets begin with, and returns how many octets these have.
     ///
     /// # Errors
@@ -35,7 +35,7 @@ impl Front {
             AreLeft wanted.now input self.new (drop taken octets.now)) }
         ensures whole { IfOk result (λ taken. HaveNoPiece (section_of self.new.reader) (drop taken octets.now)) }
         ensures fault { IfErr result (λ fault. (input : List ℕ) → AreLeft wanted.now input self.old octets.now →
-            HasFault wanted.now input fault) }
+            IsLastingFault wanted.now input fault) }
     {
         let mut left = octets;
         'pieces: while !left.is_empty() {
