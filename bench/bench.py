@@ -5,6 +5,7 @@ that of Python, some 17 MB, can't be told.
 Usage: bench.py NAME [PROGRAM [OTHER]]      NAME is one of those below; PROGRAM is a built `warnc`, by default the one
                                             that ./warnc runs
        bench.py live [PROGRAM] [RUNS]       200 runs if no number is given
+       bench.py tape [PROGRAM] [MIB]        a capture of at most 1,024 MiB if no number is given
 
 """
 import csv
@@ -235,8 +236,31 @@ def cap(bench):
         print(f"{slots:>5} slots: status {status}, {time.perf_counter() - begun:.1f} s")
 
 
+def tape(bench, mebibytes="1024"):
+    """`tape` of a capture of as good as 1 GiB, the most that it reads, which another process writes into a pipe as it
+    makes it: seconds, beside those that `wc -c` takes for it, and its peak memory beside the size of the tape. Half a
+    minute."""
+    took = {}
+    for name, command in (("wc", ["wc", "-c"]), ("tape", [bench.program, "tape", "--cell", "1-1"])):
+        with open(bench.path(name), "wb") as output:
+            begun = time.perf_counter()
+            made = subprocess.Popen([sys.executable, "-B", INPUTS, f"capture-{mebibytes}"], stdout=subprocess.PIPE)
+            process = subprocess.Popen(command, stdin=made.stdout, stdout=output)
+            made.stdout.close()
+            _, ended, used = os.wait4(process.pid, 0)
+            took[name] = time.perf_counter() - begun
+        process.returncode = os.waitstatus_to_exitcode(ended)
+        if made.wait() or process.returncode:
+            sys.exit(f"bench.py: {' '.join(command)}: status {process.returncode}")
+    with open(bench.path("wc"), encoding="ascii") as it:
+        octets = int(it.read())
+    made, peak = os.path.getsize(bench.path("tape")), used.ru_maxrss << 10
+    print(f"{octets / 1e6:.1f} MB  wc -c {took['wc']:.1f} s  warnc tape {took['tape']:.1f} s, "
+          f"{octets / took['tape'] / 1e6:.0f} MB/s, peak {peak / 1e6:.1f} MB; the tape has {made / 1e6:.1f} MB")
+
+
 MEASURES = {"cap": cap, "cell": cell, "compile": compile_books, "library": library, "live": live, "network": network,
-            "pack": pack, "read": read, "verify": verify}
+            "pack": pack, "read": read, "tape": tape, "verify": verify}
 
 
 def document():
@@ -254,7 +278,7 @@ def program_here():
 def main(words):
     programs = [os.path.abspath(it) for it in words[1:] if os.access(it, os.X_OK)]
     numbers = [it for it in words[1:] if it.isdigit()]
-    most = {"pack": (2, 0), "live": (1, 1)}.get(words[0] if words else None, (1, 0))
+    most = {"pack": (2, 0), "live": (1, 1), "tape": (1, 1)}.get(words[0] if words else None, (1, 0))
     is_right = words and words[0] in MEASURES and len(programs) + len(numbers) == len(words) - 1
     if not is_right or len(programs) > most[0] or len(numbers) > most[1]:
         print(document())

@@ -1,5 +1,5 @@
 #!/usr/bin/env python3
-"""Makes the books and tapes that bench.py runs the program on. They use nothing of warnc.
+"""Makes the books, tapes and captures that bench.py runs the program on. They use nothing of warnc.
 
 Usage: inputs.py KIND [SEED]      writes one to standard output; KIND is one of
 
@@ -16,9 +16,12 @@ large       a network book of 65,536 cells and 4,096 orders, each for 200 cells
 mixed       64 tapes of 4,096 slots: in each cell 8 messages of 1 to 7 pages, both alphabets, repeats and idle slots
 long        the same with 108 messages of 15 pages, one after another, again and again
 short       the same with 2,100 messages of one page
+capture-N   a capture of N MiB at most, and 22 at least: GSMTAP packets with a page in each of 65,535 slots, and packets
+            to other ports between them; it is written as it is made
 """
 import os
 import random
+import struct
 import sys
 
 sys.path.append(os.path.join(os.path.dirname(os.path.dirname(os.path.realpath(__file__))), "tools"))
@@ -202,6 +205,46 @@ def tapes_of(chance, slots):
     return b"".join(gsm.tape_of(*cell, slots(chance, at)[:SLOTS]) for at, cell in enumerate(CELLS))
 
 
+# --- Captures ---
+
+# the four blocks of a page, and the slots of the longest tape
+PAGE = [bytes.fromhex(it) for it in ("200010111201118046a3d168341a8d46a3d168341a8d46",
+                                     "21a3d168341a8d46a3d168341a8d46a3d168341a8d46a3",
+                                     "22d168341a8d46a3d168341a8d46a3d168341a8d46a3d1",
+                                     "3368341a8d46a3d168341a8d46a3d168341a8d46a3d100")]
+MOST_SLOTS = 65535
+# the frames after which their numbers begin anew, and a file's header: IPv4 packets, times in microseconds
+FRAMES = 2048 * 26 * 51
+FILE_HEADER = struct.pack("<IHHIIII", 0xA1B2C3D4, 2, 4, 0, 0, 65535, 228)
+
+
+def packet(port, payload):
+    """Returns a packet of UDP from 127.0.0.1 to this port of it, in the classic format."""
+    length = 28 + len(payload)
+    words = [0x4500, length, 7, 0, 0x4011, 0, 0x7F00, 1, 0x7F00, 1]
+    total = sum(words)
+    words[5] = 0xFFFF - (total + (total >> 16)) % 0x10000
+    return struct.pack("<IIII10H4H", 5, 6, length, length, *map(swapped, words),
+                       *map(swapped, (port, port, length - 20, 0))) + payload
+
+
+def swapped(number):
+    return number >> 8 | (number & 0xFF) << 8
+
+
+def capture(octets):
+    """Yields the parts of a capture of at most so many octets, 22 million at least: in each slot the page, and as many
+    other packets as there is room for."""
+    yield FILE_HEADER
+    other = packet(53, bytes(1400))
+    between = other * (((octets - len(FILE_HEADER)) // MOST_SLOTS - 4 * 83) // len(other))
+    for number in range(MOST_SLOTS):
+        for block, octets_of_block in enumerate(PAGE):
+            frame = (51 * (8 * number + block) + 32) % FRAMES
+            yield packet(4729, struct.pack(">8sI4s", b"\2\4\1\0\0\0\0\0", frame, b"\x0F\0\2\0") + octets_of_block)
+        yield between
+
+
 MADE = {
     "typical": lambda chance: mixed_book(chance, 200, (30, 60, 120, 240)),
     "full": lambda chance: mixed_book(chance, 4096, (4, 8, 30, 120, 1024)),
@@ -230,6 +273,11 @@ def made(kind, seed=1):
 
 
 def main(words):
+    kind, _, number = words[0].partition("-") if words else ("", "", "")
+    if kind == "capture" and number.isdigit() and len(words) < 3:
+        for part in capture(int(number) << 20):
+            sys.stdout.buffer.write(part)
+        return 0
     octets = made(words[0], *map(int, words[1:])) if words and all(it.isdigit() for it in words[1:2]) else None
     if octets is None or len(words) > 2:
         print(__doc__, end="")
