@@ -4,3 +4,4 @@ pub mod TableLaws
 pub mod TooLong
 pub mod WholeInput
 pub mod Rows
+pub mod Parts

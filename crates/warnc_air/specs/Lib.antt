@@ -5,3 +5,4 @@ pub mod CellTable
 pub mod CellTableSteps
 pub mod AllTapes
 pub mod AllTapesSteps
+pub mod WalkSteps

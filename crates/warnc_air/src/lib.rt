@@ -1,5 +1,5 @@
 //! The engines of `warnc`'s commands about captures, from a reader to a writer: each reads all of its input, and writes
-//! nothing before all of its output is made.
+//! nothing before all of its output is made. [`tape`] and [`all`] don't keep the capture that they read.
 //!
 //! [`pcap::pcap_stream`] makes the capture of tapes, [`tape::tape_stream`] the tape of a capture,
 //! [`all::all_tapes_stream`] the tapes of all cells of a table, and [`cells::cells_stream`] a table of who sends in a
@@ -10,4 +10,5 @@ pub mod all;
 pub mod cell_table;
 pub mod cells;
 pub mod pcap;
+mod reading;
 pub mod tape;

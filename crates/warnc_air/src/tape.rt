@@ -1,16 +1,19 @@
 //! The command `tape`: a capture file to a tape.
 
-ghost use Rattle.std.specs.Prelude.{◌≡◌, ◌+◌, IfErr, OnOk};
+ghost use Rattle.std.specs.Prelude.{◌≡◌, ◌+◌, ◌∷◌, [], IfErr, IfOk, OnOk};
 ghost use Rattle.device_ends.specs.Moves.{ConsumesSome};
 ghost use Rattle.device_ends.specs.Source.{reader_of};
 ghost use Rattle.device_ends.specs.Stream.{FaultOfInput, IsStreamBetween, OutputOfInput};
 ghost use Rattle.gsmtap.specs.TapeOfCapture.{IsTapeOfCapture};
+ghost use Rattle.gsmtap.specs.Walk.{IsWalkOf};
 ghost use Rattle.warnc_air.specs.TapeOutput.{IsTapeCommandFault, IsTapeWriteFault, fault_of_air};
 
-use device_ends::{Failed, ReadFault, Sink, Source, read_up_to, write_all};
-use gsmtap::{AirFault, AirFaultKind, Wanted, tape_of_capture};
-use std::alloc::Global;
+use crate::reading::walk_over;
+use device_ends::{Failed, ReadFault, Sink, Source, write_all};
+use gsmtap::{AirFault, AirFaultKind, Walk, Wanted};
+use std::alloc::{AllocError, Global};
 use std::io::{Read, Write};
+use std::slice;
 use thiserror::Error;
 
 /// The most octets that are read: 1 GiB.
@@ -36,7 +39,8 @@ pub enum TapeCommandFault {
     WriteFailed,
 }
 
-/// Reads a capture file, and writes the tape that it is. Nothing is written before all of the tape is made.
+/// Reads a capture file, and writes the tape that it is. Nothing is written before all of the tape is made. The file
+/// isn't kept: what was read is dropped once its packets are taken, and after a fault at once.
 pub fn tape_stream<R: Read, W: Write>(
     alloc: Global,
     source: &mut Source<R>,
@@ -57,22 +61,35 @@ pub fn tape_stream<R: Read, W: Write>(
     ensures any_ends { IsStreamBetween TapeCommandFault.ReadFailed IsTapeWriteFault result W.contents source.old
         source.new sink.old sink.new }
 {
-    let input = match read_up_to(source, alloc, MAX_INPUT) {
-        Ok(input) => input,
+    if source.failed() {
+        return Err(TapeCommandFault::ReadFailed);
+    }
+    let Ok(mut walk) = walk_for(alloc, wanted) else {
+        return Err(TapeCommandFault::Refused);
+    };
+    let count = match walk_over(alloc, source, &mut walk) {
+        Ok(count) => count,
         Err(ReadFault::Device) => return Err(TapeCommandFault::ReadFailed),
         Err(ReadFault::Refused) => return Err(TapeCommandFault::Refused),
     };
-    if input.len() > MAX_INPUT {
+    if count > MAX_INPUT {
         return Err(TapeCommandFault::TooLong);
     }
-    let output = match tape_of_capture(alloc, &input, wanted) {
+    let output = match walk.end() {
         Ok(output) => output,
-        Err(fault) => return Err(fault_of_air(fault)),
+        Err(fault) => return Err(fault_of_air(fault.alone())),
     };
     match write_all(sink, &output) {
         Ok(()) => Ok(()),
         Err(Failed) => Err(TapeCommandFault::WriteFailed),
     }
+}
+
+/// A walk over a capture file for one tape.
+fn walk_for(alloc: Global, wanted: &Wanted) -> Result<Walk, AllocError>
+    ensures { IfOk result (IsWalkOf (wanted.now ∷ []) []) }
+{
+    Walk::new(alloc, Vec::from_slice(alloc, slice::from_ref(wanted))?)
 }
 
 /// The fault that a fault of a file is.

@@ -1,39 +1,58 @@
-use Rattle.std.proofs.Common.{List, ℕ, arith, rules, subst, sym}
+use Rattle.std.proofs.Common.{◌≡◌, ◌≤◌, ◌∷◌, [], IfSome, List, ℕ, arith, rules, subst, sym, take, ◌+◌, length}
+use Rattle.device_ends.proofs.EndLaws.{ReadsUpTo-take}
 use Rattle.gsmtap.specs.TapeOfCapture.{IsAirFault, IsTapeOfCapture}
+use Rattle.gsmtap.specs.Walk.{IsWalkOf}
+use Rattle.gsmtap.specs.declared.fault.AirFault.{AirFault}
+use Rattle.gsmtap.proofs.TapesFaults.{alone_fault, alone_tape}
+use Rattle.warnc_air.specs.TapeOutput.{max_capture}
 use Rattle.warnc_air.proofs.WholeInput.{fault_of_read, front_out, output_out, too_long}
 use Rattle.warnc_air.proofs.tape.tape_stream.Goals as goal
 
-pub returns-then-len-gt-MAX_INPUT-clause-err : goal.returns-then-len-gt-MAX_INPUT-clause-err
-returns-then-len-gt-MAX_INPUT-clause-err g c =
-    too_long (IsAirFault c.args.wanted.now) (IsTapeOfCapture c.args.wanted.now) _ c.in-Ok.input.items _ _
-    c.in-Ok.ensures.value (omega arith) (search rules)
+pub returns-then-count-gt-MAX_INPUT-clause-err : goal.returns-then-count-gt-MAX_INPUT-clause-err
+returns-then-count-gt-MAX_INPUT-clause-err g c =
+    let walks = c.in-Ok-walk_over.ensures.walks in
+    too_long (IsAirFault c.args.wanted.now) (IsTapeOfCapture c.args.wanted.now) _ walks.octets _ _
+    (ReadsUpTo-take _ _ walks.octets max_capture walks.reads)
+    (omega (arith, walks.many, c.if-count-gt-MAX_INPUT.true)) (search rules)
 
 pub returns-in-Err-clause-err : goal.returns-in-Err-clause-err
 returns-in-Err-clause-err g c =
-    let told : IsAirFault c.args.wanted.now c.in-Ok.input.items c.in-Err.fault =
-    subst (λ (octets : List ℕ). IsAirFault c.args.wanted.now octets c.in-Err.fault) c.deref.ensures.value
-    c.in-Err.ensures.fault in
+    let walks = c.in-Ok-walk_over.ensures.walks in
+    let wanted = c.args.wanted.now in
+    let is : IsWalkOf (wanted ∷ []) walks.octets c.walk_over.new.walk =
+    walks.taken (wanted ∷ []) [] c.in-Ok.ensures in
+    let told : IsAirFault wanted walks.octets c.alone.result =
+    subst (λ (fault : AirFault). IsAirFault wanted walks.octets fault) (sym c.alone.ensures)
+    (alone_fault wanted walks.octets c.in-Err.fault (c.in-Err.ensures.fault (wanted ∷ []) walks.octets is)) in
     rw c.fault_of_air.ensures
-    (fault_of_read (IsAirFault c.args.wanted.now) (IsTapeOfCapture c.args.wanted.now) _ c.in-Ok.input.items _ _
-    c.in-Err.fault c.in-Ok.ensures.value (omega arith) told
-    (search rules))
+    (fault_of_read (IsAirFault wanted) (IsTapeOfCapture wanted) _ walks.octets _ _ c.alone.result
+    (ReadsUpTo-take _ _ walks.octets max_capture walks.reads)
+    (omega (arith, walks.many, c.if-count-gt-MAX_INPUT.false)) told (search rules))
 
 pub returns-in-Ok-write_all-clause-ok : goal.returns-in-Ok-write_all-clause-ok
 returns-in-Ok-write_all-clause-ok g c =
-    let made : IsTapeOfCapture c.args.wanted.now c.in-Ok.input.items c.deref-2.result.now =
-    subst (λ (octets : List ℕ). IsTapeOfCapture c.args.wanted.now octets c.deref-2.result.now) c.deref.ensures.value
-    (subst (λ (octets : List ℕ). IsTapeOfCapture c.args.wanted.now c.deref.result.now octets)
-    (sym c.deref-2.ensures.value) c.in-Ok-tape_of_capture.ensures.tape) in
-    output_out (IsTapeOfCapture c.args.wanted.now) _ c.in-Ok.input.items c.deref-2.result.now _ _ c.in-Ok.ensures.value
-    (omega arith)
-    made c.in-Ok-write_all.ensures.ok
+    let walks = c.in-Ok-walk_over.ensures.walks in
+    let wanted = c.args.wanted.now in
+    let is : IsWalkOf (wanted ∷ []) walks.octets c.walk_over.new.walk =
+    walks.taken (wanted ∷ []) [] c.in-Ok.ensures in
+    let made : IsTapeOfCapture wanted walks.octets c.deref.result.now =
+    subst (λ (octets : List ℕ). IsTapeOfCapture wanted walks.octets octets) (sym c.deref.ensures.value)
+    (alone_tape wanted walks.octets c.in-Ok-end.output.items
+    (c.in-Ok-end.ensures.tapes (wanted ∷ []) walks.octets is)) in
+    output_out (IsTapeOfCapture wanted) _ walks.octets c.deref.result.now _ _
+    (ReadsUpTo-take _ _ walks.octets max_capture walks.reads)
+    (omega (arith, walks.many, c.if-count-gt-MAX_INPUT.false)) made c.in-Ok-write_all.ensures.ok
 
 pub returns-clause-err : goal.returns-clause-err
 returns-clause-err g c =
-    let made : IsTapeOfCapture c.args.wanted.now c.in-Ok.input.items c.deref-2.result.now =
-    subst (λ (octets : List ℕ). IsTapeOfCapture c.args.wanted.now octets c.deref-2.result.now) c.deref.ensures.value
-    (subst (λ (octets : List ℕ). IsTapeOfCapture c.args.wanted.now c.deref.result.now octets)
-    (sym c.deref-2.ensures.value) c.in-Ok-tape_of_capture.ensures.tape) in
-    front_out (IsAirFault c.args.wanted.now) (IsTapeOfCapture c.args.wanted.now) _ c.in-Ok.input.items
-    c.deref-2.result.now _ _ c.in-Ok.ensures.value (omega arith)
-    made c.in-Err-write_all.ensures.err
+    let walks = c.in-Ok-walk_over.ensures.walks in
+    let wanted = c.args.wanted.now in
+    let is : IsWalkOf (wanted ∷ []) walks.octets c.walk_over.new.walk =
+    walks.taken (wanted ∷ []) [] c.in-Ok.ensures in
+    let made : IsTapeOfCapture wanted walks.octets c.deref.result.now =
+    subst (λ (octets : List ℕ). IsTapeOfCapture wanted walks.octets octets) (sym c.deref.ensures.value)
+    (alone_tape wanted walks.octets c.in-Ok-end.output.items
+    (c.in-Ok-end.ensures.tapes (wanted ∷ []) walks.octets is)) in
+    front_out (IsAirFault wanted) (IsTapeOfCapture wanted) _ walks.octets c.deref.result.now _ _
+    (ReadsUpTo-take _ _ walks.octets max_capture walks.reads)
+    (omega (arith, walks.many, c.if-count-gt-MAX_INPUT.false)) made c.in-Err-write_all.ensures.err
