@@ -31,6 +31,7 @@ count_few (found.Packet packet) = omega arith
 count_few found.Nothing = omega arith
 count_few found.Wrong = omega arith
 
+-- the least piece has twelve octets
 pub least_is : (format : Format) → 12 ≤ least format
 least_is (Classic link unit) = omega arith
 least_is Pcapng = omega arith

@@ -327,12 +327,14 @@ pub record IsKnownAlone (one : Wanted) (input : List ℕ) (air : Air) : Type 0 w
   pub file : ComesTo (for_tape one) input (known_of air)
   pub long : length air.blocks.items ≡ 4 * slots_taken one
 
+-- of one tape something is known
 pub alone_many : (one : Wanted) (input : List ℕ) (airs : List Air) →
     ComesTo (for_tapes (one ∷ [])) input (known_of_each airs) → length airs ≡ 1
 alone_many one input airs file =
     sym (length-map airs known_of)
     ∙ long_many (one ∷ []) (known_of_each airs) (long_file (one ∷ []) input (known_of_each airs) file)
 
+-- and that is what is known of it alone
 pub alone_known : (one : Wanted) (input : List ℕ) (airs : List Air) (d : Air) →
     ComesTo (for_tapes (one ∷ [])) input (known_of_each airs) → IsKnownAlone one input (get_or airs 0 d)
 alone_known one input [] d file = absurd (omega (arith, alone_many one input [] file))

@@ -40,6 +40,7 @@ longer : (front rest more octets : List ℕ) → octets ≡ front ++ rest →
     octets ++ more ≡ front ++ (rest ++ more)
 longer front rest more octets split = ap (λ it. it ++ more) split ∙ append_assoc front rest more
 
+-- a piece at their front stays there
 pub begins_longer : (section : Section) (octets piece rest more : List ℕ) →
     BeginsWithPiece section octets piece rest → BeginsWithPiece section (octets ++ more) piece (rest ++ more)
 begins_longer section octets piece rest more begins = record {
@@ -47,6 +48,7 @@ begins_longer section octets piece rest more begins = record {
   split = longer piece rest more octets begins.split;
 }
 
+-- and what was taken of them stays taken
 pub taken_longer : {S : Type 0} (by : Taking S) (here : Section) (octets : List ℕ) (there : Section)
     (left : List ℕ) (number : ℕ) (known : S) (more : List ℕ) → AreTaken by here octets there left number known →
     AreTaken by here (octets ++ more) there (left ++ more) number known
@@ -76,6 +78,7 @@ pcapng_long : (octets : List ℕ) → is_pcapng octets ≡ true → 4 ≤ length
 pcapng_long octets is =
     leb-true 4 (length octets) (enough_of (nat_le 4 (length octets)) (big_number 4 octets == 0x0A0D0D0A) is)
 
+-- so a file stays what it is
 pub opens_longer : (input : List ℕ) (here : Section) (after more : List ℕ) → Opens input here after →
     Opens (input ++ more) here (after ++ more)
 opens_longer input here after more opens = elim opens [

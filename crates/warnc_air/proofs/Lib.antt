@@ -5,3 +5,4 @@ pub mod TooLong
 pub mod WholeInput
 pub mod Rows
 pub mod Parts
+pub mod Made

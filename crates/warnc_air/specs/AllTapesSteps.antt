@@ -2,13 +2,12 @@
 use Rattle.std.specs.Prelude.{◌≡◌, ◌≢◌, ⊤, ℕ, ◌+◌, List, Option}
 use Rattle.gsmtap.specs.TapesOfCapture.{IsTapesFault}
 use Rattle.gsmtap.specs.declared.fault.AirFaultKind.TheVariants as kind
+use Rattle.gsmtap.specs.declared.tape.Wanted.{Wanted}
 use Rattle.gsmtap.specs.declared.tapes.TapesFault.TheVariants as tapes
-use Rattle.warnc_air.specs.AllTapes.{HadMore, ReadsWith, RefusesTable, all_wanted}
+use Rattle.warnc_air.specs.AllTapes.{HadMore, ReadsWith, RefusesTable}
 use Rattle.warnc_air.specs.CellTable.{max_table}
 use Rattle.warnc_air.specs.declared.all.AllTapesFault.{AllTapesFault}
 use Rattle.warnc_air.specs.declared.all.AllTapesFault.TheVariants as faults
-use Rattle.warnc_air.specs.declared.all.AllWanted.{AllWanted}
-use Rattle.warnc_air.specs.declared.cell_table.CellRow.{CellRow}
 
 -- a reader gave these octets, and no more
 abbrev pub ReadsOctets : (most : ℕ) (octets : List ℕ) → (old new : Option (List ℕ)) → Type 0
@@ -22,11 +21,11 @@ IsTableReadingFault old new (faults.Table why) = RefusesTable why old new
 IsTableReadingFault old new faults.Refused = ⊤
 IsTableReadingFault old new other = ⊥
 
--- why the octets of a capture haven't the tapes of these cells
-abbrev pub IsMakingFault : AllWanted → List CellRow → (capture : List ℕ) → AllTapesFault → Type 0
-IsMakingFault all rows capture (faults.Air why) =
-    IsTapesFault (all_wanted all rows) capture (tapes.Air why) × (why.kind ≢ kind.Refused)
-IsMakingFault all rows capture (faults.NoBlock row) =
-    (place : ℕ) × IsTapesFault (all_wanted all rows) capture (tapes.NoBlock place) × (row ≡ place + 2)
-IsMakingFault all rows capture faults.Refused = ⊤
-IsMakingFault all rows capture other = ⊥
+-- why the octets of a capture haven't these tapes
+abbrev pub IsMakingFault : List Wanted → (capture : List ℕ) → AllTapesFault → Type 0
+IsMakingFault wanted capture (faults.Air why) =
+    IsTapesFault wanted capture (tapes.Air why) × (why.kind ≢ kind.Refused)
+IsMakingFault wanted capture (faults.NoBlock row) =
+    (place : ℕ) × IsTapesFault wanted capture (tapes.NoBlock place) × (row ≡ place + 2)
+IsMakingFault wanted capture faults.Refused = ⊤
+IsMakingFault wanted capture other = ⊥

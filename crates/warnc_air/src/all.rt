@@ -1,6 +1,6 @@
 //! The command `tape --all`: a table of cells and a capture file to the tapes of the cells.
 
-ghost use Rattle.std.specs.Prelude.{◌≡◌, ◌≢◌, ◌↔◌, ◌+◌, ◌<◌, ◌≤◌, false, true, length, map, IfErr, IfOk, IsErrOf};
+ghost use Rattle.std.specs.Prelude.{◌≡◌, ◌≢◌, ◌↔◌, ◌+◌, ◌<◌, ℕ, List, false, true, map, IfErr, IfOk, IsErrOf};
 ghost use Rattle.std.specs.Prelude.{IsTrue, MatchOption, OnOk};
 ghost use Rattle.device_ends.specs.Moves.{ConsumesSome};
 ghost use Rattle.device_ends.specs.ReadFault.{reports_device};
@@ -8,17 +8,20 @@ ghost use Rattle.device_ends.specs.Sink.{sink_failed};
 ghost use Rattle.device_ends.specs.Source.{source_failed};
 ghost use Rattle.device_ends.specs.Stream.{Reads, Writes};
 ghost use Rattle.gsmtap.specs.TapesOfCapture.{AreTapesOfCapture};
+ghost use Rattle.gsmtap.specs.Walk.{IsWalkOf};
 ghost use Rattle.gsmtap.specs.declared.fault.AirFaultKind.TheVariants as kinds;
 ghost use Rattle.warnc_air.specs.AllTapes.{HadMore, IsAllTapesFault, IsCaptureFault, IsOfTable, IsUnwritten};
 ghost use Rattle.warnc_air.specs.AllTapes.{MakesTapes, ReadsTable, WritesTapes, all_wanted, readers_of, wanted_of};
 ghost use Rattle.warnc_air.specs.AllTapesSteps.{IsMakingFault, IsTableReadingFault, ReadsOctets};
-ghost use Rattle.warnc_air.specs.TapeOutput.{max_capture};
+ghost use Rattle.warnc_air.specs.WalkSteps.{IsWalkedOver};
+ghost use Rattle.gsmtap.specs.declared.tape.Wanted.{Wanted};
 ghost use Rattle.warnc_air.specs.declared.all.AllTapesFault.TheVariants as faults;
 
 use crate::cell_table::{CellRow, TableFault, cells_in};
+use crate::reading::walk_over;
 use crate::tape::MAX_INPUT;
 use device_ends::{Failed, ReadFault, Sink, Source, read_up_to, write_all};
-use gsmtap::{AirFault, AirFaultKind, ChannelType, Sender, TapesFault, Wanted, tapes_of_capture};
+use gsmtap::{AirFault, AirFaultKind, ChannelType, Sender, TapesFault, Walk, Wanted};
 use std::alloc::{AllocError, AllocFailed, Global};
 use std::io::{Read, Write};
 use thiserror::Error;
@@ -88,7 +91,7 @@ impl From<AllocError> for AllTapesFault {
 
 /// Reads a table of cells up to its end, and then a capture file, and writes the tape of each cell, in the order of
 /// the table's rows: the one that [`tape_stream`](crate::tape::tape_stream) writes of that cell and that sender. The
-/// capture is walked once, and nothing is written before all tapes are made.
+/// capture is walked once, and not kept; nothing is written before all tapes are made.
 ///
 /// The table is CSV. Its first row is `lac,ci,arfcn`, `lac,ci,source` or `lac,ci,source,arfcn`, and 1 to 64 rows
 /// follow: the numbers of a cell, the IPv4 address that packets come from, and the radio channel that they name. No two
@@ -176,12 +179,19 @@ fn make_tapes<R: Read>(
     ensures failed { IsErrOf result faults.ReadFailed ↔ IsTrue (source_failed source.new) }
     ensures stays { source_failed source.old ≡ true → source.new ≡ source.old }
 {
-    match read_within(alloc, source, MAX_INPUT) {
-        Ok(Some(octets)) => tapes_of(alloc, &octets, rows, wanted),
-        Ok(None) => Err(AllTapesFault::TooLong),
-        Err(ReadFault::Device) => Err(AllTapesFault::ReadFailed),
-        Err(ReadFault::Refused) => Err(AllTapesFault::Refused),
+    if source.failed() {
+        return Err(AllTapesFault::ReadFailed);
     }
+    let mut walk = Walk::new(alloc, all_wanted(alloc, wanted, rows)?)?;
+    let count = match walk_over(alloc, source, &mut walk) {
+        Ok(count) => count,
+        Err(ReadFault::Device) => return Err(AllTapesFault::ReadFailed),
+        Err(ReadFault::Refused) => return Err(AllTapesFault::Refused),
+    };
+    if count > MAX_INPUT {
+        return Err(AllTapesFault::TooLong);
+    }
+    tapes_of(walk)
 }
 
 /// All octets that a reader gives; none if they are more than these.
@@ -204,19 +214,15 @@ fn read_within<R: Read>(
     Ok(Some(octets))
 }
 
-/// The tapes of cells in the octets of a capture.
-fn tapes_of(
-    alloc: Global,
-    capture: &[u8],
-    rows: &[CellRow],
-    wanted: &AllWanted,
-) -> Result<Vec<u8>, AllTapesFault>
-    requires { length capture.now ≤ max_capture }
-    ensures ok { IfOk result (λ output. AreTapesOfCapture (all_wanted wanted.now rows.now) capture.now output.items) }
-    ensures err { IfErr result (IsMakingFault wanted.now rows.now capture.now) }
+/// The tapes of the capture that a walk was over.
+fn tapes_of(walk: Walk) -> Result<Vec<u8>, AllTapesFault>
+    requires { IsWalkedOver walk }
+    ensures ok { IfOk result (λ output. (wanted : List Wanted) (capture : List ℕ) → IsWalkOf wanted capture walk →
+        AreTapesOfCapture wanted capture output.items) }
+    ensures err { IfErr result (λ fault. (wanted : List Wanted) (capture : List ℕ) → IsWalkOf wanted capture walk →
+        IsMakingFault wanted capture fault) }
 {
-    let all = all_wanted(alloc, wanted, rows)?;
-    match tapes_of_capture(alloc, capture, &all) {
+    match walk.end() {
         Ok(output) => Ok(output),
         Err(TapesFault::NoBlock(place)) => Err(AllTapesFault::NoBlock(place + 2)),
         Err(TapesFault::Air(fault)) => Err(fault_of_air(fault)),

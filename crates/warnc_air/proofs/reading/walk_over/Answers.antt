@@ -1,4 +1,4 @@
-use Rattle.std.proofs.Common.{◌≡◌, ◌+◌, ◌-◌, ◌<◌, ◌≤◌, ◌++◌, length-append, arith, rules}
+use Rattle.std.proofs.Common.{◌+◌, ◌≤◌, ◌++◌, length-append, arith, rules}
 use Rattle.std.proofs.KnownBytes.{Consumes-trans}
 use Rattle.warnc_air.proofs.Parts.{failed_part, last_part, on_err, taken_more}
 use Rattle.warnc_air.proofs.reading.walk_over.Goals as goal

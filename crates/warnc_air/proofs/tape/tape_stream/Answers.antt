@@ -1,4 +1,4 @@
-use Rattle.std.proofs.Common.{◌≡◌, ◌≤◌, ◌∷◌, [], IfSome, List, ℕ, arith, rules, subst, sym, take, ◌+◌, length}
+use Rattle.std.proofs.Common.{◌∷◌, [], List, ℕ, arith, rules, subst, sym}
 use Rattle.device_ends.proofs.EndLaws.{ReadsUpTo-take}
 use Rattle.gsmtap.specs.TapeOfCapture.{IsAirFault, IsTapeOfCapture}
 use Rattle.gsmtap.specs.Walk.{IsWalkOf}
