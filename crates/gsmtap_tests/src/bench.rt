@@ -15,14 +15,22 @@
 //! the blocks of this sender carry, or of one of `cbch`. `times` says when each packet came, in nanoseconds, or `-`.
 //!
 //! `for LAC CI N ..`, with the words of `tape`, wants one tape more, until `new` or `none`; `tapes` makes all of them
-//! together, and answers as `tape` does.
+//! together, and answers as `tape` does. `parts N` makes them as `tapes` does, of octets that come in parts of N.
+//!
+//! What `tape`, `tapes` and `fronts` make, they make in parts of several sizes too, unless memory is scarce, and their
+//! answer says so if that comes to something else.
+
+ghost use Rattle.std.specs.Prelude.{◌<◌, ◌≤◌, [], length, IfSome};
+ghost use Rattle.gsmtap.specs.Walk.{IsWalkOf};
 
 use gsmtap::{
-    Channel, ChannelType, Heard, Sender, Settings, Slots, Start, Station, Wanted, capture_of,
-    carried_by, heard_in_capture, tape_of_capture, tapes_of_capture,
+    AirFault, AirFaultKind, Channel, ChannelType, Heard, Sender, Settings, Slots, Start, Station,
+    TapesFault, Walk, Wanted, capture_of, carried_by, heard_in_capture, tape_of_capture,
+    tapes_of_capture,
 };
 use std::alloc::Global;
 use std::process::Abort;
+use std::slice;
 use std::test::Fail;
 use test_support::{Drought, Row, Words, after_refusals, octets_of};
 
@@ -33,6 +41,7 @@ pub struct Bench {
     wanted: Vec<u8>,
     tapes: Vec<Wanted>,
     drought: Drought,
+    is_scarce: bool,
 }
 
 /// Adds the octets of words of hexadecimal digits, at most eight.
@@ -152,12 +161,67 @@ fn sender_in(words: &mut Words) -> Result<Sender, Fail> {
     })
 }
 
+/// In parts of how many octets a file comes, too.
+const PARTS: [usize; 5] = [1, 3, 7, 64, 1_000_000];
+
+/// The tapes of a file that comes in parts of so many octets, one after the other.
+fn walked(
+    alloc: Global,
+    octets: &[u8],
+    tapes: &[Wanted],
+    size: usize,
+) -> Result<Vec<u8>, TapesFault>
+    requires some { 0 < size }
+    requires few { length octets.now ≤ 1000000 }
+{
+    let Some(mut walk) = new_walk(alloc, tapes) else {
+        return Err(TapesFault::Air(AirFault {
+            packet: 0,
+            kind: AirFaultKind::Refused,
+        }));
+    };
+    let mut came = 0;
+    'parts: while came < octets.len() {
+        let end = octets.len().min(came.saturating_add(size));
+        walk.push(&octets[came..end]);
+        came = end;
+    }
+    walk.end()
+}
+
+/// A walk over a file for tapes, if there is memory.
+fn new_walk(alloc: Global, tapes: &[Wanted]) -> Option<Walk>
+    ensures { IfSome result (IsWalkOf tapes.now []) }
+{
+    let tapes = Vec::from_slice(alloc, tapes).ok()?;
+    Walk::new(alloc, tapes).ok()
+}
+
+/// Whether a file comes to the same tapes in parts as whole.
+fn is_same_in_parts(alloc: Global, octets: &[u8], tapes: &[Wanted]) -> bool
+    requires { length octets.now ≤ 1000000 }
+{
+    let whole = tapes_of_capture(alloc, octets, tapes);
+    for size in PARTS {
+        let is_same = match (&walked(alloc, octets, tapes, size), &whole) {
+            (Ok(found), Ok(output)) => found.as_slice() == output.as_slice(),
+            (Err(found), Err(fault)) => found == fault,
+            _ => false,
+        };
+        if !is_same {
+            return false;
+        }
+    }
+    true
+}
+
 /// The tape of octets, or the text of the fault.
 fn tape_in(
     alloc: Global,
     drought: &mut Drought,
     octets: &[u8],
     wanted: &Wanted,
+    is_scarce: bool,
 ) -> Result<Result<Vec<u8>, String>, Fail> {
     if octets.len() > 1_000_000 {
         return Err(Fail::new("too many octets for a test"));
@@ -165,6 +229,9 @@ fn tape_in(
     drought.begin(alloc);
     let outcome = tape_of_capture(alloc, octets, wanted);
     drought.end();
+    if !is_scarce && !is_same_in_parts(alloc, octets, slice::from_ref(wanted)) {
+        return Err(Fail::new("parts come to another tape"));
+    }
     match outcome {
         Ok(output) => Ok(Ok(output)),
         Err(fault) => Ok(Err(fault.to_string(alloc)?)),
@@ -174,7 +241,8 @@ fn tape_in(
 /// Makes the tape of the octets.
 fn tape(alloc: Global, bench: &mut Bench, words: &mut Words) -> Result<String, Fail> {
     let wanted = wanted_in(words)?;
-    match tape_in(alloc, &mut bench.drought, &bench.octets, &wanted)? {
+    let is_scarce = bench.is_scarce;
+    match tape_in(alloc, &mut bench.drought, &bench.octets, &wanted, is_scarce)? {
         Ok(output) => judged(alloc, bench, output),
         Err(text) => Ok(text),
     }
@@ -187,6 +255,24 @@ fn tapes(alloc: Global, bench: &mut Bench) -> Result<String, Fail> {
     }
     bench.drought.begin(alloc);
     let outcome = tapes_of_capture(alloc, &bench.octets, &bench.tapes);
+    bench.drought.end();
+    if !bench.is_scarce && !is_same_in_parts(alloc, &bench.octets, &bench.tapes) {
+        return Err(Fail::new("parts come to other tapes"));
+    }
+    match outcome {
+        Ok(output) => judged(alloc, bench, output),
+        Err(fault) => Ok(fault.to_string(alloc)?),
+    }
+}
+
+/// Makes the tapes of the octets that are wanted together, in parts of so many octets.
+fn parts(alloc: Global, bench: &mut Bench, words: &mut Words) -> Result<String, Fail> {
+    let size = usize::from(words.number16()?);
+    if bench.octets.len() > 1_000_000 || size == 0 {
+        return Err(Fail::new("too many octets for a test, or none in a part"));
+    }
+    bench.drought.begin(alloc);
+    let outcome = walked(alloc, &bench.octets, &bench.tapes, size);
     bench.drought.end();
     match outcome {
         Ok(output) => judged(alloc, bench, output),
@@ -287,7 +373,8 @@ fn fronts(alloc: Global, bench: &mut Bench, words: &mut Words) -> Result<String,
     for length in first..=last {
         let front = bench.octets.get(..usize::from(length));
         let front = front.unwrap_or(&bench.octets);
-        let text = match tape_in(alloc, &mut bench.drought, front, &wanted)? {
+        let is_scarce = bench.is_scarce;
+        let text = match tape_in(alloc, &mut bench.drought, front, &wanted, is_scarce)? {
             Ok(_) => String::from_str(alloc, "a tape")?,
             Err(text) => text,
         };
@@ -312,6 +399,7 @@ fn done(alloc: Global, bench: &mut Bench, verb: &str, words: &mut Words) -> Resu
         "capture" => return capture(alloc, bench, words),
         "tape" => return tape(alloc, bench, words),
         "tapes" => return tapes(alloc, bench),
+        "parts" => return parts(alloc, bench, words),
         "senders" => return senders(alloc, bench),
         "times" => return times(alloc, bench),
         "carried" => return carried(alloc, bench, words),
@@ -325,6 +413,7 @@ fn done(alloc: Global, bench: &mut Bench, verb: &str, words: &mut Words) -> Resu
 fn expect_row(alloc: Global, bench: &mut Bench, row: Row) -> Result<(), Fail> {
     for refused in 0..Drought::MOST {
         let mut words = Words::of(row.action);
+        bench.is_scarce = row.action.starts_with("scarce");
         let verb = bench.drought.verb(&mut words, refused);
         let found = done(alloc, bench, verb, &mut words)?;
         if !words.word().is_empty() {
@@ -348,6 +437,7 @@ pub fn expect_rows(rt: &impl Abort, alloc: Global, table: &str, count: u16) -> R
         wanted: Vec::new(alloc),
         tapes: Vec::new(alloc),
         drought: Drought::new(alloc)?,
+        is_scarce: false,
     };
     let mut rows = 0_u16;
     for line in table.split('\n') {

@@ -50,11 +50,26 @@ scarce senders -> refused; 7f000001 0 cbch 1 1-1;
 scarce times -> refused; -
 new
 
+# in parts, of which an octet that is none of a whole block is kept
+hex 0a0d0d0a1c000000 4d3c2b1a01000000ffffffffffffffff 1c000000
+hex 0100000014000000 6500000000000000 14000000
+hex 0300000054000000 43000000
+hex 450000430007000040117ca17f0000017f000001
+hex 12791279002f0000 0204010000000000000000200f000200 200010111201118046a3d168341a8d46a3d168341a8d46 00 54000000
+want 0001 0001 00000001
+want 200010111201118046a3d168341a8d46a3d168341a8d46
+want 2f2b2b2b2b2b2b2b2b2b2b2b2b2b2b2b2b2b2b2b2b2b2b
+want 2f2b2b2b2b2b2b2b2b2b2b2b2b2b2b2b2b2b2b2b2b2b2b
+want 2f2b2b2b2b2b2b2b2b2b2b2b2b2b2b2b2b2b2b2b2b2b2b
+for 1 1 1
+scarce parts 40 -> refused; as wanted
+new
+
 # what is no capture needs no memory to be told so
 scarce tape 1 1 1 -> not a capture file
 ";
 
 #[test]
 fn captures_and_tapes_are_refused_until_there_is_memory(rt: HostRuntime) -> Result<(), Fail> {
-    expect_rows(&rt, rt.alloc(), SCARCE, 43)
+    expect_rows(&rt, rt.alloc(), SCARCE, 56)
 }
