@@ -1,9 +1,7 @@
-use Rattle.std.proofs.Common.{◌≡◌, ℕ, ◌+◌, ◌-◌, ◌≤◌, ◌∙◌, List, drop, length, length-drop, take, ap, arith, refl, rules}
-use Rattle.std.proofs.Common.{sym}
+use Rattle.std.proofs.Common.{◌≡◌, ℕ, ◌+◌, ◌-◌, ◌≤◌, ◌∙◌, List, drop, length, length-drop, take, ap, arith}
 use Rattle.std.proofs.Math.Seq.{paste}
 use Rattle.std.proofs.lemmas.List.{take_all}
 use Rattle.std.proofs.lemmas.List.Edits.{take-paste}
-use Rattle.gsmtap.proofs.walk.drop_front.Goals as goal
 
 moved : (xs : List ℕ) (count : ℕ) → count ≤ length xs →
     take (length xs - count) (paste xs 0 (drop count xs) (length xs - count)) ≡ drop count xs

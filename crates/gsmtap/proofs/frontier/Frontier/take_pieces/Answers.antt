@@ -55,7 +55,7 @@ returns-in-Err-take-clause-fault c input are =
     c.in-Ok-Some.split.1.now = rw c.in-Ok-Some.field-0-is at c.in-Ok-Some.ensures in
     subst (λ (fault : AirFault). IsLastingFault c.args.wanted.now input fault) (sym c.fault_at-in-Err-take.ensures)
     (wrong_left c.args.wanted.now input c.pieces.self c.pieces.left.now c.in-Ok-Some.split.0.now
-        c.in-Ok-Some.split.1.now
+    c.in-Ok-Some.split.1.now
     (section_of c.enter.new.self) c.in_ok-found.found c.in-Err-take.kind (c.pieces.invariant.taken input are)
     begins c.in_ok-found.ensures c.in-Err-take.ensures.fault c.in-Err-take.ensures.kinds)
 
