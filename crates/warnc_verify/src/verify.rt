@@ -30,9 +30,9 @@ use warnc_run::{Workers, run_book};
 /// slots, as [`compile_stream`](warnc_run::compile_stream) does, reads tapes up to their end, and writes a row for each
 /// difference between what the cells were asked and what the tapes send, and for each cell without a tape and tape
 /// without a cell (`AreRows`). With [`Detail::Explained`] a row has what was expected and what came too, one row stands
-/// for all broadcasts of a message one after another of which nothing came, and a cell of which all pages are off by the
-/// same number of slots has one for that (`IsExplained`). Nothing is written before all is known. `workers` workers play
-/// the cells.
+/// for all broadcasts of a message one after another of which nothing came, and a cell of which all pages are off by
+/// the same number of slots has one for that (`IsExplained`). Nothing is written before all is known. `workers` workers
+/// play the cells.
 ///
 /// # Errors
 ///
