@@ -12,3 +12,4 @@ pub mod OptionWalk
 pub mod TapesLaws
 pub mod TapesFaults
 pub mod Walks
+pub mod TapesTaken

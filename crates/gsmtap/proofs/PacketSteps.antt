@@ -7,7 +7,8 @@ use Rattle.std.proofs.lemmas.List.{length-append, length-replicate, length_push}
 use Rattle.gsmtap.specs.File.{Packet}
 use Rattle.gsmtap.specs.HeardSteps.{IsHearingFault, for_counting, hearing_of}
 use Rattle.gsmtap.specs.PieceSteps.{BeginsWithPiece, IsFrontFault, meant, packet_of}
-use Rattle.gsmtap.specs.Pieces.{BringAll, Brings, IsCutPiece, IsWrongPiece, least, meaning, packets_in}
+use Rattle.gsmtap.specs.Pieces.{BeginWithPackets, BringAll, Brings, IsCutPiece, IsWrongPiece, least, meaning}
+use Rattle.gsmtap.specs.Pieces.{packets_in}
 use Rattle.gsmtap.specs.Section.{Meaning, Section}
 use Rattle.gsmtap.specs.Taken.{AreKnown, AreTaken, EndsWith, HasWrongPacket, IsFileFault, IsFileWith, Opens, Taking}
 use Rattle.gsmtap.specs.Taken.{after_packets, taken}
@@ -71,6 +72,11 @@ taken_more by packets packet known result is comes =
     ∙ ap (λ n. after_packets by.step n (by.step known packet) []) here
     ∙ ap (λ state. after_packets by.step (length packets + 1) state []) comes
 
+-- what is known after one that is no fault
+pub taken_next : {S : Type 0} (by : Taking S) (packets : List Packet) (packet : Packet) (known next : S) →
+    taken by packets ≡ Ok known → by.step known packet ≡ Ok next → taken by (packets ++ packet ∷ []) ≡ Ok next
+taken_next by packets packet known next is comes = taken_more by packets packet known (Ok next) is comes
+
 -- one piece more
 bring_more : (here : Section) (pieces : List (List ℕ)) (there : Section) (packets : List Packet) (piece : List ℕ)
     (next : Meaning) → BringAll here pieces there packets → Brings there piece next →
@@ -99,6 +105,32 @@ split_more octets left piece rest pieces split begins =
     ∙ sym (append_assoc (flat_map (λ it. it) pieces) piece rest)
     ∙ ap (λ back. (flat_map (λ it. it) pieces ++ back) ++ rest) (sym (append-nil piece))
     ∙ ap (λ front. front ++ rest) (sym (flat_map-append (λ it. it) pieces (piece ∷ [])))
+
+-- octets begin with one piece more
+pub brought_more : (here : Section) (octets : List ℕ) (there : Section) (left : List ℕ) (packets : List Packet)
+    (piece rest : List ℕ) (next : Meaning) → BeginWithPackets here octets there left packets →
+    BeginsWithPiece there left piece rest → meaning there piece ≡ Some next →
+    BeginWithPackets here octets next.section rest (packets ++ packets_in next.packet)
+brought_more here octets there left packets piece rest next begin begins brings = record {
+  pieces = begin.pieces ++ piece ∷ [];
+  split = split_more octets left piece rest begin.pieces begin.split begins.split;
+  bring =
+      bring_more here begin.pieces there packets piece next begin.bring
+      (record { is = begins.is; brings = brings });
+}
+
+-- what is known after the packets that octets begin with
+pub taken_of : {S : Type 0} (by : Taking S) (here : Section) (octets : List ℕ) (there : Section) (left : List ℕ)
+    (packets : List Packet) (number : ℕ) (known : S) → BeginWithPackets here octets there left packets →
+    length packets ≡ number → taken by packets ≡ Ok known → AreTaken by here octets there left number known
+taken_of by here octets there left packets number known begin many comes = record {
+  pieces = begin.pieces;
+  packets = packets;
+  split = begin.split;
+  bring = begin.bring;
+  many = many;
+  are_taken = comes;
+}
 
 -- a piece more that has no packet
 nothing_more : {S : Type 0} (by : Taking S) (here : Section) (octets : List ℕ) (there : Section) (left : List ℕ)

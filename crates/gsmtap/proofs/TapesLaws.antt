@@ -10,8 +10,7 @@ use Rattle.std.proofs.lemmas.Bool.{cases_Bool, ltb-false, ltb-true}
 use Rattle.std.proofs.lemmas.List.{drop_all, drop_more, drop-set-lt, length-map, length-replicate, length-set}
 use Rattle.std.proofs.lemmas.List.{take_all, take_more_set}
 use Rattle.gsmtap.specs.File.{Packet, link_numbered}
-use Rattle.gsmtap.specs.Section.{Section}
-use Rattle.gsmtap.specs.Taken.{AreTaken, ComesTo, after_packets, taken}
+use Rattle.gsmtap.specs.Taken.{ComesTo, after_packets, taken}
 use Rattle.gsmtap.specs.Tap.{sent_in}
 use Rattle.gsmtap.specs.TapeOfCapture.{after_linked, after_packet, after_sent, for_tape, nothing_known}
 use Rattle.gsmtap.specs.TapeOfCapture.{slots_taken, tape_of_known}
@@ -244,23 +243,21 @@ long_at_first : (wanted : List Wanted) → AreLong wanted (none_known wanted)
 long_at_first [] = tt
 long_at_first (one ∷ wanted) = (length-replicate (4 * slots_taken one) None, long_at_first wanted)
 
--- after so many packets no tape is far ahead, and each has its places
-pub near_taken : (wanted : List Wanted) (here : Section) (octets : List ℕ) (there : Section) (left : List ℕ)
-    (number : ℕ) (known : List Known) → AreTaken (for_tapes wanted) here octets there left number known →
-    AreNear (3328 * number) known
+-- after so many packets no tape is far ahead
+pub near_packets : (wanted : List Wanted) (packets : List Packet) (known : List Known) →
+    taken (for_tapes wanted) packets ≡ Ok known → AreNear (3328 * length packets) known
 unfolding taken
-near_taken wanted here octets there left number known are =
-    let far : 0 + 3328 * length are.packets ≡ 3328 * number = omega (arith, are.many) in
+near_packets wanted packets known comes =
+    let far : 0 + 3328 * length packets ≡ 3328 * length packets = omega arith in
     subst (λ n. AreNear n known) far
-    (near_after wanted 0 (none_known wanted) known are.packets 0 (near_at_first wanted) are.are_taken)
+    (near_after wanted 0 (none_known wanted) known packets 0 (near_at_first wanted) comes)
 
--- after packets as many tapes are known as are wanted
-pub long_taken : (wanted : List Wanted) (here : Section) (octets : List ℕ) (there : Section) (left : List ℕ)
-    (number : ℕ) (known : List Known) → AreTaken (for_tapes wanted) here octets there left number known →
-    AreLong wanted known
+-- after packets as many tapes are known as are wanted, and each has its places
+pub long_packets : (wanted : List Wanted) (packets : List Packet) (known : List Known) →
+    taken (for_tapes wanted) packets ≡ Ok known → AreLong wanted known
 unfolding taken
-long_taken wanted here octets there left number known are =
-    long_after wanted 0 (none_known wanted) known are.packets (long_at_first wanted) are.are_taken
+long_packets wanted packets known comes =
+    long_after wanted 0 (none_known wanted) known packets (long_at_first wanted) comes
 
 -- a lower bound of slots is within a higher one
 pub near_below : (known : List Known) (slot most : ℕ) → slot ≤ most → AreNear slot known → AreNear most known
@@ -271,7 +268,7 @@ near_below (one ∷ known) slot most below near = (omega (arith, near.0), near_b
 pub long_file : (wanted : List Wanted) (input : List ℕ) (known : List Known) →
     ComesTo (for_tapes wanted) input known → AreLong wanted known
 long_file wanted input known file =
-    long_taken wanted file.here file.after file.so.there [] file.so.number known file.so.are
+    long_packets wanted file.so.are.packets known file.so.are.are_taken
 
 -- there are as many tapes as are wanted
 pub long_many : (wanted : List Wanted) (known : List Known) → AreLong wanted known → length known ≡ length wanted

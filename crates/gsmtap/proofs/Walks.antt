@@ -1,23 +1,22 @@
 -- A walk over a capture file that comes in parts: what is known of octets stays so with more after them.
-use Rattle.std.proofs.Common.{◌≡◌, ℕ, ◌+◌, ◌-◌, ◌*◌, ◌<◌, ◌≤◌, ◌^◌, List, [], ◌∷◌, ◌++◌, length, take, drop, refl}
+use Rattle.std.proofs.Common.{◌≡◌, ℕ, ◌+◌, ◌-◌, ◌*◌, ◌<◌, ◌≤◌, List, [], ◌∷◌, ◌++◌, length, take, drop, refl}
 use Rattle.std.proofs.Common.{sym, ap, ◌∙◌, subst, inl, inr, arith, append_assoc, append-nil, Bool, false, true}
 use Rattle.std.proofs.Common.{Option, Some, None, Ok, Err}
 use Rattle.std.specs.Prelude.{◌==◌, ◌&&◌, nat_le}
 use Rattle.std.specs.List.{flat_map}
 use Rattle.std.proofs.Math.Seq.{drop-append_seam, take-append_seam}
 use Rattle.std.proofs.lemmas.Bool.{le-leb, leb-true}
-use Rattle.std.proofs.lemmas.List.{length-append, length-map, take-append-le}
+use Rattle.std.proofs.lemmas.List.{length-append, length_push, take-append-le}
 use Rattle.byteorder.specs.Endian.{big_number}
 use Rattle.byteorder.specs.Numbers.{big_from-take}
 use Rattle.gsmtap.specs.File.{Packet, is_pcapng, link_number, octet_order_of}
-use Rattle.gsmtap.specs.PieceSteps.{BeginsWithPiece, meant, section_of}
-use Rattle.gsmtap.specs.Pieces.{BringAll, HasWrongHead, IsCutPiece, IsWrongPiece, packets_in}
+use Rattle.gsmtap.specs.PieceSteps.{BeginsWithPiece, meant, packet_of, section_of}
+use Rattle.gsmtap.specs.Pieces.{BeginWithPackets, BringAll, HasWrongHead, IsCutPiece, IsWrongPiece, packets_in}
 use Rattle.gsmtap.specs.Pieces.{meaning, piece_length}
 use Rattle.gsmtap.specs.Section.{Section}
-use Rattle.gsmtap.specs.Taken.{AreTaken, ComesTo, IsFileFault, Opens, Taking}
-use Rattle.gsmtap.specs.TapeSteps.{IsBeginFault, IsFoundKind, after_found, count_of, known_of}
-use Rattle.gsmtap.specs.TapesOfCapture.{after_each, for_tapes, none_known}
-use Rattle.gsmtap.specs.TapesSteps.{AreLong, AreNear, known_of_each}
+use Rattle.gsmtap.specs.Taken.{AreTaken, ComesTo, IsFileFault, Opens, Taking, taken}
+use Rattle.gsmtap.specs.Taker.{HasTakenAll, IsAfter, IsTakingFault, TakesFound}
+use Rattle.gsmtap.specs.TapeSteps.{IsBeginFault, IsFoundKind, after_found, count_of}
 use Rattle.gsmtap.specs.Walk.{AreLeft, IsLastingFault, HasNoBegin, HaveNoPiece, IsUnopened, IsWalkOf, StandsAt}
 use Rattle.gsmtap.specs.WalkSteps.{IsToOpen, IsToTake}
 use Rattle.gsmtap.specs.declared.fault.AirFault.{AirFault}
@@ -25,15 +24,13 @@ use Rattle.gsmtap.specs.declared.fault.AirFaultKind.{AirFaultKind}
 use Rattle.gsmtap.specs.declared.fault.AirFaultKind.TheVariants as kind
 use Rattle.gsmtap.specs.declared.frontier.Frontier.{Frontier}
 use Rattle.gsmtap.specs.declared.pieces.Found.{Found}
-use Rattle.gsmtap.specs.declared.tape.Wanted.{Wanted}
-use Rattle.gsmtap.specs.declared.track.Air.{Air}
+use Rattle.gsmtap.specs.declared.pieces.Found.TheVariants as found
 use Rattle.gsmtap.specs.declared.walk.WalkStage.{WalkStage}
 use Rattle.gsmtap.specs.declared.walk.WalkStage.TheVariants as stage
 use Rattle.gsmtap.specs.declared.walk.Walk.{Walk}
-use Rattle.gsmtap.proofs.PacketSteps.{all_taken, fault_of_begin, fault_of_pieces, least_is, none_taken, one_more}
+use Rattle.gsmtap.proofs.PacketSteps.{brought_more, fault_of_begin, fault_of_pieces, least_is, taken_next, taken_of}
 use Rattle.gsmtap.proofs.PacketSteps.{wrong_found, wrong_front}
 use Rattle.gsmtap.proofs.PieceSteps.{length-front}
-use Rattle.gsmtap.proofs.TapesLaws.{long_many, long_taken, near_below, near_taken}
 
 -- octets that go on as they begin
 longer : (front rest more octets : List ℕ) → octets ≡ front ++ rest →
@@ -48,17 +45,14 @@ begins_longer section octets piece rest more begins = record {
   split = longer piece rest more octets begins.split;
 }
 
--- and what was taken of them stays taken
-pub taken_longer : {S : Type 0} (by : Taking S) (here : Section) (octets : List ℕ) (there : Section)
-    (left : List ℕ) (number : ℕ) (known : S) (more : List ℕ) → AreTaken by here octets there left number known →
-    AreTaken by here (octets ++ more) there (left ++ more) number known
-taken_longer by here octets there left number known more are = record {
-  pieces = are.pieces;
-  packets = are.packets;
-  split = longer (flat_map (λ piece. piece) are.pieces) left more octets are.split;
-  bring = are.bring;
-  many = are.many;
-  are_taken = are.are_taken;
+-- and what they bring they bring as well
+brought_longer : (here : Section) (octets : List ℕ) (there : Section) (left : List ℕ) (packets : List Packet)
+    (more : List ℕ) → BeginWithPackets here octets there left packets →
+    BeginWithPackets here (octets ++ more) there (left ++ more) packets
+brought_longer here octets there left packets more begin = record {
+  pieces = begin.pieces;
+  split = longer (flat_map (λ piece. piece) begin.pieces) left more octets begin.split;
+  bring = begin.bring;
 }
 
 -- what a file is doesn't change once it is known
@@ -149,23 +143,22 @@ few_brought here (piece ∷ pieces) there packets all =
     ≡ length piece + length (flat_map (λ it. it) pieces) = length-append piece (flat_map (λ it. it) pieces) in
     omega (arith, others, many, whole, one_at_most all.0.packet, least_is here.format, all.2.is.long)
 
-few_taken : {S : Type 0} (by : Taking S) (here : Section) (octets : List ℕ) (there : Section) (left : List ℕ)
-    (number : ℕ) (known : S) → AreTaken by here octets there left number known →
-    12 * number + length left ≤ length octets
-few_taken by here octets there left number known are =
-    let whole : length octets ≡ length (flat_map (λ piece. piece) are.pieces) + length left =
-    ap length are.split ∙ length-append (flat_map (λ piece. piece) are.pieces) left in
-    omega (arith, whole, are.many, few_brought here are.pieces there are.packets are.bring)
+few_begin : (here : Section) (octets : List ℕ) (there : Section) (left : List ℕ) (packets : List Packet) →
+    BeginWithPackets here octets there left packets → 12 * length packets + length left ≤ length octets
+few_begin here octets there left packets begin =
+    let whole : length octets ≡ length (flat_map (λ piece. piece) begin.pieces) + length left =
+    ap length begin.split ∙ length-append (flat_map (λ piece. piece) begin.pieces) left in
+    omega (arith, whole, few_brought here begin.pieces there packets begin.bring)
 
 -- so the packets before what is left of a file are few
-pub few_left : (wanted : List Wanted) (input : List ℕ) (front : Frontier) (left : List ℕ) →
-    AreLeft wanted input front left → 12 * front.packets + length left ≤ length input
-few_left wanted input front left are =
+pub few_left : {S T : Type 0} (by : Taking S) (Has : List Packet → T → Type 0) (input : List ℕ) (front : Frontier T)
+    (left : List ℕ) → AreLeft by Has input front left → 12 * front.packets + length left ≤ length input
+few_left by Has input front left are =
     omega (
       arith,
       opens_short input are.here are.after are.opens,
-      few_taken (for_tapes wanted) are.here are.after (section_of front.reader) left front.packets
-          (known_of_each front.airs.items) are.are,
+      are.is.many,
+      few_begin are.here are.after (section_of front.reader) left are.packets are.begin,
     )
 
 -- at the end of a front
@@ -177,112 +170,190 @@ back_of octets front rest split =
     ap (λ n. drop n octets) many ∙ ap (drop (length front)) split ∙ drop-append_seam front rest
 
 -- more octets came
-pub left_longer : (wanted : List Wanted) (input : List ℕ) (front : Frontier) (left more : List ℕ) →
-    AreLeft wanted input front left → AreLeft wanted (input ++ more) front (left ++ more)
-left_longer wanted input front left more are = record {
+pub left_longer : {S T : Type 0} (by : Taking S) (Has : List Packet → T → Type 0) (input : List ℕ)
+    (front : Frontier T) (left more : List ℕ) → AreLeft by Has input front left →
+    AreLeft by Has (input ++ more) front (left ++ more)
+left_longer by Has input front left more are = record {
   here = are.here;
   after = are.after ++ more;
+  packets = are.packets;
+  known = are.known;
   opens = opens_longer input are.here are.after more are.opens;
-  are =
-      taken_longer (for_tapes wanted) are.here are.after (section_of front.reader) left front.packets
-      (known_of_each front.airs.items) more are.are;
+  begin = brought_longer are.here are.after (section_of front.reader) left are.packets more are.begin;
+  is = are.is;
 }
 
 -- a fault that lasts does so after more octets
-pub fault_longer : (wanted : List Wanted) (input : List ℕ) (fault : AirFault) (more : List ℕ) →
-    IsLastingFault wanted input fault → IsLastingFault wanted (input ++ more) fault
-fault_longer wanted input fault more has rest =
-    subst (λ octets. IsFileFault (for_tapes wanted) octets fault.packet fault.kind)
+pub fault_longer : {S : Type 0} (by : Taking S) (input : List ℕ) (fault : AirFault) (more : List ℕ) →
+    IsLastingFault by input fault → IsLastingFault by (input ++ more) fault
+fault_longer by input fault more has rest =
+    subst (λ octets. IsFileFault by octets fault.packet fault.kind)
     (sym (append_assoc input more rest)) (has (more ++ rest))
 
--- one piece more
-pub one_left : (wanted : List Wanted) (input : List ℕ) (front next : Frontier) (left piece rest : List ℕ)
-    (what : Found) →
-    AreLeft wanted input front left → BeginsWithPiece (section_of front.reader) left piece rest →
+-- a piece more, with a packet or without
+pub one_left : {G S T : Type 0} (taking : G → Taking S) (HasTaken : G → List Packet → T → Type 0) (given : G)
+    (input : List ℕ) (front next : Frontier T) (left piece rest : List ℕ) (what : Found) →
+    AreLeft (taking given) (HasTaken given) input front left →
+    BeginsWithPiece (section_of front.reader) left piece rest →
     meant (section_of next.reader) what ≡ meaning (section_of front.reader) piece →
-    after_found (after_each wanted) (known_of_each front.airs.items) what ≡ Ok (known_of_each next.airs.items) →
-    next.packets ≡ front.packets + count_of what → AreLeft wanted input next rest
-one_left wanted input front next left piece rest what are begins is comes many = record {
+    TakesFound taking HasTaken front.taker next.taker front.packets what →
+    next.packets ≡ front.packets + count_of what → AreLeft (taking given) (HasTaken given) input next rest
+one_left taking HasTaken given input front next left piece rest (found.Packet packet) are begins is takes many =
+    let comes = takes given are.packets are.known are.is in
+    record {
+      here = are.here;
+      after = are.after;
+      packets = are.packets ++ packet_of packet ∷ [];
+      known = comes.0;
+      opens = are.opens;
+      begin =
+          brought_more are.here are.after (section_of front.reader) left are.packets piece rest
+          (record { section = section_of next.reader; packet = Some (packet_of packet) }) are.begin begins (sym is);
+      is = record {
+        has = comes.2;
+        many = length_push are.packets (packet_of packet) ∙ ap (λ n. n + 1) are.is.many ∙ sym many;
+        comes =
+            taken_next (taking given) are.packets (packet_of packet) are.known comes.0 are.is.comes comes.1;
+      };
+    }
+one_left taking HasTaken given input front next left piece rest found.Nothing are begins is takes many = record {
   here = are.here;
   after = are.after;
+  packets = are.packets;
+  known = are.known;
   opens = are.opens;
-  are =
-      subst (λ n. AreTaken (for_tapes wanted) are.here are.after (section_of next.reader) rest n
-      (known_of_each next.airs.items)) (sym many)
-      (one_more (for_tapes wanted) are.here are.after (section_of front.reader) left front.packets
-      (known_of_each front.airs.items) piece rest (section_of next.reader) what (known_of_each next.airs.items) are.are
-      begins is comes);
+  begin =
+      subst (λ packets. BeginWithPackets are.here are.after (section_of next.reader) rest packets)
+      (append-nil are.packets)
+      (brought_more are.here are.after (section_of front.reader) left are.packets piece rest
+      (record { section = section_of next.reader; packet = None }) are.begin begins (sym is));
+  is = record {
+    has = subst (HasTaken given are.packets) (sym takes) are.is.has;
+    many = omega (arith, are.is.many, many);
+    comes = are.is.comes;
+  };
 }
+one_left taking HasTaken given input front next left piece rest found.Wrong are begins is takes many = absurd takes
+
+-- what is known of a file where its pieces are left
+taken_left : {S T : Type 0} (by : Taking S) (Has : List Packet → T → Type 0) (input : List ℕ) (front : Frontier T)
+    (left : List ℕ) (are : AreLeft by Has input front left) →
+    AreTaken by are.here are.after (section_of front.reader) left front.packets are.known
+taken_left by Has input front left are =
+    taken_of by are.here are.after (section_of front.reader) left are.packets front.packets are.known are.begin
+    are.is.many are.is.comes
 
 -- a piece that is at fault
-pub wrong_left : (wanted : List Wanted) (input : List ℕ) (front : Frontier) (left piece rest : List ℕ) (new : Section)
-    (what : Found) (why : AirFaultKind) → AreLeft wanted input front left →
-    BeginsWithPiece (section_of front.reader) left piece rest →
+wrong_piece : {S T : Type 0} (by : Taking S) (Has : List Packet → T → Type 0) (input : List ℕ) (front : Frontier T)
+    (left piece rest : List ℕ) (new : Section) (what : Found) (why : AirFaultKind) →
+    AreLeft by Has input front left → BeginsWithPiece (section_of front.reader) left piece rest →
     meant new what ≡ meaning (section_of front.reader) piece →
-    after_found (after_each wanted) (known_of_each front.airs.items) what ≡ Err why → IsFoundKind what why →
-    IsLastingFault wanted input (record { packet = front.packets + 1; kind = why })
-wrong_left wanted input front left piece rest new what why are begins is comes of_kind more =
-    fault_of_pieces (for_tapes wanted) (input ++ more) are.here (are.after ++ more) (front.packets + 1) why
-    (opens_longer input are.here are.after more are.opens)
-    (wrong_found (for_tapes wanted) are.here (are.after ++ more) (section_of front.reader) (left ++ more) front.packets
-    (known_of_each front.airs.items) piece (rest ++ more) new what why
-    (taken_longer (for_tapes wanted) are.here are.after (section_of front.reader) left front.packets
-    (known_of_each front.airs.items) more are.are)
-    (begins_longer (section_of front.reader) left piece rest more begins) is comes of_kind)
+    ((packets : List Packet) (known : S) → IsAfter by Has packets known front.packets front.taker →
+    after_found by.step known what ≡ Err why) →
+    IsFoundKind what why → IsLastingFault by input (record { packet = front.packets + 1; kind = why })
+wrong_piece by Has input front left piece rest new what why are begins is comes of_kind more =
+    let there = left_longer by Has input front left more are in
+    fault_of_pieces by (input ++ more) there.here there.after (front.packets + 1) why there.opens
+    (wrong_found by there.here there.after (section_of front.reader) (left ++ more) front.packets there.known piece
+    (rest ++ more) new what why (taken_left by Has (input ++ more) front (left ++ more) there)
+    (begins_longer (section_of front.reader) left piece rest more begins) is
+    (comes there.packets there.known there.is) of_kind)
 
 -- octets that contradict themselves
-pub wrong_begin : (wanted : List Wanted) (input : List ℕ) (front : Frontier) (left : List ℕ) (why : AirFaultKind) →
-    AreLeft wanted input front left → (why ≡ kind.WrongBlock) × IsWrongPiece (section_of front.reader) left →
-    IsLastingFault wanted input (record { packet = front.packets + 1; kind = why })
-wrong_begin wanted input front left why are is more =
-    subst (λ it. IsFileFault (for_tapes wanted) (input ++ more) (front.packets + 1) it) (sym is.0)
-    (fault_of_pieces (for_tapes wanted) (input ++ more) are.here (are.after ++ more) (front.packets + 1) kind.WrongBlock
-    (opens_longer input are.here are.after more are.opens)
-    (wrong_front (for_tapes wanted) are.here (are.after ++ more) (section_of front.reader) (left ++ more) front.packets
-    (known_of_each front.airs.items) kind.WrongBlock
-    (taken_longer (for_tapes wanted) are.here are.after (section_of front.reader) left front.packets
-    (known_of_each front.airs.items) more are.are)
+pub wrong_begin : {S T : Type 0} (by : Taking S) (Has : List Packet → T → Type 0) (input : List ℕ)
+    (front : Frontier T) (left : List ℕ) (why : AirFaultKind) → AreLeft by Has input front left →
+    (why ≡ kind.WrongBlock) × IsWrongPiece (section_of front.reader) left →
+    IsLastingFault by input (record { packet = front.packets + 1; kind = why })
+wrong_begin by Has input front left why are is more =
+    let there = left_longer by Has input front left more are in
+    subst (λ it. IsFileFault by (input ++ more) (front.packets + 1) it) (sym is.0)
+    (fault_of_pieces by (input ++ more) there.here there.after (front.packets + 1) kind.WrongBlock there.opens
+    (wrong_front by there.here there.after (section_of front.reader) (left ++ more) front.packets there.known
+    kind.WrongBlock (taken_left by Has (input ++ more) front (left ++ more) there)
     (wrong_longer (section_of front.reader) left more is.1)))
 
 -- memory was refused
-pub is_refused : (wanted : List Wanted) (input : List ℕ) (fault : AirFault) →
-    fault ≡ record { packet = 0; kind = kind.Refused } → IsLastingFault wanted input fault
-is_refused wanted input fault is more =
-    subst (λ (it : AirFault). IsFileFault (for_tapes wanted) (input ++ more) it.packet it.kind) (sym is) refl
+pub is_refused : {S : Type 0} (by : Taking S) (input : List ℕ) (fault : AirFault) →
+    fault ≡ record { packet = 0; kind = kind.Refused } → IsLastingFault by input fault
+is_refused by input fault is more =
+    subst (λ (it : AirFault). IsFileFault by (input ++ more) it.packet it.kind) (sym is) refl
+
+-- what was found in a piece stops a file, whatever it is taken for
+pub wrong_left : {G S T : Type 0} (taking : G → Taking S) (HasTaken : G → List Packet → T → Type 0) (given : G)
+    (input : List ℕ) (front : Frontier T) (left piece rest : List ℕ) (new : Section) (what : Found)
+    (fault : AirFault) → AreLeft (taking given) (HasTaken given) input front left →
+    BeginsWithPiece (section_of front.reader) left piece rest →
+    meant new what ≡ meaning (section_of front.reader) piece →
+    IsTakingFault taking HasTaken front.taker front.packets what fault → IsLastingFault (taking given) input fault
+wrong_left taking HasTaken given input front left piece rest new (found.Packet packet) fault are begins is why =
+    elim why [
+      | inl refused ↦ is_refused (taking given) input fault refused
+      | inr wrong ↦
+          λ more.
+          subst (λ n. IsFileFault (taking given) (input ++ more) n fault.kind) (sym wrong.numbered)
+          (wrong_piece (taking given) (HasTaken given) input front left piece rest new (found.Packet packet)
+          fault.kind are begins is (wrong.comes given) wrong.of_packet more)
+    ]
+wrong_left taking HasTaken given input front left piece rest new found.Nothing fault are begins is why = absurd why
+wrong_left taking HasTaken given input front left piece rest new found.Wrong fault are begins is why =
+    subst (λ (it : AirFault). IsLastingFault (taking given) input it) (sym why)
+    (wrong_piece (taking given) (HasTaken given) input front left piece rest new found.Wrong kind.WrongBlock are begins
+    is (λ packets known after. refl) refl)
 
 -- the file ends inside a piece
-pub cut_left : (wanted : List Wanted) (input : List ℕ) (front : Frontier) (left : List ℕ) →
-    AreLeft wanted input front left → IsCutPiece (section_of front.reader) left →
-    IsFileFault (for_tapes wanted) input (front.packets + 1) kind.Short
-cut_left wanted input front left are cut =
-    fault_of_pieces (for_tapes wanted) input are.here are.after (front.packets + 1) kind.Short are.opens
-    (wrong_front (for_tapes wanted) are.here are.after (section_of front.reader) left front.packets
-    (known_of_each front.airs.items) kind.Short are.are cut)
+pub cut_left : {S T : Type 0} (by : Taking S) (Has : List Packet → T → Type 0) (input : List ℕ) (front : Frontier T)
+    (left : List ℕ) → AreLeft by Has input front left → IsCutPiece (section_of front.reader) left →
+    IsFileFault by input (front.packets + 1) kind.Short
+cut_left by Has input front left are cut =
+    fault_of_pieces by input are.here are.after (front.packets + 1) kind.Short are.opens
+    (wrong_front by are.here are.after (section_of front.reader) left front.packets are.known kind.Short
+    (taken_left by Has input front left are) cut)
 
 -- or after one
-pub none_left : (wanted : List Wanted) (input : List ℕ) (front : Frontier) (left : List ℕ) →
-    AreLeft wanted input front left → left ≡ [] → ComesTo (for_tapes wanted) input (known_of_each front.airs.items)
-none_left wanted input front left are end = record {
+pub none_left : {S T : Type 0} (by : Taking S) (Has : List Packet → T → Type 0) (input : List ℕ) (front : Frontier T)
+    (left : List ℕ) → AreLeft by Has input front left → left ≡ [] → HasTakenAll by Has input front.taker
+none_left by Has input front left are end = record {
   here = are.here;
   after = are.after;
+  there = section_of front.reader;
+  packets = are.packets;
+  known = are.known;
   opens = are.opens;
-  so =
-      all_taken (for_tapes wanted) are.here are.after (section_of front.reader) left front.packets
-      (known_of_each front.airs.items) are.are end;
+  begin =
+      subst (λ rest. BeginWithPackets are.here are.after (section_of front.reader) rest are.packets) end are.begin;
+  has = are.is.has;
+  comes = are.is.comes;
+}
+
+-- then the file comes to what its packets come to, whatever they are taken for
+pub comes_to : {S U T : Type 0} (by : Taking S) (Has : List Packet → T → Type 0) (other : Taking U) (input : List ℕ)
+    (taker : T) (known : U) (all : HasTakenAll by Has input taker) → taken other all.packets ≡ Ok known →
+    ComesTo other input known
+comes_to by Has other input taker known all comes = record {
+  here = all.here;
+  after = all.after;
+  opens = all.opens;
+  so = record {
+    there = all.there;
+    number = length all.packets;
+    are =
+        taken_of other all.here all.after all.there [] all.packets (length all.packets) known all.begin refl comes;
+  };
 }
 
 -- before the first piece
-pub first_left : (wanted : List Wanted) (input : List ℕ) (front : Frontier) (after : List ℕ) →
-    Opens input (section_of front.reader) after → known_of_each front.airs.items ≡ none_known wanted →
-    front.packets ≡ 0 → AreLeft wanted input front after
-first_left wanted input front after opens none number = record {
+pub first_left : {S T : Type 0} (by : Taking S) (Has : List Packet → T → Type 0) (input : List ℕ)
+    (front : Frontier T) (after : List ℕ) → Opens input (section_of front.reader) after → Has [] front.taker →
+    front.packets ≡ 0 → AreLeft by Has input front after
+unfolding taken
+first_left by Has input front after opens has number = record {
   here = section_of front.reader;
   after = after;
+  packets = [];
+  known = by.start;
   opens = opens;
-  are =
-      subst (λ n. AreTaken (for_tapes wanted) (section_of front.reader) after (section_of front.reader) after n
-      (known_of_each front.airs.items)) (sym number)
-      (none_taken (for_tapes wanted) (section_of front.reader) after (known_of_each front.airs.items) none);
+  begin = record { pieces = []; split = refl; bring = (refl, refl) };
+  is = record { has = has; many = sym number; comes = refl };
 }
 
 -- what is no begin of a file is none whatever follows it, if it is long enough
@@ -315,66 +386,49 @@ begin_longer input more kind.NoBlock is enough = is
 begin_longer input more kind.Refused is enough = is
 
 -- so a fault of a begin that is long enough lasts
-pub begin_fault : (wanted : List Wanted) (input : List ℕ) (why : AirFaultKind) → IsBeginFault input why →
-    (is_pcapng input ≡ false → 24 ≤ length input) → IsLastingFault wanted input (record { packet = 0; kind = why })
-begin_fault wanted input why is enough more =
-    fault_of_begin (for_tapes wanted) (input ++ more) why (begin_longer input more why is enough)
+pub begin_fault : {S : Type 0} (by : Taking S) (input : List ℕ) (why : AirFaultKind) → IsBeginFault input why →
+    (is_pcapng input ≡ false → 24 ≤ length input) → IsLastingFault by input (record { packet = 0; kind = why })
+begin_fault by input why is enough more =
+    fault_of_begin by (input ++ more) why (begin_longer input more why is enough)
 
 -- a file of too few octets is no capture
-pub no_begin : (wanted : List Wanted) (input : List ℕ) → HasNoBegin input →
-    IsFileFault (for_tapes wanted) input 0 kind.NoCapture
-no_begin wanted input none = (refl, record { classic = none.classic; unknown = inl none.short })
-
--- what is known of tapes where pieces are left
-pub near_left : (wanted : List Wanted) (input : List ℕ) (front : Frontier) (left : List ℕ) →
-    AreLeft wanted input front left → length input < 2 ^ 48 → AreNear (2 ^ 59) (known_of_each front.airs.items)
-near_left wanted input front left are few =
-    near_below (known_of_each front.airs.items) (3328 * front.packets) (2 ^ 59)
-    (omega (arith, few, few_left wanted input front left are))
-    (near_taken wanted are.here are.after (section_of front.reader) left front.packets
-    (known_of_each front.airs.items) are.are)
-
--- each tape has four places for each of its slots
-pub long_left : (wanted : List Wanted) (input : List ℕ) (front : Frontier) (left : List ℕ) →
-    AreLeft wanted input front left → AreLong wanted (known_of_each front.airs.items)
-long_left wanted input front left are =
-    long_taken wanted are.here are.after (section_of front.reader) left front.packets
-    (known_of_each front.airs.items) are.are
-
--- and there are as many tapes as are wanted
-pub many_left : (wanted : List Wanted) (input : List ℕ) (front : Frontier) (left : List ℕ) →
-    AreLeft wanted input front left → length front.airs.items ≡ length wanted
-many_left wanted input front left are =
-    sym (length-map front.airs.items known_of)
-    ∙ long_many wanted (known_of_each front.airs.items) (long_left wanted input front left are)
+pub no_begin : {S : Type 0} (by : Taking S) (input : List ℕ) → HasNoBegin input → IsFileFault by input 0 kind.NoCapture
+no_begin by input none = (refl, record { classic = none.classic; unknown = inl none.short })
 
 -- where a walk stands, by its stage
-at_stage : (there : WalkStage) (wanted : List Wanted) (input : List ℕ) (walk : Walk) → IsWalkOf wanted input walk →
-    walk.stage ≡ there → StandsAt there wanted input walk.front walk.left.items
-at_stage there wanted input walk is at =
-    subst (λ (it : WalkStage). StandsAt it wanted input walk.front walk.left.items) at is.stands
+at_stage : {G S T : Type 0} (there : WalkStage) (taking : G → Taking S) (HasTaken : G → List Packet → T → Type 0)
+    (given : G) (input : List ℕ) (walk : Walk T) → IsWalkOf taking HasTaken given input walk → walk.stage ≡ there →
+    StandsAt there (taking given) (HasTaken given) input walk.front walk.left.items
+at_stage there taking HasTaken given input walk is at =
+    subst
+    (λ (it : WalkStage). StandsAt it (taking given) (HasTaken given) input walk.front walk.left.items) at is.stands
 
 -- its pieces are taken
-pub at_pieces : (wanted : List Wanted) (input : List ℕ) (walk : Walk) → IsWalkOf wanted input walk →
-    walk.stage ≡ stage.Pieces →
-    AreLeft wanted input walk.front walk.left.items × HaveNoPiece (section_of walk.front.reader) walk.left.items
-at_pieces wanted input walk is at = at_stage stage.Pieces wanted input walk is at
+pub at_pieces : {G S T : Type 0} (taking : G → Taking S) (HasTaken : G → List Packet → T → Type 0) (given : G)
+    (input : List ℕ) (walk : Walk T) → IsWalkOf taking HasTaken given input walk → walk.stage ≡ stage.Pieces →
+    AreLeft (taking given) (HasTaken given) input walk.front walk.left.items
+    × HaveNoPiece (section_of walk.front.reader) walk.left.items
+at_pieces taking HasTaken given input walk is at = at_stage stage.Pieces taking HasTaken given input walk is at
 
 -- or it has a fault
-pub at_fault : (wanted : List Wanted) (input : List ℕ) (walk : Walk) (fault : AirFault) → IsWalkOf wanted input walk →
-    walk.stage ≡ stage.Fault fault → IsLastingFault wanted input fault
-at_fault wanted input walk fault is at = at_stage (stage.Fault fault) wanted input walk is at
+pub at_fault : {G S T : Type 0} (taking : G → Taking S) (HasTaken : G → List Packet → T → Type 0) (given : G)
+    (input : List ℕ) (walk : Walk T) (fault : AirFault) → IsWalkOf taking HasTaken given input walk →
+    walk.stage ≡ stage.Fault fault → IsLastingFault (taking given) input fault
+at_fault taking HasTaken given input walk fault is at =
+    at_stage (stage.Fault fault) taking HasTaken given input walk is at
 
 -- or nothing was taken of it
-pub at_begin : (wanted : List Wanted) (input : List ℕ) (walk : Walk) → IsWalkOf wanted input walk →
-    walk.stage ≡ stage.Begin → IsUnopened wanted input walk.front walk.left.items
-at_begin wanted input walk is at = (at_stage stage.Begin wanted input walk is at).0
+pub at_begin : {G S T : Type 0} (taking : G → Taking S) (HasTaken : G → List Packet → T → Type 0) (given : G)
+    (input : List ℕ) (walk : Walk T) → IsWalkOf taking HasTaken given input walk → walk.stage ≡ stage.Begin →
+    IsUnopened (HasTaken given) input walk.front walk.left.items
+at_begin taking HasTaken given input walk is at =
+    (at_stage stage.Begin taking HasTaken given input walk is at).0
 
 -- a fault of a front is one of the file that it is
-pub fault_now : (wanted : List Wanted) (input : List ℕ) (fault : AirFault) → IsLastingFault wanted input fault →
-    IsFileFault (for_tapes wanted) input fault.packet fault.kind
-fault_now wanted input fault has =
-    subst (λ octets. IsFileFault (for_tapes wanted) octets fault.packet fault.kind) (append-nil input) (has [])
+pub fault_now : {S : Type 0} (by : Taking S) (input : List ℕ) (fault : AirFault) → IsLastingFault by input fault →
+    IsFileFault by input fault.packet fault.kind
+fault_now by input fault has =
+    subst (λ octets. IsFileFault by octets fault.packet fault.kind) (append-nil input) (has [])
 
 -- octets without a whole piece, some at least, are cut
 pub cut_of : (section : Section) (left : List ℕ) → HaveNoPiece section left → 0 < length left →
@@ -383,28 +437,6 @@ cut_of section left none some = elim none [
   | inl empty ↦ absurd (omega (arith, some, ap length empty))
   | inr cut ↦ cut
 ]
-
--- what is so of what is equal
-pub made_for : (IsSo : List Wanted → List ℕ → Type 0) (given wanted : List Wanted) (airs there : List Air)
-    (input : List ℕ) → given ≡ wanted → airs ≡ there →
-    ((it : List ℕ) → ComesTo (for_tapes given) it (known_of_each airs) → IsSo given it) →
-    ComesTo (for_tapes wanted) input (known_of_each there) → IsSo wanted input
-made_for IsSo given wanted airs there input same here made comes =
-    subst (λ (it : List Wanted). IsSo it input) same
-    (made input
-    (subst (λ (it : List Wanted). ComesTo (for_tapes it) input (known_of_each airs)) (sym same)
-    (subst (λ (it : List Air). ComesTo (for_tapes wanted) input (known_of_each it)) (sym here) comes)))
-
--- the same of a fault
-pub fault_for : (given wanted : List Wanted) (octets left : List ℕ) (front : Frontier) (input : List ℕ)
-    (fault : AirFault) → given ≡ wanted → octets ≡ left →
-    ((it : List ℕ) → AreLeft given it front octets → IsLastingFault given it fault) → AreLeft wanted input front left →
-    IsLastingFault wanted input fault
-fault_for given wanted octets left front input fault same here has are =
-    subst (λ (it : List Wanted). IsLastingFault it input fault) same
-    (has input
-    (subst (λ (it : List Wanted). AreLeft it input front octets) (sym same)
-    (subst (λ it. AreLeft wanted input front it) (sym here) are)))
 
 -- what stands after the begin of a file is its end
 opens_back : (input : List ℕ) (here : Section) (after : List ℕ) → Opens input here after →
@@ -422,20 +454,20 @@ after_begin input here after opens =
     (opens_short input here after opens, back_of input back.0 after back.1)
 
 -- once a file is opened its pieces can be taken
-pub to_take : (wanted : List Wanted) (input : List ℕ) (old new : Walk) (after : List ℕ) → IsToOpen wanted input old →
-    new.wanted.items ≡ old.wanted.items → new.stage ≡ stage.Pieces →
-    known_of_each new.front.airs.items ≡ known_of_each old.front.airs.items → new.front.packets ≡ old.front.packets →
+pub to_take : {G S T : Type 0} (taking : G → Taking S) (HasTaken : G → List Packet → T → Type 0) (given : G)
+    (input : List ℕ) (old new : Walk T) (after : List ℕ) → IsToOpen HasTaken given input old →
+    new.stage ≡ stage.Pieces → new.front.taker ≡ old.front.taker → new.front.packets ≡ old.front.packets →
     Opens old.left.items (section_of new.front.reader) after →
-    new.left.items ≡ drop (length old.left.items - length after) old.left.items → IsToTake wanted input new
-to_take wanted input old new after is wanted_stay stage_is airs_stay number_stays opens left_is =
+    new.left.items ≡ drop (length old.left.items - length after) old.left.items →
+    IsToTake taking HasTaken given input new
+to_take taking HasTaken given input old new after is stage_is taker_stays number_stays opens left_is =
     let opens_input : Opens input (section_of new.front.reader) after =
     subst (λ octets. Opens octets (section_of new.front.reader) after) is.unopened.left_are opens in
     record {
-      wanted_are = wanted_stay ∙ is.wanted_are;
       stage_is = stage_is;
       left =
-          subst (λ left. AreLeft wanted input new.front left)
+          subst (λ left. AreLeft (taking given) (HasTaken given) input new.front left)
           (sym (left_is ∙ (after_begin old.left.items (section_of new.front.reader) after opens).1))
-          (first_left wanted input new.front after opens_input (airs_stay ∙ is.unopened.none)
-          (number_stays ∙ is.unopened.number));
+          (first_left (taking given) (HasTaken given) input new.front after opens_input
+          (subst (HasTaken given []) (sym taker_stays) is.unopened.has) (number_stays ∙ is.unopened.number));
     }

@@ -13,8 +13,10 @@ pub mod TapeOfCapture
 pub mod TapeSteps
 pub mod TapesOfCapture
 pub mod TapesSteps
+pub mod Taker
 pub mod Walk
 pub mod WalkSteps
+pub mod TapesTaken
 pub mod Heard
 pub mod HeardSteps
 pub mod Laws

@@ -1,5 +1,6 @@
 -- The pieces of a capture file, in either format, and the packets that they bring.
 use Rattle.std.specs.Prelude.{◌≡◌, ℕ, ◌+◌, ◌<◌, ◌≤◌, ◌⊎◌, List, [], ◌∷◌, ◌++◌, length, drop, Option, Some, None}
+use Rattle.std.specs.List.{flat_map}
 use Rattle.gsmtap.specs.Blocks.{block_length, block_meaning, brings}
 use Rattle.gsmtap.specs.File.{Packet, number_in, packet_time}
 use Rattle.gsmtap.specs.Section.{Meaning, Section}
@@ -72,3 +73,11 @@ BringAll here [] there packets = (there ≡ here) × (packets ≡ [])
 BringAll here (piece ∷ rest) there packets =
     (next : Meaning) × (others : List Packet) × Brings here piece next
     × (packets ≡ packets_in next.packet ++ others) × BringAll next.section rest there others
+
+-- octets begin with whole pieces, of which the first begins here, and which bring these packets; then comes the rest
+pub record BeginWithPackets (here : Section) (octets : List ℕ) (there : Section) (rest : List ℕ)
+    (packets : List Packet) : Type 0
+  where
+    pub pieces : List (List ℕ)
+    pub split : octets ≡ flat_map (λ piece. piece) pieces ++ rest
+    pub bring : BringAll here pieces there packets

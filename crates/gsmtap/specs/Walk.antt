@@ -1,41 +1,44 @@
--- What is known of a capture file that comes in parts, and of the tapes that are wanted of it.
+-- What is known of a capture file that comes in parts, and of a taker that its packets are handed to.
 use Rattle.std.specs.Prelude.{◌≡◌, ℕ, ◌+◌, ◌<◌, ◌^◌, ◌⊎◌, false, List, [], ◌++◌, length}
-use Rattle.gsmtap.specs.File.{is_pcapng}
+use Rattle.gsmtap.specs.File.{Packet, is_pcapng}
 use Rattle.gsmtap.specs.PieceSteps.{section_of}
-use Rattle.gsmtap.specs.Pieces.{IsCutPiece}
+use Rattle.gsmtap.specs.Pieces.{BeginWithPackets, IsCutPiece}
 use Rattle.gsmtap.specs.Section.{Section}
-use Rattle.gsmtap.specs.Taken.{AreTaken, IsFileFault, Opens}
-use Rattle.gsmtap.specs.TapesOfCapture.{for_tapes, none_known}
-use Rattle.gsmtap.specs.TapesSteps.{known_of_each}
+use Rattle.gsmtap.specs.Taken.{IsFileFault, Opens, Taking}
+use Rattle.gsmtap.specs.Taker.{IsAfter}
 use Rattle.gsmtap.specs.declared.fault.AirFault.{AirFault}
 use Rattle.gsmtap.specs.declared.frontier.Frontier.{Frontier}
-use Rattle.gsmtap.specs.declared.tape.Wanted.{Wanted}
 use Rattle.gsmtap.specs.declared.walk.WalkStage.{WalkStage}
 use Rattle.gsmtap.specs.declared.walk.WalkStage.TheVariants as stage
 use Rattle.gsmtap.specs.declared.walk.Walk.{Walk}
 
 -- of the octets of a file that came by now, all whole pieces before these were taken
-pub record AreLeft (wanted : List Wanted) (input : List ℕ) (front : Frontier) (left : List ℕ) : Type 0 where
-  pub here : Section
-  pub after : List ℕ
-  pub opens : Opens input here after
-  pub are : AreTaken (for_tapes wanted) here after (section_of front.reader) left front.packets
-      (known_of_each front.airs.items)
+pub record AreLeft {S T : Type 0} (by : Taking S) (Has : List Packet → T → Type 0) (input : List ℕ)
+    (front : Frontier T) (left : List ℕ) : Type 0
+  where
+    pub here : Section
+    pub after : List ℕ
+    pub packets : List Packet
+    pub known : S
+    pub opens : Opens input here after
+    pub begin : BeginWithPackets here after (section_of front.reader) left packets
+    pub is : IsAfter by Has packets known front.packets front.taker
 
 -- no piece is whole in these octets
 abbrev pub HaveNoPiece : Section → List ℕ → Type 0
 HaveNoPiece section left = (left ≡ []) ⊎ IsCutPiece section left
 
 -- a file that begins with these octets has this fault, whatever follows them
-abbrev pub IsLastingFault : List Wanted → (input : List ℕ) → AirFault → Type 0
-IsLastingFault wanted input fault =
-    (more : List ℕ) → IsFileFault (for_tapes wanted) (input ++ more) fault.packet fault.kind
+abbrev pub IsLastingFault : {S : Type 0} → Taking S → (input : List ℕ) → AirFault → Type 0
+IsLastingFault by input fault = (more : List ℕ) → IsFileFault by (input ++ more) fault.packet fault.kind
 
 -- too few octets came to say what the file is, and nothing was taken of them
-pub record IsUnopened (wanted : List Wanted) (input : List ℕ) (front : Frontier) (left : List ℕ) : Type 0 where
-  pub left_are : left ≡ input
-  pub none : known_of_each front.airs.items ≡ none_known wanted
-  pub number : front.packets ≡ 0
+pub record IsUnopened {T : Type 0} (Has : List Packet → T → Type 0) (input : List ℕ) (front : Frontier T)
+    (left : List ℕ) : Type 0
+  where
+    pub left_are : left ≡ input
+    pub has : Has [] front.taker
+    pub number : front.packets ≡ 0
 
 pub record HasNoBegin (input : List ℕ) : Type 0 where
   pub classic : is_pcapng input ≡ false
@@ -43,17 +46,23 @@ pub record HasNoBegin (input : List ℕ) : Type 0 where
 
 -- how far the walk over a file has come, of which these octets came by now: none of its pieces was taken yet, or all
 -- that are whole, or it has a fault
-abbrev pub StandsAt : WalkStage → List Wanted → (input : List ℕ) → Frontier → (left : List ℕ) → Type 0
-StandsAt stage.Begin wanted input front left = IsUnopened wanted input front left × HasNoBegin input
-StandsAt stage.Pieces wanted input front left =
-    AreLeft wanted input front left × HaveNoPiece (section_of front.reader) left
-StandsAt (stage.Fault fault) wanted input front left = IsLastingFault wanted input fault
+abbrev pub StandsAt : {S T : Type 0} → WalkStage → Taking S → (Has : List Packet → T → Type 0) → (input : List ℕ) →
+    Frontier T → (left : List ℕ) → Type 0
+StandsAt stage.Begin by Has input front left = IsUnopened Has input front left × HasNoBegin input
+StandsAt stage.Pieces by Has input front left =
+    AreLeft by Has input front left × HaveNoPiece (section_of front.reader) left
+StandsAt (stage.Fault fault) by Has input front left = IsLastingFault by input fault
 
-pub record IsWalkOf (wanted : List Wanted) (input : List ℕ) (walk : Walk) : Type 0 where
-  pub wanted_are : walk.wanted.items ≡ wanted
-  pub stands : StandsAt walk.stage wanted input walk.front walk.left.items
+-- for this a walk is over a file of which these octets came by now
+pub record IsWalkOf {G S T : Type 0} (taking : G → Taking S) (HasTaken : G → List Packet → T → Type 0) (given : G)
+    (input : List ℕ) (walk : Walk T) : Type 0
+  where
+    pub stands : StandsAt walk.stage (taking given) (HasTaken given) input walk.front walk.left.items
 
--- this is so of a walk and of the octets of some file, which a number more leaves few enough to count packets
-abbrev pub OfSome : (IsOf : List Wanted → List ℕ → Walk → Type 0) → Walk → (more : ℕ) → Type 0
-OfSome IsOf walk more =
-    (wanted : List Wanted) × (input : List ℕ) × IsOf wanted input walk × (length input + more < 2 ^ 48)
+-- for something this is so of a walk and of the octets of some file, which a number more leaves few enough to count
+-- packets
+pub record OfSome {G T : Type 0} (IsOf : G → List ℕ → Walk T → Type 0) (walk : Walk T) (more : ℕ) : Type 0 where
+  pub given : G
+  pub input : List ℕ
+  pub is : IsOf given input walk
+  pub few : length input + more < 2 ^ 48

@@ -1,41 +1,46 @@
-//! The pieces that a capture file's octets begin with, and what they bring to the tapes that are wanted of it.
+//! The pieces that a capture file's octets begin with, and a taker that their packets are handed to.
 
-ghost use Rattle.std.specs.Prelude.{◌≡◌, ◌<◌, ◌≤◌, ℕ, List, drop, length, IfErr, IfOk};
+ghost use Rattle.std.specs.Prelude.{◌≡◌, ◌<◌, ◌≤◌, ◌^◌, ℕ, List, [], drop, length, IfErr, IfOk, OnOk};
 ghost use Rattle.gsmtap.specs.PieceSteps.{section_of};
+ghost use Rattle.gsmtap.specs.Taken.{IsFileFault};
+ghost use Rattle.gsmtap.specs.Taker.{CanTake, HasTakenAll, IsTakingFault, TakesFound};
+ghost use Rattle.gsmtap.specs.TapeSteps.{count_of};
 ghost use Rattle.gsmtap.specs.Walk.{AreLeft, IsLastingFault, HaveNoPiece};
 ghost use Rattle.gsmtap.specs.WalkSteps.{AreLeftOfSome};
 
-use crate::fault::AirFault;
-use crate::pieces::Reader;
-use crate::tape::{Wanted, fault_at};
-use crate::tapes::take;
-use crate::track::Air;
+use crate::fault::{AirFault, AirFaultKind};
+use crate::pieces::{Found, Reader};
+use crate::taker::TakesPackets;
+use crate::tape::{fault_at, opened};
+use std::alloc::Global;
 
-/// What is known of a capture file, and of the tapes that are wanted of it, where one of the file's pieces begins.
+/// What is known of a capture file where one of its pieces begins, and the taker of the packets before.
 #[derive(Drop)]
-pub struct Frontier {
+pub struct Frontier<T> {
     /// What is known of the file.
     pub reader: Reader,
-    /// What is known of each tape.
-    pub airs: Vec<Air>,
+    /// The taker of its packets.
+    pub taker: T,
     /// How many packets came before.
     pub packets: u64,
 }
 
-impl Frontier {
+impl<T: TakesPackets> Frontier<T> {
     /// Takes the whole pieces that octets begin with, and returns how many octets these have.
     ///
     /// # Errors
     ///
     /// Returns the fault of the first packet or block that has one, and out of memory. An end inside a piece is none.
-    pub fn take_pieces(&mut self, wanted: &[Wanted], octets: &[u8]) -> Result<usize, AirFault>
-        requires { AreLeftOfSome wanted.now self.old octets.now }
+    pub fn take_pieces(&mut self, octets: &[u8]) -> Result<usize, AirFault>
+        requires { AreLeftOfSome T.taking T.HasTaken self.old octets.now }
         ensures within { IfOk result (λ taken. taken ≤ length octets.now) }
-        ensures taken { IfOk result (λ taken. (input : List ℕ) → AreLeft wanted.now input self.old octets.now →
-            AreLeft wanted.now input self.new (drop taken octets.now)) }
+        ensures taken { IfOk result (λ taken. (given : T.Given) (input : List ℕ) →
+            AreLeft (T.taking given) (T.HasTaken given) input self.old octets.now →
+            AreLeft (T.taking given) (T.HasTaken given) input self.new (drop taken octets.now)) }
         ensures whole { IfOk result (λ taken. HaveNoPiece (section_of self.new.reader) (drop taken octets.now)) }
-        ensures fault { IfErr result (λ fault. (input : List ℕ) → AreLeft wanted.now input self.old octets.now →
-            IsLastingFault wanted.now input fault) }
+        ensures fault { IfErr result (λ fault. (given : T.Given) (input : List ℕ) →
+            AreLeft (T.taking given) (T.HasTaken given) input self.old octets.now →
+            IsLastingFault (T.taking given) input fault) }
     {
         let mut left = octets;
         'pieces: while !left.is_empty() {
@@ -46,12 +51,66 @@ impl Frontier {
                 Err(kind) => return Err(fault_at(next, kind)),
             };
             let found = self.reader.enter(piece)?;
-            match take(&mut self.airs, wanted, &found) {
+            match take_found(&mut self.taker, self.packets, &found) {
                 Ok(packets) => self.packets += packets,
-                Err(kind) => return Err(fault_at(next, kind)),
+                Err(fault) => return Err(fault),
             }
             left = rest;
         }
         Ok(octets.len())
     }
+}
+
+/// Hands on the packet that was found, if one was, before which so many came, and returns how many there were.
+fn take_found<T: TakesPackets>(taker: &mut T, before: u64, found: &Found) -> Result<u64, AirFault>
+    requires { CanTake T.taking T.HasTaken taker.old before }
+    ensures taken { OnOk result (TakesFound T.taking T.HasTaken taker.old taker.new before found.now) }
+    ensures many { IfOk result (λ packets. packets ≡ count_of found.now) }
+    ensures fault { IfErr result (IsTakingFault T.taking T.HasTaken taker.old before found.now) }
+{
+    match found {
+        Found::Packet(packet) => match taker.take(before, packet) {
+            Ok(()) => Ok(1),
+            Err(fault) => Err(fault),
+        },
+        Found::Nothing => Ok(0),
+        Found::Wrong => Err(fault_at(before + 1, AirFaultKind::WrongBlock)),
+    }
+}
+
+/// Hands the packets of a file to a taker that has none yet, and gives it back.
+///
+/// # Errors
+///
+/// Returns the fault of the first packet or block that has one, or of the file's begin, which is packet 0, and out of
+/// memory.
+pub(crate) fn take_all<T: TakesPackets + Drop>(
+    alloc: Global,
+    input: &[u8],
+    taker: T,
+) -> Result<T, AirFault>
+    requires few { length input.now < 2 ^ 48 }
+    requires none { (given : T.Given) × T.HasTaken given [] taker }
+    ensures taken { IfOk result (λ taken. (given : T.Given) → T.HasTaken given [] taker →
+        HasTakenAll (T.taking given) (T.HasTaken given) input.now taken) }
+    ensures fault { IfErr result (λ fault. (given : T.Given) → T.HasTaken given [] taker →
+        IsFileFault (T.taking given) input.now fault.packet fault.kind) }
+{
+    let (reader, octets) = match opened(alloc, input) {
+        Ok(opened) => opened,
+        Err(kind) => return Err(fault_at(0, kind)),
+    };
+    let mut front = Frontier {
+        reader,
+        taker,
+        packets: 0,
+    };
+    let taken = match front.take_pieces(octets) {
+        Ok(taken) => taken,
+        Err(fault) => return Err(fault),
+    };
+    if taken < octets.len() {
+        return Err(fault_at(front.packets + 1, AirFaultKind::Short));
+    }
+    Ok(front.taker)
 }

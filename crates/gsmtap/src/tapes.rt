@@ -1,19 +1,25 @@
 //! The tapes that a capture file is, one for each of many senders.
 
-ghost use Rattle.std.specs.Prelude.{◌≡◌, ◌<◌, ◌≤◌, ◌^◌, ℕ, List, length, position, IfErr, IfOk, OnOk, Ok, Err};
+ghost use Rattle.std.specs.Prelude.{◌≡◌, ◌<◌, ◌≤◌, ◌^◌, ℕ, List, [], length, position, IfErr, IfOk, OnOk, Ok, Err};
 ghost use Rattle.gsmtap.specs.PieceSteps.{packet_of};
 ghost use Rattle.gsmtap.specs.Taken.{ComesTo, IsFileFault};
 ghost use Rattle.gsmtap.specs.TapesOfCapture.{AreTapesOfCapture, IsTapesFault, after_each, for_tapes, is_silent};
 ghost use Rattle.gsmtap.specs.TapesOfCapture.{fault_alone, none_known};
 ghost use Rattle.gsmtap.specs.TapesSteps.{AreLong, AreNear, known_of_each, tapes_of_known};
-ghost use Rattle.gsmtap.specs.TapeSteps.{IsFoundKind, IsPacketKind, after_found, count_of, known_of};
+ghost use Rattle.gsmtap.specs.TapesTaken.{HaveTaken, IsWalkFor};
+ghost use Rattle.gsmtap.specs.TapeSteps.{IsPacketKind, known_of};
+ghost use Rattle.gsmtap.specs.Track.{Known};
+ghost use Rattle.gsmtap.specs.Walk.{OfSome};
+ghost use Rattle.gsmtap.specs.declared.tape.Wanted.{Wanted};
 ghost use Rattle.gsmtap.specs.declared.track.Air.{Air};
 
 use crate::fault::{AirFault, AirFaultKind};
-use crate::frontier::Frontier;
-use crate::pieces::{Captured, Found};
-use crate::tape::{Wanted, air_for, fault_at, opened, take_packet, tape_of};
+use crate::frontier::take_all;
+use crate::pieces::Captured;
+use crate::taker::TakesPackets;
+use crate::tape::{Wanted, air_for, fault_at, take_packet, tape_of};
 use crate::track::Air;
+use crate::walk::Walk;
 use std::alloc::{AllocError, Global};
 use thiserror::Error;
 
@@ -36,6 +42,44 @@ impl TapesFault {
         match self {
             TapesFault::Air(fault) => fault,
             TapesFault::NoBlock(_) => fault_at(0, AirFaultKind::NoBlock),
+        }
+    }
+}
+
+/// Tapes that are wanted of a capture file, and what is known of them after some of its packets.
+#[derive(Drop)]
+pub struct Tapes {
+    pub(crate) wanted: Vec<Wanted>,
+    pub(crate) airs: Vec<Air>,
+}
+
+impl Tapes {
+    /// No block of any of the tapes.
+    ///
+    /// # Errors
+    ///
+    /// Returns the error of the memory: there are four places for each slot that a tape may have.
+    pub fn new(alloc: Global, wanted: Vec<Wanted>) -> Result<Tapes, AllocError>
+        ensures { IfOk result (HaveTaken wanted.items []) }
+    {
+        let airs = airs_for(alloc, &wanted)?;
+        Ok(Tapes { wanted, airs })
+    }
+}
+
+impl TakesPackets for Tapes {
+    ghost Given = { List Wanted };
+
+    ghost State = { List Known };
+
+    ghost taking = { for_tapes };
+
+    ghost HasTaken = { HaveTaken };
+
+    fn take(&mut self, before: u64, packet: &Captured) -> Result<(), AirFault> {
+        match offer(&mut self.airs, &self.wanted, packet) {
+            Ok(()) => Ok(()),
+            Err(kind) => Err(fault_at(before + 1, kind)),
         }
     }
 }
@@ -64,7 +108,7 @@ pub fn tapes_of_capture(
 }
 
 /// The tapes of a file, one after the other, of which this is known after all of its packets.
-pub(crate) fn made(alloc: Global, wanted: &[Wanted], airs: &[Air]) -> Result<Vec<u8>, TapesFault>
+fn made(alloc: Global, wanted: &[Wanted], airs: &[Air]) -> Result<Vec<u8>, TapesFault>
     requires { AreLong wanted.now (known_of_each airs.now) }
     ensures tapes { IfOk result (λ output. (input : List ℕ) →
         ComesTo (for_tapes wanted.now) input (known_of_each airs.now) →
@@ -91,23 +135,30 @@ pub(crate) fn read_file(
     ensures known { IfOk result (λ airs. ComesTo (for_tapes wanted.now) input.now (known_of_each airs.items)) }
     ensures fault { IfErr result (λ fault. IsFileFault (for_tapes wanted.now) input.now fault.packet fault.kind) }
 {
-    let (reader, octets) = match opened(alloc, input) {
-        Ok(opened) => opened,
-        Err(kind) => return Err(fault_at(0, kind)),
-    };
-    let mut front = Frontier {
-        reader,
-        airs: airs_for(alloc, wanted)?,
-        packets: 0,
-    };
-    let taken = match front.take_pieces(wanted, octets) {
-        Ok(taken) => taken,
-        Err(fault) => return Err(fault),
-    };
-    if taken < octets.len() {
-        return Err(fault_at(front.packets + 1, AirFaultKind::Short));
+    let tapes = Tapes::new(alloc, Vec::from_slice(alloc, wanted)?)?;
+    match take_all(alloc, input, tapes) {
+        Ok(tapes) => Ok(tapes.airs),
+        Err(fault) => Err(fault),
     }
-    Ok(front.airs)
+}
+
+/// The tapes, one after the other, of the file that all octets are which came to a walk.
+///
+/// # Errors
+///
+/// Those of [`tapes_of_capture`].
+pub fn tapes_of_walk(alloc: Global, walk: Walk<Tapes>) -> Result<Vec<u8>, TapesFault>
+    requires { OfSome IsWalkFor walk 0 }
+    ensures tapes { IfOk result (λ output. (wanted : List Wanted) (input : List ℕ) →
+        IsWalkFor wanted input walk → AreTapesOfCapture wanted input output.items) }
+    ensures fault { IfErr result (λ fault. (wanted : List Wanted) (input : List ℕ) →
+        IsWalkFor wanted input walk → IsTapesFault wanted input fault) }
+{
+    let tapes = match walk.end() {
+        Ok(tapes) => tapes,
+        Err(fault) => return Err(TapesFault::Air(fault)),
+    };
+    made(alloc, &tapes.wanted, &tapes.airs)
 }
 
 /// No block of any of the tapes.
@@ -119,31 +170,6 @@ pub(crate) fn airs_for(alloc: Global, wanted: &[Wanted]) -> Result<Vec<Air>, All
         airs.push(air_for(alloc, one)?)?;
     }
     Ok(airs)
-}
-
-/// Offers the packet that was found, if one was, to each tape, and returns how many packets there were.
-pub(crate) fn take(
-    airs: &mut Vec<Air>,
-    wanted: &[Wanted],
-    found: &Found,
-) -> Result<u64, AirFaultKind>
-    requires many { length airs.old.items ≡ length wanted.now }
-    requires near { AreNear (2 ^ 59) (known_of_each airs.old.items) }
-    ensures placed { OnOk result (after_found (after_each wanted.now) (known_of_each airs.old.items) found.now
-        ≡ Ok (known_of_each airs.new.items)) }
-    ensures many { IfOk result (λ packets. packets ≡ count_of found.now) }
-    ensures fault { IfErr result (λ kind. after_found (after_each wanted.now) (known_of_each airs.old.items) found.now
-        ≡ Err kind) }
-    ensures kinds { IfErr result (IsFoundKind found.now) }
-{
-    match found {
-        Found::Packet(packet) => match offer(airs, wanted, packet) {
-            Ok(()) => Ok(1),
-            Err(kind) => Err(kind),
-        },
-        Found::Nothing => Ok(0),
-        Found::Wrong => Err(AirFaultKind::WrongBlock),
-    }
 }
 
 /// Offers a packet to each tape.

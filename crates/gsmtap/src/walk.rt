@@ -1,19 +1,19 @@
-//! A capture file that comes in parts, and the tapes that it is.
+//! A capture file that comes in parts, and whose packets a taker takes.
 
 ghost use Rattle.std.specs.Prelude.{◌≡◌, ◌≤◌, ◌++◌, ℕ, List, [], false, drop, length, IfErr, IfOk, MatchBool, OnOk};
 ghost use Rattle.gsmtap.specs.File.{is_pcapng};
-ghost use Rattle.gsmtap.specs.TapesOfCapture.{AreTapesOfCapture, IsTapesFault};
+ghost use Rattle.gsmtap.specs.Taken.{IsFileFault};
+ghost use Rattle.gsmtap.specs.Taker.{HasTakenAll};
 ghost use Rattle.gsmtap.specs.Walk.{IsLastingFault, HasNoBegin, IsWalkOf, OfSome};
 ghost use Rattle.gsmtap.specs.WalkSteps.{IsToOpen, IsToTake};
-ghost use Rattle.gsmtap.specs.declared.tape.Wanted.{Wanted};
 
 use crate::fault::{AirFault, AirFaultKind};
 use crate::file::is_pcapng;
 use crate::frontier::Frontier;
 use crate::pieces::Reader;
-use crate::tape::{FILE_HEADER, Wanted, fault_at, opened};
-use crate::tapes::{TapesFault, airs_for, made};
-use std::alloc::{AllocError, Global};
+use crate::taker::TakesPackets;
+use crate::tape::{FILE_HEADER, fault_at, opened};
+use std::alloc::Global;
 
 /// How far a walk has come.
 #[derive(Clone, Copy, Debug, PartialEq, Eq)]
@@ -26,46 +26,39 @@ pub enum WalkStage {
     Fault(AirFault),
 }
 
-/// A walk over a capture file that comes in parts, for the tapes that are wanted of it. It holds what is known of the
-/// tapes, and the octets of the packet or block that isn't whole yet.
+/// A walk over a capture file that comes in parts, and whose packets a taker takes. It holds the taker, and the octets
+/// of the packet or block that isn't whole yet.
 #[derive(Drop)]
-pub struct Walk {
+pub struct Walk<T> {
     alloc: Global,
-    wanted: Vec<Wanted>,
     stage: WalkStage,
-    front: Frontier,
+    front: Frontier<T>,
     left: Vec<u8>,
 }
 
-impl Walk {
+impl<T: TakesPackets> Walk<T> {
     /// A walk over a file of which nothing came yet.
-    ///
-    /// # Errors
-    ///
-    /// Returns the error of the memory: there are four places for each slot that a tape may have.
-    pub fn new(alloc: Global, wanted: Vec<Wanted>) -> Result<Walk, AllocError>
-        ensures { IfOk result (IsWalkOf wanted.items []) }
+    pub fn new(alloc: Global, taker: T) -> Walk<T>
+        ensures { (given : T.Given) → T.HasTaken given [] taker → IsWalkOf T.taking T.HasTaken given [] result }
     {
-        let airs = airs_for(alloc, &wanted)?;
-        Ok(Walk {
+        Walk {
             alloc,
-            wanted,
             stage: WalkStage::Begin,
             front: Frontier {
                 reader: Reader::of_blocks(alloc),
-                airs,
+                taker,
                 packets: 0,
             },
             left: Vec::new(alloc),
-        })
+        }
     }
 
     /// Takes the next octets of the file, of less than 2^48 in all. Those that come after a fault, of which out of
     /// memory is one, are dropped.
     pub fn push(&mut self, octets: &[u8])
-        requires { OfSome IsWalkOf self.old (length octets.now) }
-        ensures { (wanted : List Wanted) (input : List ℕ) → IsWalkOf wanted input self.old →
-            IsWalkOf wanted (input ++ octets.now) self.new }
+        requires { OfSome (IsWalkOf T.taking T.HasTaken) self.old (length octets.now) }
+        ensures { (given : T.Given) (input : List ℕ) → IsWalkOf T.taking T.HasTaken given input self.old →
+            IsWalkOf T.taking T.HasTaken given (input ++ octets.now) self.new }
     {
         if let Err(fault) = self.take(octets) {
             self.stage = WalkStage::Fault(fault);
@@ -75,12 +68,13 @@ impl Walk {
 
     /// Takes octets, and the pieces that are whole by them.
     fn take(&mut self, octets: &[u8]) -> Result<(), AirFault>
-        requires { OfSome IsWalkOf self.old (length octets.now) }
-        ensures walked { OnOk result ((wanted : List Wanted) (input : List ℕ) → IsWalkOf wanted input self.old →
-            IsWalkOf wanted (input ++ octets.now) self.new) }
-        ensures wanted { self.new.wanted ≡ self.old.wanted }
-        ensures fault { IfErr result (λ fault. (wanted : List Wanted) (input : List ℕ) →
-            IsWalkOf wanted input self.old → IsLastingFault wanted (input ++ octets.now) fault) }
+        requires { OfSome (IsWalkOf T.taking T.HasTaken) self.old (length octets.now) }
+        ensures walked { OnOk result ((given : T.Given) (input : List ℕ) →
+            IsWalkOf T.taking T.HasTaken given input self.old →
+            IsWalkOf T.taking T.HasTaken given (input ++ octets.now) self.new) }
+        ensures fault { IfErr result (λ fault. (given : T.Given) (input : List ℕ) →
+            IsWalkOf T.taking T.HasTaken given input self.old →
+            IsLastingFault (T.taking given) (input ++ octets.now) fault) }
     {
         match self.stage {
             WalkStage::Begin => {
@@ -97,12 +91,11 @@ impl Walk {
 
     /// Says what the file is, if enough of it came, and takes its whole pieces.
     fn open(&mut self) -> Result<(), AirFault>
-        requires { OfSome IsToOpen self.old 0 }
-        ensures walked { OnOk result ((wanted : List Wanted) (input : List ℕ) → IsToOpen wanted input self.old →
-            IsWalkOf wanted input self.new) }
-        ensures wanted { self.new.wanted ≡ self.old.wanted }
-        ensures fault { IfErr result (λ fault. (wanted : List Wanted) (input : List ℕ) →
-            IsToOpen wanted input self.old → IsLastingFault wanted input fault) }
+        requires { OfSome (IsToOpen T.HasTaken) self.old 0 }
+        ensures walked { OnOk result ((given : T.Given) (input : List ℕ) →
+            IsToOpen T.HasTaken given input self.old → IsWalkOf T.taking T.HasTaken given input self.new) }
+        ensures fault { IfErr result (λ fault. (given : T.Given) (input : List ℕ) →
+            IsToOpen T.HasTaken given input self.old → IsLastingFault (T.taking given) input fault) }
     {
         if has_no_begin(&self.left) {
             return Ok(());
@@ -120,43 +113,47 @@ impl Walk {
 
     /// Takes the whole pieces of what is left.
     fn take_pieces(&mut self) -> Result<(), AirFault>
-        requires { OfSome IsToTake self.old 0 }
-        ensures walked { OnOk result ((wanted : List Wanted) (input : List ℕ) → IsToTake wanted input self.old →
-            IsWalkOf wanted input self.new) }
-        ensures wanted { self.new.wanted ≡ self.old.wanted }
-        ensures fault { IfErr result (λ fault. (wanted : List Wanted) (input : List ℕ) →
-            IsToTake wanted input self.old → IsLastingFault wanted input fault) }
+        requires { OfSome (IsToTake T.taking T.HasTaken) self.old 0 }
+        ensures walked { OnOk result ((given : T.Given) (input : List ℕ) →
+            IsToTake T.taking T.HasTaken given input self.old → IsWalkOf T.taking T.HasTaken given input self.new) }
+        ensures fault { IfErr result (λ fault. (given : T.Given) (input : List ℕ) →
+            IsToTake T.taking T.HasTaken given input self.old → IsLastingFault (T.taking given) input fault) }
     {
-        let taken = match self.front.take_pieces(&self.wanted, &self.left) {
+        let taken = match self.front.take_pieces(&self.left) {
             Ok(taken) => taken,
             Err(fault) => return Err(fault),
         };
         drop_front(&mut self.left, taken);
         Ok(())
     }
+}
 
-    /// The tapes, one after the other, of the file that all octets are which came.
+impl<T: TakesPackets + Drop> Walk<T> {
+    /// The taker, which has all packets of the file that all octets are which came.
     ///
     /// # Errors
     ///
-    /// Those of [`tapes_of_capture`](crate::tapes_of_capture).
-    pub fn end(self) -> Result<Vec<u8>, TapesFault>
-        requires { OfSome IsWalkOf self 0 }
-        ensures tapes { IfOk result (λ output. (wanted : List Wanted) (input : List ℕ) →
-            IsWalkOf wanted input self → AreTapesOfCapture wanted input output.items) }
-        ensures fault { IfErr result (λ fault. (wanted : List Wanted) (input : List ℕ) →
-            IsWalkOf wanted input self → IsTapesFault wanted input fault) }
+    /// Returns the fault of the first packet or block that has one, or of the file's begin, which is packet 0, and out
+    /// of memory.
+    pub fn end(self) -> Result<T, AirFault>
+        requires { OfSome (IsWalkOf T.taking T.HasTaken) self 0 }
+        ensures taken { IfOk result (λ taker. (given : T.Given) (input : List ℕ) →
+            IsWalkOf T.taking T.HasTaken given input self →
+            HasTakenAll (T.taking given) (T.HasTaken given) input taker) }
+        ensures fault { IfErr result (λ fault. (given : T.Given) (input : List ℕ) →
+            IsWalkOf T.taking T.HasTaken given input self →
+            IsFileFault (T.taking given) input fault.packet fault.kind) }
     {
         match self.stage {
-            WalkStage::Begin => Err(TapesFault::Air(fault_at(0, AirFaultKind::NoCapture))),
+            WalkStage::Begin => Err(fault_at(0, AirFaultKind::NoCapture)),
             WalkStage::Pieces => {
                 if self.left.is_empty() {
-                    made(self.alloc, &self.wanted, &self.front.airs)
+                    Ok(self.front.taker)
                 } else {
-                    Err(TapesFault::Air(fault_at(self.front.packets + 1, AirFaultKind::Short)))
+                    Err(fault_at(self.front.packets + 1, AirFaultKind::Short))
                 }
             }
-            WalkStage::Fault(fault) => Err(TapesFault::Air(fault)),
+            WalkStage::Fault(fault) => Err(fault),
         }
     }
 }

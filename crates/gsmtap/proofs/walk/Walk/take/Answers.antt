@@ -6,37 +6,43 @@ use Rattle.gsmtap.proofs.Walks.{at_begin, at_fault, at_pieces, fault_longer, lef
 use Rattle.gsmtap.proofs.walk.Walk.take.Goals as goal
 
 pub take_pieces-requires : goal.take_pieces-requires
-take_pieces-requires c =
-    let walk = c.args.self.now in (
-      c.requires.0,
-      c.requires.1 ++ c.args.octets.now,
-      record {
-        wanted_are = c.requires.2.wanted_are;
+take_pieces-requires g c =
+    let some = c.requires in
+    let taking = g.T.TakesPackets.taking in
+    let HasTaken = g.T.TakesPackets.HasTaken in
+    let walk = c.args.self.now in
+    record {
+      given = some.given;
+      input = some.input ++ c.args.octets.now;
+      is = record {
         stage_is = c.in-Pieces.is;
         left =
-            subst (λ octets. AreLeft c.requires.0 (c.requires.1 ++ c.args.octets.now) walk.front octets)
+            subst
+            (λ octets. AreLeft (taking some.given) (HasTaken some.given) (some.input ++ c.args.octets.now) walk.front
+            octets)
             (sym c.in_ok-extend_from_slice-in-Pieces.ensures.items)
-            (left_longer c.requires.0 c.requires.1 walk.front walk.left.items c.args.octets.now
-            (at_pieces c.requires.0 c.requires.1 walk c.requires.2 c.in-Pieces.is).0);
-      },
-      omega (arith, c.requires.3, length-append c.requires.1 c.args.octets.now),
-    )
+            (left_longer (taking some.given) (HasTaken some.given) some.input walk.front walk.left.items
+            c.args.octets.now
+            (at_pieces taking HasTaken some.given some.input walk some.is c.in-Pieces.is).0);
+      };
+      few = omega (arith, some.few, length-append some.input c.args.octets.now);
+    }
 
 pub returns-in_ok-extend_from_slice-in-Begin-clause-fault :
     goal.returns-in_ok-extend_from_slice-in-Begin-clause-fault
-returns-in_ok-extend_from_slice-in-Begin-clause-fault c =
+returns-in_ok-extend_from_slice-in-Begin-clause-fault g c =
     let walk = c.args.self.now in
     IfErr-weaker c.open.result _ _
-    (λ fault has wanted input is.
-    let unopened = at_begin wanted input walk is c.in-Begin.is in
-    has wanted (input ++ c.args.octets.now) (record {
-      wanted_are = is.wanted_are;
+    (λ fault has given input is.
+    let unopened = at_begin g.T.TakesPackets.taking g.T.TakesPackets.HasTaken given input walk is
+    c.in-Begin.is in
+    has given (input ++ c.args.octets.now) (record {
       stage_is = c.in-Begin.is;
       unopened = record {
         left_are =
             c.in_ok-extend_from_slice-in-Begin.ensures.items
             ∙ ap (λ front. front ++ c.args.octets.now) unopened.left_are;
-        none = unopened.none;
+        has = unopened.has;
         number = unopened.number;
       };
     }))
@@ -44,45 +50,51 @@ returns-in_ok-extend_from_slice-in-Begin-clause-fault c =
 
 pub returns-in_ok-extend_from_slice-in-Pieces-clause-walked :
     goal.returns-in_ok-extend_from_slice-in-Pieces-clause-walked
-returns-in_ok-extend_from_slice-in-Pieces-clause-walked c =
+returns-in_ok-extend_from_slice-in-Pieces-clause-walked g c =
     let walk = c.args.self.now in
     on_ok_weaker c.take_pieces.result
-    (λ walks wanted input is.
-    walks wanted (input ++ c.args.octets.now) (record {
-      wanted_are = is.wanted_are;
+    (λ walks given input is.
+    let taking = g.T.TakesPackets.taking in
+    let HasTaken = g.T.TakesPackets.HasTaken in
+    walks given (input ++ c.args.octets.now) (record {
       stage_is = c.in-Pieces.is;
       left =
-          subst (λ octets. AreLeft wanted (input ++ c.args.octets.now) walk.front octets)
+          subst (λ octets. AreLeft (taking given) (HasTaken given) (input ++ c.args.octets.now) walk.front octets)
           (sym c.in_ok-extend_from_slice-in-Pieces.ensures.items)
-          (left_longer wanted input walk.front walk.left.items c.args.octets.now
-          (at_pieces wanted input walk is c.in-Pieces.is).0);
+          (left_longer (taking given) (HasTaken given) input walk.front walk.left.items c.args.octets.now
+          (at_pieces taking HasTaken given input walk is c.in-Pieces.is).0);
     }))
     c.take_pieces.ensures.walked
 
 pub returns-in_ok-extend_from_slice-in-Pieces-clause-fault :
     goal.returns-in_ok-extend_from_slice-in-Pieces-clause-fault
-returns-in_ok-extend_from_slice-in-Pieces-clause-fault c =
+returns-in_ok-extend_from_slice-in-Pieces-clause-fault g c =
     let walk = c.args.self.now in
     IfErr-weaker c.take_pieces.result _ _
-    (λ fault has wanted input is.
-    has wanted (input ++ c.args.octets.now) (record {
-      wanted_are = is.wanted_are;
+    (λ fault has given input is.
+    let taking = g.T.TakesPackets.taking in
+    let HasTaken = g.T.TakesPackets.HasTaken in
+    has given (input ++ c.args.octets.now) (record {
       stage_is = c.in-Pieces.is;
       left =
-          subst (λ octets. AreLeft wanted (input ++ c.args.octets.now) walk.front octets)
+          subst (λ octets. AreLeft (taking given) (HasTaken given) (input ++ c.args.octets.now) walk.front octets)
           (sym c.in_ok-extend_from_slice-in-Pieces.ensures.items)
-          (left_longer wanted input walk.front walk.left.items c.args.octets.now
-          (at_pieces wanted input walk is c.in-Pieces.is).0);
+          (left_longer (taking given) (HasTaken given) input walk.front walk.left.items c.args.octets.now
+          (at_pieces taking HasTaken given input walk is c.in-Pieces.is).0);
     }))
     c.take_pieces.ensures.fault
 
 pub returns-in-Fault-clause-walked : goal.returns-in-Fault-clause-walked
-returns-in-Fault-clause-walked c wanted input is =
+returns-in-Fault-clause-walked g c given input is =
+    let taking = g.T.TakesPackets.taking in
+    let HasTaken = g.T.TakesPackets.HasTaken in
     let walk = c.args.self.now in
     record {
-      wanted_are = is.wanted_are;
       stands =
-          subst (λ (it : WalkStage). StandsAt it wanted (input ++ c.args.octets.now) walk.front walk.left.items)
+          subst
+          (λ (it : WalkStage). StandsAt it (taking given) (HasTaken given) (input ++ c.args.octets.now) walk.front
+          walk.left.items)
           (sym c.in-Fault.is)
-          (fault_longer wanted input _ c.args.octets.now (at_fault wanted input walk _ is c.in-Fault.is));
+          (fault_longer (taking given) input _ c.args.octets.now
+          (at_fault taking HasTaken given input walk _ is c.in-Fault.is));
     }

@@ -1,8 +1,9 @@
-use Rattle.std.proofs.Common.{◌∙◌}
-use Rattle.gsmtap.proofs.Walks.{fault_for}
+use Rattle.std.proofs.Common.{subst, sym}
+use Rattle.gsmtap.specs.Walk.{AreLeft}
 use Rattle.gsmtap.proofs.walk.Walk.take_pieces.Goals as goal
 
 pub returns-in-Err-clause-fault : goal.returns-in-Err-clause-fault
-returns-in-Err-clause-fault c wanted input is =
-    fault_for c.deref.result.now wanted c.deref-2.result.now c.args.self.now.left.items c.args.self.now.front input
-    c.in-Err.fault (c.deref.ensures.value ∙ is.wanted_are) c.deref-2.ensures.value c.in-Err.ensures.fault is.left
+returns-in-Err-clause-fault g c given input is =
+    c.in-Err.ensures.fault given input
+    (subst (λ octets. AreLeft (g.T.TakesPackets.taking given) (g.T.TakesPackets.HasTaken given) input
+    c.args.self.now.front octets) (sym c.deref.ensures.value) is.left)
