@@ -4,6 +4,8 @@ use Rattle.std.proofs.Common.{IfSome}
 use Rattle.std.proofs.lemmas.List.{length-take}
 use Rattle.device_ends.specs.Moves.{ReadsUpTo}
 use Rattle.device_ends.proofs.EndLaws.{ReadsUpTo-take, ReadsUpTo-whole}
+use Rattle.gsmtap.specs.TapesTaken.{IsWalkFor}
+use Rattle.gsmtap.specs.declared.tapes.Tapes.{Tapes}
 use Rattle.gsmtap.specs.declared.walk.Walk.{Walk}
 use Rattle.warnc_air.specs.AllTapes.{HadMore, IsCaptureFault, ReadsWith, all_wanted}
 use Rattle.warnc_air.specs.AllTapesSteps.{IsMakingFault}
@@ -20,8 +22,8 @@ all_read None new octets reads few = tt
 all_read (Some left) new octets reads few = sym (ReadsUpTo-whole left new octets max_capture reads few)
 
 -- of all octets of a reader this is so
-pub reads_with : (IsSo : List ℕ → Type 0) (first last : Walk) (count : ℕ) (old new : Option (List ℕ))
-    (walks : WalksUpTo first last count max_capture old new) → count ≤ max_capture → IsSo walks.octets →
+pub reads_with : (IsSo : List ℕ → Type 0) (first last : Walk Tapes) (count : ℕ) (old new : Option (List ℕ))
+    (walks : WalksUpTo IsWalkFor first last count max_capture old new) → count ≤ max_capture → IsSo walks.octets →
     ReadsWith max_capture IsSo old new
 reads_with IsSo first last count old new walks few so =
     let short : length walks.octets ≤ max_capture = omega (arith, walks.many, few) in
@@ -43,15 +45,15 @@ more_read (Some left) new octets reads many =
     omega (arith, front, many)
 
 -- or there are too many
-pub had_more : (first last : Walk) (count : ℕ) (old new : Option (List ℕ)) →
-    WalksUpTo first last count max_capture old new → max_capture < count → HadMore max_capture old
+pub had_more : (first last : Walk Tapes) (count : ℕ) (old new : Option (List ℕ)) →
+    WalksUpTo IsWalkFor first last count max_capture old new → max_capture < count → HadMore max_capture old
 had_more first last count old new walks many =
     more_read old new walks.octets walks.reads (omega (arith, walks.many, many))
 
 -- a fault of a capture's octets is one of what was read
-pub making_fault : (all : AllWanted) (rows : List CellRow) (first last : Walk) (count : ℕ)
-    (old new : Option (List ℕ)) (walks : WalksUpTo first last count max_capture old new) → count ≤ max_capture →
-    (fault : AllTapesFault) → IsMakingFault (all_wanted all rows) walks.octets fault →
+pub making_fault : (all : AllWanted) (rows : List CellRow) (first last : Walk Tapes) (count : ℕ)
+    (old new : Option (List ℕ)) (walks : WalksUpTo IsWalkFor first last count max_capture old new) →
+    count ≤ max_capture → (fault : AllTapesFault) → IsMakingFault (all_wanted all rows) walks.octets fault →
     IsCaptureFault all rows old new fault
 making_fault all rows first last count old new walks few faults.TableReadFailed is = absurd is
 making_fault all rows first last count old new walks few faults.TableTooLong is = absurd is

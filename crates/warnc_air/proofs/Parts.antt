@@ -4,24 +4,24 @@ use Rattle.std.proofs.Common.{Option, Result, Ok, Err, OnErr}
 use Rattle.std.proofs.KnownBytes.{Consumes-trans}
 use Rattle.std.specs.Io.KnownBytes.{Consumes}
 use Rattle.device_ends.specs.Moves.{ConsumesSome}
-use Rattle.gsmtap.specs.Walk.{IsWalkOf}
 use Rattle.gsmtap.specs.declared.walk.Walk.{Walk}
 use Rattle.warnc_air.specs.TapeOutput.{max_capture}
-use Rattle.warnc_air.specs.WalkSteps.{HasTaken, WalksUpTo}
+use Rattle.warnc_air.specs.WalkSteps.{HasWalked, WalksUpTo}
 
 -- octets, and then others
-pub taken_more : (first mid last : Walk) (octets others : List ℕ) → HasTaken first octets mid →
-    HasTaken mid others last → HasTaken first (octets ++ others) last
-taken_more first mid last octets others before after wanted input is =
-    subst (λ all. IsWalkOf wanted all last) (append_assoc input octets others)
-    (after wanted (input ++ octets) (before wanted input is))
+pub taken_more : {G T : Type 0} (IsOf : G → List ℕ → Walk T → Type 0) (first mid last : Walk T)
+    (octets others : List ℕ) → HasWalked IsOf first octets mid → HasWalked IsOf mid others last →
+    HasWalked IsOf first (octets ++ others) last
+taken_more IsOf first mid last octets others before after given input is =
+    subst (λ all. IsOf given all last) (append_assoc input octets others)
+    (after given (input ++ octets) (before given input is))
 
 -- the last part, which is shorter than the room for it
-pub last_part : (first mid last : Walk) (old now then : Option (List ℕ)) (octets : List ℕ) (read count room : ℕ) →
-    Consumes old now octets → length octets ≡ read → HasTaken first octets mid →
-    WalksUpTo mid last count (room - 1) now then → count < room → read + room ≤ max_capture + 1 →
-    WalksUpTo first last (read + count) max_capture old then
-last_part first mid last old now then octets read count room consumed many taken walks fewer fits =
+pub last_part : {G T : Type 0} (IsOf : G → List ℕ → Walk T → Type 0) (first mid last : Walk T)
+    (old now then : Option (List ℕ)) (octets : List ℕ) (read count room : ℕ) → Consumes old now octets →
+    length octets ≡ read → HasWalked IsOf first octets mid → WalksUpTo IsOf mid last count (room - 1) now then →
+    count < room → read + room ≤ max_capture + 1 → WalksUpTo IsOf first last (read + count) max_capture old then
+last_part IsOf first mid last old now then octets read count room consumed many taken walks fewer fits =
     let whole : length (octets ++ walks.octets) ≡ length octets + length walks.octets =
     length-append octets walks.octets in
     record {
@@ -32,7 +32,7 @@ last_part first mid last old now then octets read count room consumed many taken
         bounded = omega (arith, whole, many, walks.many, fewer, fits);
       };
       many = omega (arith, whole, many, walks.many);
-      taken = taken_more first mid last octets walks.octets taken walks.taken;
+      taken = taken_more IsOf first mid last octets walks.octets taken walks.taken;
     }
 
 -- a part that can't be read

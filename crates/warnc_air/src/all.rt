@@ -1,6 +1,6 @@
 //! The command `tape --all`: a table of cells and a capture file to the tapes of the cells.
 
-ghost use Rattle.std.specs.Prelude.{◌≡◌, ◌≢◌, ◌↔◌, ◌+◌, ◌<◌, ℕ, List, false, true, map, IfErr, IfOk, IsErrOf};
+ghost use Rattle.std.specs.Prelude.{◌≡◌, ◌≢◌, ◌↔◌, ◌+◌, ◌<◌, ℕ, List, [], false, true, map, IfErr, IfOk, IsErrOf};
 ghost use Rattle.std.specs.Prelude.{IsTrue, MatchOption, OnOk};
 ghost use Rattle.device_ends.specs.Moves.{ConsumesSome};
 ghost use Rattle.device_ends.specs.ReadFault.{reports_device};
@@ -8,7 +8,7 @@ ghost use Rattle.device_ends.specs.Sink.{sink_failed};
 ghost use Rattle.device_ends.specs.Source.{source_failed};
 ghost use Rattle.device_ends.specs.Stream.{Reads, Writes};
 ghost use Rattle.gsmtap.specs.TapesOfCapture.{AreTapesOfCapture};
-ghost use Rattle.gsmtap.specs.Walk.{IsWalkOf};
+ghost use Rattle.gsmtap.specs.TapesTaken.{IsWalkFor};
 ghost use Rattle.gsmtap.specs.declared.fault.AirFaultKind.TheVariants as kinds;
 ghost use Rattle.warnc_air.specs.AllTapes.{HadMore, IsAllTapesFault, IsCaptureFault, IsOfTable, IsUnwritten};
 ghost use Rattle.warnc_air.specs.AllTapes.{MakesTapes, ReadsTable, WritesTapes, all_wanted, readers_of, wanted_of};
@@ -21,7 +21,9 @@ use crate::cell_table::{CellRow, TableFault, cells_in};
 use crate::reading::walk_over;
 use crate::tape::MAX_INPUT;
 use device_ends::{Failed, ReadFault, Sink, Source, read_up_to, write_all};
-use gsmtap::{AirFault, AirFaultKind, ChannelType, Sender, TapesFault, Walk, Wanted};
+use gsmtap::{
+    AirFault, AirFaultKind, ChannelType, Sender, Tapes, TapesFault, Walk, Wanted, tapes_of_walk,
+};
 use std::alloc::{AllocError, AllocFailed, Global};
 use std::io::{Read, Write};
 use thiserror::Error;
@@ -182,7 +184,7 @@ fn make_tapes<R: Read>(
     if source.failed() {
         return Err(AllTapesFault::ReadFailed);
     }
-    let mut walk = Walk::new(alloc, all_wanted(alloc, wanted, rows)?)?;
+    let mut walk = walk_for(alloc, wanted, rows)?;
     let count = match walk_over(alloc, source, &mut walk) {
         Ok(count) => count,
         Err(ReadFault::Device) => return Err(AllTapesFault::ReadFailed),
@@ -191,7 +193,15 @@ fn make_tapes<R: Read>(
     if count > MAX_INPUT {
         return Err(AllTapesFault::TooLong);
     }
-    tapes_of(walk)
+    tapes_of(alloc, walk)
+}
+
+/// A walk over a capture file for the tapes of cells.
+fn walk_for(alloc: Global, wanted: &AllWanted, rows: &[CellRow]) -> Result<Walk<Tapes>, AllocError>
+    ensures { IfOk result (IsWalkFor (all_wanted wanted.now rows.now) []) }
+{
+    let wanted = all_wanted(alloc, wanted, rows)?;
+    Ok(Walk::new(alloc, Tapes::new(alloc, wanted)?))
 }
 
 /// All octets that a reader gives; none if they are more than these.
@@ -215,14 +225,14 @@ fn read_within<R: Read>(
 }
 
 /// The tapes of the capture that a walk was over.
-fn tapes_of(walk: Walk) -> Result<Vec<u8>, AllTapesFault>
+fn tapes_of(alloc: Global, walk: Walk<Tapes>) -> Result<Vec<u8>, AllTapesFault>
     requires { IsWalkedOver walk }
-    ensures ok { IfOk result (λ output. (wanted : List Wanted) (capture : List ℕ) → IsWalkOf wanted capture walk →
+    ensures ok { IfOk result (λ output. (wanted : List Wanted) (capture : List ℕ) → IsWalkFor wanted capture walk →
         AreTapesOfCapture wanted capture output.items) }
-    ensures err { IfErr result (λ fault. (wanted : List Wanted) (capture : List ℕ) → IsWalkOf wanted capture walk →
+    ensures err { IfErr result (λ fault. (wanted : List Wanted) (capture : List ℕ) → IsWalkFor wanted capture walk →
         IsMakingFault wanted capture fault) }
 {
-    match walk.end() {
+    match tapes_of_walk(alloc, walk) {
         Ok(output) => Ok(output),
         Err(TapesFault::NoBlock(place)) => Err(AllTapesFault::NoBlock(place + 2)),
         Err(TapesFault::Air(fault)) => Err(fault_of_air(fault)),

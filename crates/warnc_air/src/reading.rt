@@ -5,12 +5,13 @@ ghost use Rattle.device_ends.specs.Moves.{ConsumesSome};
 ghost use Rattle.device_ends.specs.ReadFault.{reports_device};
 ghost use Rattle.device_ends.specs.Source.{source_failed};
 ghost use Rattle.device_ends.specs.Stream.{Reads};
+ghost use Rattle.gsmtap.specs.Walk.{IsWalkOf};
 ghost use Rattle.warnc_air.specs.TapeOutput.{max_capture};
 ghost use Rattle.warnc_air.specs.WalkSteps.{IsNewWalk, IsWithin, WalksUpTo};
 
 use crate::tape::MAX_INPUT;
 use device_ends::{ReadFault, Source, read_up_to};
-use gsmtap::Walk;
+use gsmtap::{TakesPackets, Walk};
 use std::alloc::Global;
 use std::io::Read;
 
@@ -23,14 +24,14 @@ const PART: usize = 0x1_0000;
 /// # Errors
 ///
 /// Those of [`read_up_to`].
-pub(crate) fn walk_over<R: Read>(
+pub(crate) fn walk_over<R: Read, T: TakesPackets>(
     alloc: Global,
     source: &mut Source<R>,
-    walk: &mut Walk,
+    walk: &mut Walk<T>,
 ) -> Result<usize, ReadFault>
-    requires { IsNewWalk walk.old }
-    ensures walks { IfOk result (λ count. Reads R.remaining (λ old new. WalksUpTo walk.old walk.new count max_capture
-        old new) source.old source.new) }
+    requires { IsNewWalk (IsWalkOf T.taking T.HasTaken) walk.old }
+    ensures walks { IfOk result (λ count. Reads R.remaining (λ old new. WalksUpTo (IsWalkOf T.taking T.HasTaken)
+        walk.old walk.new count max_capture old new) source.old source.new) }
     ensures err { OnErr result (Reads R.remaining (λ old new. ConsumesSome old new (MAX_INPUT + 1)) source.old
         source.new) }
     ensures failed { source_failed source.new ≡ reports_device result }
@@ -50,17 +51,17 @@ pub(crate) fn walk_over<R: Read>(
 
 /// Hands the next octets of a reader to a walk, this many at most and fewer only at the reader's end, and returns how
 /// many they are.
-fn walk_part<R: Read>(
+fn walk_part<R: Read, T: TakesPackets>(
     alloc: Global,
     source: &mut Source<R>,
-    walk: &mut Walk,
+    walk: &mut Walk<T>,
     room: usize,
 ) -> Result<usize, ReadFault>
     requires some { 0 < room }
     requires few { room ≤ PART }
-    requires walk { IsWithin walk.old }
-    ensures walks { IfOk result (λ count. Reads R.remaining (λ old new. WalksUpTo walk.old walk.new count (room - 1)
-        old new) source.old source.new) }
+    requires walk { IsWithin (IsWalkOf T.taking T.HasTaken) walk.old }
+    ensures walks { IfOk result (λ count. Reads R.remaining (λ old new. WalksUpTo (IsWalkOf T.taking T.HasTaken)
+        walk.old walk.new count (room - 1) old new) source.old source.new) }
     ensures bound { IfOk result (λ count. count ≤ room) }
     ensures err { OnErr result (Reads R.remaining (λ old new. ConsumesSome old new room) source.old source.new) }
     ensures failed { source_failed source.new ≡ reports_device result }

@@ -5,12 +5,12 @@ ghost use Rattle.device_ends.specs.Moves.{ConsumesSome};
 ghost use Rattle.device_ends.specs.Source.{reader_of};
 ghost use Rattle.device_ends.specs.Stream.{FaultOfInput, IsStreamBetween, OutputOfInput};
 ghost use Rattle.gsmtap.specs.TapeOfCapture.{IsTapeOfCapture};
-ghost use Rattle.gsmtap.specs.Walk.{IsWalkOf};
+ghost use Rattle.gsmtap.specs.TapesTaken.{IsWalkFor};
 ghost use Rattle.warnc_air.specs.TapeOutput.{IsTapeCommandFault, IsTapeWriteFault, fault_of_air};
 
 use crate::reading::walk_over;
 use device_ends::{Failed, ReadFault, Sink, Source, write_all};
-use gsmtap::{AirFault, AirFaultKind, Walk, Wanted};
+use gsmtap::{AirFault, AirFaultKind, Tapes, Walk, Wanted, tapes_of_walk};
 use std::alloc::{AllocError, Global};
 use std::io::{Read, Write};
 use std::slice;
@@ -75,7 +75,7 @@ pub fn tape_stream<R: Read, W: Write>(
     if count > MAX_INPUT {
         return Err(TapeCommandFault::TooLong);
     }
-    let output = match walk.end() {
+    let output = match tapes_of_walk(alloc, walk) {
         Ok(output) => output,
         Err(fault) => return Err(fault_of_air(fault.alone())),
     };
@@ -86,10 +86,11 @@ pub fn tape_stream<R: Read, W: Write>(
 }
 
 /// A walk over a capture file for one tape.
-fn walk_for(alloc: Global, wanted: &Wanted) -> Result<Walk, AllocError>
-    ensures { IfOk result (IsWalkOf (wanted.now ∷ []) []) }
+fn walk_for(alloc: Global, wanted: &Wanted) -> Result<Walk<Tapes>, AllocError>
+    ensures { IfOk result (IsWalkFor (wanted.now ∷ []) []) }
 {
-    Walk::new(alloc, Vec::from_slice(alloc, slice::from_ref(wanted))?)
+    let wanted = Vec::from_slice(alloc, slice::from_ref(wanted))?;
+    Ok(Walk::new(alloc, Tapes::new(alloc, wanted)?))
 }
 
 /// The fault that a fault of a file is.

@@ -1,6 +1,6 @@
-use Rattle.std.proofs.Common.{◌≤◌, [], List, arith, subst}
+use Rattle.std.proofs.Common.{◌≤◌, [], List, arith}
 use Rattle.std.proofs.lemmas.Result.{IfErr-weaker}
-use Rattle.gsmtap.specs.Walk.{IsWalkOf}
+use Rattle.gsmtap.specs.TapesTaken.{IsWalkFor}
 use Rattle.gsmtap.specs.declared.tape.Wanted.{Wanted}
 use Rattle.warnc_air.specs.AllTapes.{all_wanted}
 use Rattle.warnc_air.specs.TapeOutput.{max_capture}
@@ -16,9 +16,7 @@ pub returns-clause-err : goal.returns-clause-err
 returns-clause-err g c =
     let walks = c.in-Ok.ensures.walks in
     let wanted : List Wanted = all_wanted c.args.wanted.now c.args.rows.now in
-    let is : IsWalkOf wanted walks.octets c.walk_over.new.walk =
-    walks.taken wanted []
-    (subst (λ (it : List Wanted). IsWalkOf it [] c.in_ok-walk.walk) c.in_ok-all_wanted.ensures c.in_ok-walk.ensures) in
+    let is : IsWalkFor wanted walks.octets c.walk_over.new.walk = walks.taken wanted [] c.in_ok-walk.ensures in
     let few : c.in-Ok.count ≤ max_capture = omega (arith, c.if-count-gt-MAX_INPUT.false) in
     IfErr-weaker c.tapes_of.result _ _
     (λ fault told.
