@@ -21,12 +21,12 @@
 //! answer says so if that comes to something else.
 
 ghost use Rattle.std.specs.Prelude.{◌<◌, ◌≤◌, [], length, IfSome};
-ghost use Rattle.gsmtap.specs.Walk.{IsWalkOf};
+ghost use Rattle.gsmtap.specs.TapesTaken.{IsWalkFor};
 
 use gsmtap::{
     AirFault, AirFaultKind, Channel, ChannelType, Heard, Sender, Settings, Slots, Start, Station,
-    TapesFault, Walk, Wanted, capture_of, carried_by, heard_in_capture, tape_of_capture,
-    tapes_of_capture,
+    Tapes, TapesFault, Walk, Wanted, capture_of, carried_by, heard_in_capture, tape_of_capture,
+    tapes_of_capture, tapes_of_walk,
 };
 use std::alloc::Global;
 use std::process::Abort;
@@ -186,15 +186,16 @@ fn walked(
         walk.push(&octets[came..end]);
         came = end;
     }
-    walk.end()
+    tapes_of_walk(alloc, walk)
 }
 
 /// A walk over a file for tapes, if there is memory.
-fn new_walk(alloc: Global, tapes: &[Wanted]) -> Option<Walk>
-    ensures { IfSome result (IsWalkOf tapes.now []) }
+fn new_walk(alloc: Global, tapes: &[Wanted]) -> Option<Walk<Tapes>>
+    ensures { IfSome result (IsWalkFor tapes.now []) }
 {
     let tapes = Vec::from_slice(alloc, tapes).ok()?;
-    Walk::new(alloc, tapes).ok()
+    let tapes = Tapes::new(alloc, tapes).ok()?;
+    Some(Walk::new(alloc, tapes))
 }
 
 /// Whether a file comes to the same tapes in parts as whole.

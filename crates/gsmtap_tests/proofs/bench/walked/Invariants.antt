@@ -1,11 +1,11 @@
 use Rattle.std.proofs.Common.{◌≡◌, ◌-◌, ◌≤◌, ℕ, List, length}
-use Rattle.gsmtap.specs.Walk.{IsWalkOf}
+use Rattle.gsmtap.specs.TapesTaken.{IsWalkFor}
 use Rattle.gsmtap.specs.declared.tape.Wanted.{Wanted}
 use Rattle.gsmtap_tests.proofs.bench.walked.Given as goal
 
 abbrev pub invariant-parts : goal.invariant-parts
 invariant-parts l = record {
-  walk : (wanted : List Wanted) × (input : List ℕ) × IsWalkOf wanted input l.walk × (length input ≡ l.came);
+  walk : (wanted : List Wanted) × (input : List ℕ) × IsWalkFor wanted input l.walk × (length input ≡ l.came);
   within : l.came ≤ length l.octets;
 }
 
