@@ -237,26 +237,29 @@ def cap(bench):
 
 
 def tape(bench, mebibytes="1024"):
-    """`tape` of a capture of as good as 1 GiB, the most that it reads, which another process writes into a pipe as it
-    makes it: seconds, beside those that `wc -c` takes for it, and its peak memory beside the size of the tape. Half a
-    minute."""
-    took = {}
-    for name, command in (("wc", ["wc", "-c"]), ("tape", [bench.program, "tape", "--cell", "1-1"])):
+    """`tape` and `cells` of a capture of as good as 1 GiB, the most that they read, which another process writes into a
+    pipe as it makes it: seconds, beside those that `wc -c` takes for it, and the peak of memory beside the size of the
+    output. Half a minute."""
+    took, peak = {}, {}
+    commands = {"wc": ["wc", "-c"], "tape": [bench.program, "tape", "--cell", "1-1"], "cells": [bench.program, "cells"]}
+    for name, command in commands.items():
         with open(bench.path(name), "wb") as output:
             begun = time.perf_counter()
             made = subprocess.Popen([sys.executable, "-B", INPUTS, f"capture-{mebibytes}"], stdout=subprocess.PIPE)
             process = subprocess.Popen(command, stdin=made.stdout, stdout=output)
             made.stdout.close()
             _, ended, used = os.wait4(process.pid, 0)
-            took[name] = time.perf_counter() - begun
+            took[name], peak[name] = time.perf_counter() - begun, used.ru_maxrss << 10
         process.returncode = os.waitstatus_to_exitcode(ended)
         if made.wait() or process.returncode:
             sys.exit(f"bench.py: {' '.join(command)}: status {process.returncode}")
     with open(bench.path("wc"), encoding="ascii") as it:
         octets = int(it.read())
-    made, peak = os.path.getsize(bench.path("tape")), used.ru_maxrss << 10
-    print(f"{octets / 1e6:.1f} MB  wc -c {took['wc']:.1f} s  warnc tape {took['tape']:.1f} s, "
-          f"{octets / took['tape'] / 1e6:.0f} MB/s, peak {peak / 1e6:.1f} MB; the tape has {made / 1e6:.1f} MB")
+    print(f"{octets / 1e6:.1f} MB  wc -c {took['wc']:.1f} s")
+    for name in ("tape", "cells"):
+        made, rate = os.path.getsize(bench.path(name)), octets / took[name]
+        print(f"warnc {name:5} {took[name]:.1f} s, {rate / 1e6:.0f} MB/s, peak {peak[name] / 1e6:.1f} MB; "
+              f"the output has {made / 1e6:.3f} MB")
 
 
 MEASURES = {"cap": cap, "cell": cell, "compile": compile_books, "library": library, "live": live, "network": network,

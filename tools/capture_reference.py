@@ -312,7 +312,7 @@ def carried_by(octets, source, arfcn, is_sdcch):
 
 
 def tape_of(octets, lac, cell, slots, source=None, channel=None, is_sdcch=False, first_slot=0):
-    blocks, first, last = {}, None, None
+    blocks, first, latest = {}, None, None
     for number, link, _, inside in packets_of(octets):
         if link not in LINKS:
             raise Refused(f"packet {number}: {unknown(link)}")
@@ -324,15 +324,16 @@ def tape_of(octets, lac, cell, slots, source=None, channel=None, is_sdcch=False,
         if part >= 4:
             continue
         if first is None:
-            first, last = slot, 0
+            first, latest, here = slot, 0, 0
         else:
-            step = (slot - first - last) % SLOTS
-            if step == SLOTS - 1 and last > 0:
+            step = (slot - first - latest) % SLOTS
+            if step == SLOTS - 1 and latest > 0:
                 step = -1
             elif step >= SLOTS // 2:
                 raise Refused(f"packet {number}: steps back{CHOOSE}")
-            last += step
-        there = first_slot + last
+            here = latest + step
+            latest = max(latest, here)
+        there = first_slot + here
         if there < (MOST_SLOTS if slots is None else slots) and blocks.setdefault(4 * there + part, block) != block:
             raise Refused(f"packet {number}: block differs{CHOOSE}")
     if first is None:

@@ -32,6 +32,8 @@ PARTS = ("src", "specs", "proofs")
 # what a check is likely to hold at most, in bytes
 MEMORY = 4 << 30
 TRIED = os.path.join(TOP, "tools", "edits_tried")
+# the first line of a function: what stands before it, and its name
+FUNCTION = r"(?m)^( *)(?:pub(?:\([a-z]+\))? )?(?:final )?(?:const )?fn (\w+)"
 
 
 def read_edit(path):
@@ -59,7 +61,7 @@ def read(folder, file):
 def function_at(text, place):
     """Returns the name of the function around a place of a file, or None if the place is in none."""
     found = None
-    for it in re.finditer(r"(?m)^( *)(?:pub(?:\([a-z]+\))? )?(?:final )?(?:const )?fn (\w+)", text):
+    for it in re.finditer(FUNCTION, text):
         if it.start() > place + len(it[0]):
             break
         end = re.compile(rf"(?m)^{it[1]}}}").search(text, it.end())
@@ -165,16 +167,52 @@ def has_open_goal(said, edit):
     return False
 
 
+def bodies(crate):
+    """Returns the bodies of a crate's functions by their names, of one name all together; comments are left out."""
+    found = {}
+    for folder, _, files in os.walk(os.path.join(crate, "src")):
+        for file in files:
+            text = re.sub(r"//.*", "", read(folder, file))
+            for it in re.finditer(FUNCTION, text):
+                end = re.compile(rf"(?m)^{it[1]}}}").search(text, it.end())
+                found.setdefault(it[2], []).append(text[it.end() : end.start() if end else len(text)])
+    return {name: "\n".join(texts) for name, texts in found.items()}
+
+
+def reached(crate):
+    """Returns which functions of a crate each of its functions calls, by their names, and those that these call. An
+    edit that stands on another one for all that is tried alone."""
+    texts = bodies(crate)
+    calls = {name: set(re.findall(r"(\w+)(?:::<[^()]*>)?\(", text)) & texts.keys() for name, text in texts.items()}
+    found = {}
+    for name in calls:
+        seen, left = set(), [name]
+        while left:
+            new = calls[left.pop()] - seen
+            seen |= new
+            left += new
+        found[name] = seen
+    return found
+
+
+def stands_on(reached_by, edit, other):
+    """Whether the function of one edit may call that of another, or the other way round. Then one check can't judge
+    both: the prover names the callee, and not the caller's own goal."""
+    ((_, one),), ((_, two),) = edit.functions, other.functions
+    return one == two or two in reached_by[one] or one in reached_by[two]
+
+
 def batches(crate, edits, size):
-    """Puts edits of different functions together, and returns these lists and the edits that can't share a check."""
-    shared, alone = [], []
+    """Puts edits of functions together that don't call one another, and returns these lists and the edits that can't
+    share a check."""
+    shared, alone, reached_by = [], [], reached(crate)
     for edit in edits:
         if not edit.is_of_one_function(crate):
             alone.append(edit)
             continue
         for batch, texts in shared:
-            others = all(edit.functions.isdisjoint(other.functions) for other in batch)
-            if len(batch) < size and others and edit.put_into(texts, crate):
+            apart = not any(stands_on(reached_by, edit, other) for other in batch)
+            if len(batch) < size and apart and edit.put_into(texts, crate):
                 batch.append(edit)
                 break
         else:

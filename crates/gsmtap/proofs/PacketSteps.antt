@@ -5,7 +5,6 @@ use Rattle.std.specs.List.{flat_map}
 use Rattle.std.proofs.lemmas.Grind.{flat_map-append}
 use Rattle.std.proofs.lemmas.List.{length-append, length-replicate, length_push}
 use Rattle.gsmtap.specs.File.{Packet}
-use Rattle.gsmtap.specs.HeardSteps.{IsHearingFault, for_counting, hearing_of}
 use Rattle.gsmtap.specs.PieceSteps.{BeginsWithPiece, IsFrontFault, meant, packet_of}
 use Rattle.gsmtap.specs.Pieces.{BeginWithPackets, BringAll, Brings, IsCutPiece, IsWrongPiece, least, meaning}
 use Rattle.gsmtap.specs.Pieces.{packets_in}
@@ -13,12 +12,10 @@ use Rattle.gsmtap.specs.Section.{Meaning, Section}
 use Rattle.gsmtap.specs.Taken.{AreKnown, AreTaken, EndsWith, HasWrongPacket, IsFileFault, IsFileWith, Opens, Taking}
 use Rattle.gsmtap.specs.Taken.{after_packets, taken}
 use Rattle.gsmtap.specs.TapeOfCapture.{IsAirFaultOf, for_tape, nothing_known}
-use Rattle.gsmtap.specs.TapeSteps.{IsBeginFault, IsFoundKind, IsPacketKind, IsPieceFault, IsPieceFaultOf}
+use Rattle.gsmtap.specs.TapeSteps.{IsBeginFault, IsFoundKind, IsPacketKind, IsPieceFaultOf}
 use Rattle.gsmtap.specs.TapeSteps.{after_found, count_of}
 use Rattle.gsmtap.specs.Track.{Known}
-use Rattle.gsmtap.specs.declared.fault.AirFault.{AirFault}
 use Rattle.gsmtap.specs.declared.fault.AirFaultKind.{AirFaultKind}
-use Rattle.gsmtap.specs.declared.heard.Heard.{Heard}
 use Rattle.gsmtap.specs.declared.fault.AirFaultKind.TheVariants as kind
 use Rattle.gsmtap.specs.declared.pieces.Format.{Format}
 use Rattle.gsmtap.specs.declared.pieces.Format.TheVariants.{Classic, Pcapng}
@@ -62,7 +59,7 @@ after_more step number (Ok old) (first ∷ packets) packet known is =
 after_more step number (Err why) (first ∷ packets) packet known is = cc
 
 -- what is known after one packet more
-taken_more : {S : Type 0} (by : Taking S) (packets : List Packet) (packet : Packet) (known : S)
+pub taken_more : {S : Type 0} (by : Taking S) (packets : List Packet) (packet : Packet) (known : S)
     (result : Result S AirFaultKind) → taken by packets ≡ Ok known → by.step known packet ≡ result →
     taken by (packets ++ packet ∷ []) ≡ after_packets by.step (length packets + 1) result []
 unfolding taken
@@ -357,17 +354,3 @@ tape_fault_of_pieces wanted input here after number why opens is =
 pub tape_fault_of_begin : (wanted : Wanted) (input : List ℕ) (why : AirFaultKind) → IsBeginFault input why →
     IsAirFaultOf wanted input 0 why
 tape_fault_of_begin wanted input why is = of_tape wanted input 0 why (fault_of_begin (for_tape wanted) input why is)
-
--- what stops the naming of senders at the packet that was found next stops a file whose packets were taken up to it
-pub stops_hearing : (here : Section) (octets : List ℕ) (there : Section) (left : List ℕ) (number : ℕ)
-    (heard : List Heard) (piece rest : List ℕ) (new : Section) (what : Found) (fault : AirFault) →
-    AreTaken for_counting here octets there left number (hearing_of number heard) →
-    BeginsWithPiece there left piece rest → meant new what ≡ meaning there piece →
-    IsHearingFault number heard what fault → IsPieceFault for_counting here octets fault
-stops_hearing here octets there left number heard piece rest new what fault sofar begins is why = elim why [
-  | inl refused ↦ subst (λ k. IsPieceFaultOf for_counting here octets fault.packet k) (sym refused.0) refused.1
-  | inr wrong ↦
-      subst (λ n. IsPieceFaultOf for_counting here octets n fault.kind) (sym wrong.0)
-      (wrong_found for_counting here octets there left number (hearing_of number heard) piece rest new what fault.kind
-      sofar begins is wrong.1 wrong.2)
-]

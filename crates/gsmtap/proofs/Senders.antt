@@ -28,7 +28,8 @@ same_mark Sdcch Sdcch is = refl
 same_mark Cbch Sdcch is = absurd cc
 same_mark Sdcch Cbch is = absurd cc
 
-same_station : (a b : Station) → is_station a b ≡ true → a ≡ b
+-- senders of whom the test says that they are one are one
+pub same_station : (a b : Station) → is_station a b ≡ true → a ≡ b
 same_station a b is =
     let front = and_parts (eqb a.address b.address && eqb a.arfcn b.arfcn)
     (eqb (mark_number a.channel) (mark_number b.channel)) is in
@@ -48,7 +49,8 @@ is_itself a =
 is_too : (a b : Station) → is_station a b ≡ true → is_station b a ≡ true
 is_too a b is = subst (λ (it : Station). is_station b it ≡ true) (sym (same_station a b is)) (is_itself b)
 
-isnt_either : (a b : Station) → is_station a b ≡ false → is_station b a ≡ false
+-- two that aren't one aren't so the other way round either
+pub isnt_either : (a b : Station) → is_station a b ≡ false → is_station b a ≡ false
 isnt_either a b isnt = elim (cases_Bool (is_station b a)) [
   | inl is ↦
       let both : is_station a b ≡ true = is_too b a is in
@@ -133,7 +135,7 @@ known_more (Some s ∷ rest) a known = elim (cases_Bool (list_any (is_station a)
 ]
 
 -- a sender is known if a packet is of it
-is_known : (a : Station) (packets : List (Option Station)) →
+pub is_known : (a : Station) (packets : List (Option Station)) →
     list_any (is_sent_by a) packets ≡ list_any (is_station a) (senders packets)
 is_known a [] = refl
 is_known a (None ∷ rest) = is_known a rest
@@ -143,7 +145,7 @@ is_known a (Some s ∷ rest) = elim (cases_Bool (is_station a s)) [
 ]
 
 -- no sender comes twice
-Apart : List Station → Type 0
+unfoldable pub Apart : List Station → Type 0
 Apart [] = Unit {0}
 Apart (s ∷ rest) = (list_any (is_station s) rest ≡ false) × Apart rest
 
@@ -164,7 +166,8 @@ fewer_apart q (s ∷ rest) apart = elim (cases_Bool (q s)) [
   | inr isnt ↦ rw isnt (fewer_apart q rest apart.1)
 ]
 
-apart_senders : (packets : List (Option Station)) → Apart (senders packets)
+-- the senders of packets are apart
+pub apart_senders : (packets : List (Option Station)) → Apart (senders packets)
 unfolding Apart
 apart_senders [] = tt
 apart_senders (None ∷ rest) = apart_senders rest
@@ -206,7 +209,8 @@ none_found p from (x ∷ rest) none =
     let both = or_parts (p x) (list_any p rest) none in
     rw (both.0) (none_found p (from + 1) rest both.1)
 
-some_found : {X : Type 0} (p : X → Bool) (from : ℕ) (list : List X) → list_any p list ≡ true →
+-- what passes is found
+pub some_found : {X : Type 0} (p : X → Bool) (from : ℕ) (list : List X) → list_any p list ≡ true →
     is_some (position_from p from list) ≡ true
 some_found p from [] any = absurd cc
 some_found p from (x ∷ rest) any = elim (cases_Bool (p x)) [
@@ -214,7 +218,8 @@ some_found p from (x ∷ rest) any = elim (cases_Bool (p x)) [
   | inr isnt ↦ rw isnt (some_found p (from + 1) rest (rw isnt at any))
 ]
 
-found_after : {X : Type 0} (p : X → Bool) (from next : ℕ) → next ≡ suc from → (list : List X) →
+-- it is found one place later after one element more
+pub found_after : {X : Type 0} (p : X → Bool) (from next : ℕ) → next ≡ suc from → (list : List X) →
     position_from p next list ≡ option_map suc (position_from p from list)
 found_after p from next is [] = refl
 found_after p from next is (x ∷ rest) = elim (cases_Bool (p x)) [

@@ -17,7 +17,7 @@ use Rattle.gsmtap.specs.TapeOfCapture.{slots_taken, tape_of_known}
 use Rattle.gsmtap.specs.TapeSteps.{known_of, last_slot}
 use Rattle.gsmtap.specs.TapesOfCapture.{AreTapesOfCapture, after_each, before_others, for_tapes, is_silent, none_known}
 use Rattle.gsmtap.specs.TapesSteps.{AreLong, AreNear, known_of_each, tapes_of_known}
-use Rattle.gsmtap.specs.Track.{Known, ahead, followed, nearest, place_in, put, put_at, put_on, put_result}
+use Rattle.gsmtap.specs.Track.{Known, ahead, followed, latest, nearest, place_in, put, put_at, put_on, put_result}
 use Rattle.gsmtap.specs.Track.{slot_of_frame, with_block}
 use Rattle.gsmtap.specs.declared.fault.AirFault.{AirFault}
 use Rattle.gsmtap.specs.declared.fault.AirFaultKind.{AirFaultKind}
@@ -41,7 +41,8 @@ stays old new is =
     let same : old ≡ new = cc in
     subst (λ (k : Known). Moves old k) same (record { near = omega arith; long = refl })
 
-first_or_second : (a b : Bool) (n m slot : ℕ) →
+-- what a choice of two comes to
+pub first_or_second : (a b : Bool) (n m slot : ℕ) →
     (if a then Some n else (if b then Some m else None)) ≡ Some slot → ((a ≡ true) × (n ≡ slot)) ⊎ (m ≡ slot)
 first_or_second true b n m slot is = let same : n ≡ slot = cc in inl (refl, same)
 first_or_second false true n m slot is = let same : m ≡ slot = cc in inr same
@@ -58,7 +59,8 @@ near_slot track there slot is =
       | inr back ↦ omega (arith, back)
     ]
 
-in_track : (first : ℕ) (slot : Option ℕ) (new : Track) →
+-- a track has the slot that it was made of
+pub in_track : (first : ℕ) (slot : Option ℕ) (new : Track) →
     option_map (λ slot. record { first = first; slot = slot }) slot ≡ Some new → slot ≡ Some new.slot
 in_track first None new is = cc
 in_track first (Some slot) new is =
@@ -75,6 +77,11 @@ near_track None there new is =
 near_track (Some track) there new is =
     near_slot track there new.slot (in_track track.first (nearest track there) new is)
 
+near_latest : (before : Option Track) (there : Track) → there.slot ≤ last_slot before + 3328 →
+    (latest before there).slot ≤ last_slot before + 3328
+near_latest None there near = near
+near_latest (Some before) there near = omega (arith, near)
+
 same_if : (test : Bool) (blocks new : List (Option (List ℕ))) → (if test then Some blocks else None) ≡ Some new →
     length new ≡ length blocks
 same_if true blocks new is = let same : blocks ≡ new = cc in ap length (sym same)
@@ -88,7 +95,8 @@ long_at blocks place block (Some None) new is =
     ap length (sym same) ∙ length-set blocks place (Some block)
 long_at blocks place block (Some (Some known)) new is = same_if (bytes_eq known block) blocks new is
 
-long_put : (blocks : List (Option (List ℕ))) (place : ℕ) (block : List ℕ) (new : List (Option (List ℕ))) →
+-- a block that is put makes a tape no longer
+pub long_put : (blocks : List (Option (List ℕ))) (place : ℕ) (block : List ℕ) (new : List (Option (List ℕ))) →
     put blocks place block ≡ Some new → length new ≡ length blocks
 unfolding put
 long_put blocks place block new is = long_at blocks place block _ new is
@@ -103,13 +111,13 @@ moves_put known new track (Some blocks) near long is =
     subst (λ (k : Known). Moves known k) same (record { near = near; long = long blocks refl })
 
 moves_on : (known new : Known) (sent : Sent) (track : Option Track) →
-    followed known.track (slot_of_frame sent.frame) ≡ track → put_on known.blocks sent track ≡ Ok new →
+    followed known.track (slot_of_frame sent.frame) ≡ track → put_on known sent track ≡ Ok new →
     Moves known new
 moves_on known new sent None follows is = cc
 moves_on known new sent (Some track) follows is =
     let place : ℕ = 4 * track.slot + place_in sent.frame in
-    moves_put known new track (put known.blocks place sent.block)
-    (near_track known.track (slot_of_frame sent.frame) track follows)
+    moves_put known new (latest known.track track) (put known.blocks place sent.block)
+    (near_latest known.track track (near_track known.track (slot_of_frame sent.frame) track follows))
     (λ there. long_put known.blocks place sent.block there) is
 
 moves_block : (known new : Known) (sent : Sent) → with_block known sent ≡ Ok new → Moves known new
@@ -128,7 +136,8 @@ moves_linked : (from : Sender) (known new : Known) (packet : Packet) (link : Opt
 moves_linked from known new packet None is = cc
 moves_linked from known new packet (Some link) is = moves_sent known new (sent_in link from packet.octets) is
 
-moves : (from : Sender) (known new : Known) (packet : Packet) → after_packet from known packet ≡ Ok new →
+-- a packet moves a tape by 3,328 slots at most
+pub moves : (from : Sender) (known new : Known) (packet : Packet) → after_packet from known packet ≡ Ok new →
     Moves known new
 unfolding after_packet
 moves from known new packet is = moves_linked from known new packet (link_numbered packet.link) is

@@ -1,7 +1,7 @@
 -- The tape of the capture of a tape is the tape.
 use Rattle.std.proofs.Common.{◌≡◌, ℕ, ◌+◌, ◌*◌, ◌%◌, ◌<◌, ◌^◌, List, [], ◌∷◌, ◌++◌, length, map, take, drop, refl}
 use Rattle.std.proofs.Common.{suc, sym, ap, ◌∙◌, arith, append_assoc, append-nil, Option, Some, None, Result, Ok}
-use Rattle.std.proofs.Common.{replicate, Err, lit<, lit≤, inl, inr, subst}
+use Rattle.std.proofs.Common.{replicate, Err, lit<, lit≤, inl, inr, subst, max}
 use Rattle.std.proofs.Math.Nat.{zero-min}
 use Rattle.std.specs.List.{flat_map, AllByRecursion, slice_get}
 use Rattle.std.specs.Prelude.{slice_set, nat_lt, true, is_some, ◌⊎◌}
@@ -26,7 +26,8 @@ use Rattle.handset.specs.Tape.{cell_in, octets_of_blocks, tape_octets}
 use Rattle.gsmtap.specs.declared.fault.AirFaultKind.{AirFaultKind}
 use Rattle.gsmtap.specs.Packet.{datagram_header, frame_number, internet_header, packet, record_header, tap_header}
 use Rattle.std.proofs.lemmas.List.{length-append, length_push, take_all}
-use Rattle.gsmtap.specs.Track.{Known, ahead, followed, nearest, place_in, put, put_at, slot_of_frame, with_block}
+use Rattle.gsmtap.specs.Track.{Known, ahead, followed, latest, nearest, place_in, put, put_at, slot_of_frame}
+use Rattle.gsmtap.specs.Track.{with_block}
 use Rattle.gsmtap.specs.Tap.{anyone, block_of, datagram_of, internet_of, payload_of, sent_in}
 use Rattle.gsmtap.specs.declared.file.Link.TheVariants.{Internet}
 use Rattle.gsmtap.specs.declared.file.OctetOrder.TheVariants.{LowFirst}
@@ -139,19 +140,27 @@ next_slot slot =
     let one : ahead ((0 + slot) % 6656) ((slot + 1) % 6656) ≡ 1 = omega arith in
     rw one refl
 
-leads_same : (slot : ℕ) → followed (Some (record { first = 0; slot = slot })) (slot % 6656)
-    ≡ Some (record { first = 0; slot = slot })
-unfolding followed
-leads_same slot = rw (same_slot slot) refl
+-- a track leads to a slot: the next block stands there, and the slot is then the latest
+abbrev pub Leads : Option Track → (slot : ℕ) → Type 0
+Leads track slot =
+    (followed track (slot % 6656) ≡ Some (record { first = 0; slot = slot }))
+    × (latest track (record { first = 0; slot = slot }) ≡ record { first = 0; slot = slot })
 
-leads_next : (slot : ℕ) → followed (Some (record { first = 0; slot = slot })) ((slot + 1) % 6656)
-    ≡ Some (record { first = 0; slot = slot + 1 })
-unfolding followed
-leads_next slot = rw (next_slot slot) refl
+stands_at : (slot n : ℕ) → n ≡ slot →
+    ◌≡◌ {A = Track} (record { first = 0; slot = n }) (record { first = 0; slot = slot })
+stands_at slot n is = ap (λ (it : ℕ). let there : Track = record { first = 0; slot = it } in there) is
 
-leads_first : followed None (0 % 6656) ≡ Some (record { first = 0; slot = 0 })
+leads_same : (slot : ℕ) → Leads (Some (record { first = 0; slot = slot })) slot
 unfolding followed
-leads_first = refl
+leads_same slot = (rw (same_slot slot) refl, stands_at slot (max slot slot) (omega arith))
+
+leads_next : (slot : ℕ) → Leads (Some (record { first = 0; slot = slot })) (slot + 1)
+unfolding followed
+leads_next slot = (rw (next_slot slot) refl, stands_at (slot + 1) (max slot (slot + 1)) (omega arith))
+
+leads_first : Leads None 0
+unfolding followed
+leads_first = (refl, refl)
 
 -- the blocks of a tape of which these are known
 abbrev pub sofar : (done : List (List ℕ)) (left : ℕ) → List (Option (List ℕ))
@@ -180,7 +189,7 @@ at cell slot block = record { tape = 0; cell = cell; slot = slot; block = block 
 
 with_next : (channel : Channel) (cell : Cell) (slot block : ℕ) (octets : List ℕ) (track : Option Track)
     (done : List (List ℕ)) (left : ℕ) → block < 4 → nat_lt block 4 ≡ true → length done ≡ 4 * slot + block →
-    followed track (slot % 6656) ≡ Some (record { first = 0; slot = slot }) →
+    Leads track slot →
     with_block (record { track = track; blocks = sofar done (suc left) })
     (record { frame = frame_number channel (at cell slot block); block = octets })
     ≡ Ok (record { track = Some (record { first = 0; slot = slot }); blocks = sofar (done ++ octets ∷ []) left })
@@ -189,14 +198,14 @@ with_next channel cell slot block octets track done left few few_is many leads =
     let place : Place = at cell slot block in
     let there : length done ≡ 4 * slot + place_in (frame_number channel place) =
     many ∙ ap (λ n. 4 * slot + n) (sym (place_there channel place few)) in
-    rw (place_there channel place few) (rw few_is (rw (slot_there channel place few) (rw leads
-    (rw (put_next done left (4 * slot + place_in (frame_number channel place)) octets there) refl))))
+    rw (place_there channel place few) (rw few_is (rw (slot_there channel place few) (rw leads.0
+    (rw (put_next done left (4 * slot + place_in (frame_number channel place)) octets there) (rw leads.1 refl)))))
 
 next_packet : (start : Start) (channel : Channel) (cell : Cell) (slot block : ℕ) (octets : List ℕ)
     (track : Option Track)
     (done : List (List ℕ)) (left : ℕ) → length octets ≡ 23 →
     block < 4 → nat_lt block 4 ≡ true → length done ≡ 4 * slot + block →
-    followed track (slot % 6656) ≡ Some (record { first = 0; slot = slot }) →
+    Leads track slot →
     after_packet anyone (record { track = track; blocks = sofar done (suc left) })
     (packet_at start channel (at cell slot block) octets)
     ≡ Ok (record { track = Some (record { first = 0; slot = slot }); blocks = sofar (done ++ octets ∷ []) left })
@@ -318,7 +327,7 @@ known_at slot done left = record { track = Some (record { first = 0; slot = slot
 slot_taken : (start : Start) (channel : Channel) (cell : Cell) (slot number : ℕ) (octets : List ℕ)
     (track : Option Track)
     (done : List (List ℕ)) (left : ℕ) → length octets ≡ 92 → length done ≡ 4 * slot →
-    followed track (slot % 6656) ≡ Some (record { first = 0; slot = slot }) →
+    Leads track slot →
     after_packets (after_packet anyone) number (Ok (record {
       track = track;
       blocks = sofar done (suc (suc (suc (suc left))));
@@ -359,7 +368,7 @@ slot_taken start channel cell slot number octets track done left long many leads
 all_taken : (start : Start) (channel : Channel) (cell : Cell) (slot number : ℕ) (slots : List (List ℕ))
     (track : Option Track)
     (done : List (List ℕ)) → AllByRecursion (λ slot. length slot ≡ 92) slots → length done ≡ 4 * slot →
-    followed track (slot % 6656) ≡ Some (record { first = 0; slot = slot }) →
+    Leads track slot →
     (known : Known)
     × (after_packets (after_packet anyone) number (Ok (record
     { track = track; blocks = sofar done (4 * length slots) }))

@@ -93,7 +93,8 @@ opens_longer input here after more opens = elim opens [
   })
 ]
 
-opens_short : (input : List ℕ) (here : Section) (after : List ℕ) → Opens input here after →
+-- what stands after the begin of a file is no longer than it
+pub opens_short : (input : List ℕ) (here : Section) (after : List ℕ) → Opens input here after →
     length after ≤ length input
 opens_short input here after opens = elim opens [
   | inl classic ↦
@@ -143,7 +144,8 @@ few_brought here (piece ∷ pieces) there packets all =
     ≡ length piece + length (flat_map (λ it. it) pieces) = length-append piece (flat_map (λ it. it) pieces) in
     omega (arith, others, many, whole, one_at_most all.0.packet, least_is here.format, all.2.is.long)
 
-few_begin : (here : Section) (octets : List ℕ) (there : Section) (left : List ℕ) (packets : List Packet) →
+-- so the packets that octets begin with are few
+pub few_begin : (here : Section) (octets : List ℕ) (there : Section) (left : List ℕ) (packets : List Packet) →
     BeginWithPackets here octets there left packets → 12 * length packets + length left ≤ length octets
 few_begin here octets there left packets begin =
     let whole : length octets ≡ length (flat_map (λ piece. piece) begin.pieces) + length left =

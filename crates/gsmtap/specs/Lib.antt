@@ -23,3 +23,6 @@ pub mod Laws
 pub mod Times
 pub mod Carried
 pub mod CarriedSteps
+pub mod Listening
+pub mod Senders
+pub mod SendersSteps

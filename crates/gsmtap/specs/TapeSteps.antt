@@ -18,7 +18,7 @@ use Rattle.gsmtap.specs.declared.track.Track.{Track}
 abbrev pub known_of : Air → Known
 known_of air = record { track = air.track; blocks = air.blocks.items }
 
--- the slot of the last block that was placed
+-- the latest slot in which a block was placed
 abbrev pub last_slot : Option Track → ℕ
 last_slot None = 0
 last_slot (Some track) = track.slot

@@ -11,7 +11,7 @@ use Rattle.gsmtap.specs.declared.track.Air.{Air}
 abbrev pub known_of_each : List Air → List Known
 known_of_each airs = map known_of airs
 
--- the last block of each tape stands in this slot or before it
+-- the latest slot of each tape is this one or one before it
 abbrev pub AreNear : (slot : ℕ) → List Known → Type 0
 AreNear slot known = AllByRecursion (λ (one : Known). last_slot one.track ≤ slot) known
 

@@ -1,5 +1,5 @@
 -- Where blocks stand on a tape, by the numbers of their frames.
-use Rattle.std.specs.Prelude.{ℕ, ◌+◌, ◌-◌, ◌*◌, ◌/◌, ◌%◌, ◌==◌, ◌&&◌, nat_le, nat_lt, List, Option, Some, None}
+use Rattle.std.specs.Prelude.{ℕ, ◌+◌, ◌-◌, ◌*◌, ◌/◌, ◌%◌, ◌==◌, ◌&&◌, max, nat_le, nat_lt, List, Option, Some, None}
 use Rattle.std.specs.Prelude.{if◌then◌else◌, slice_get, slice_set, Result, Ok, Err}
 use Rattle.std.specs.Option.{option_map}
 use Rattle.std.specs.Str.{bytes_eq}
@@ -25,7 +25,7 @@ place_in frame = multiframe_in frame % 8
 abbrev pub ahead : (here there : ℕ) → ℕ
 ahead here there = (there + 6656 - here) % 6656
 
--- the slot of a track, which began in the slot `first` of the hyperframe, that is the nearest to its last one and is
+-- the slot of a track, which began in the slot `first` of the hyperframe, that is the nearest to its latest one and is
 -- this slot of the hyperframe. It may be one slot back
 abbrev pub nearest : Track → (there : ℕ) → Option ℕ
 nearest track there =
@@ -33,10 +33,15 @@ nearest track there =
     if nat_lt distance 3328 then Some (track.slot + distance)
     else (if distance == 6655 && nat_le 1 track.slot then Some (track.slot - 1) else None)
 
--- the first block's slot is slot 0
+-- where a block stands: the first one's slot is slot 0
 unfoldable pub followed : Option Track → (there : ℕ) → Option Track
 followed None there = Some (record { first = there; slot = 0 })
 followed (Some track) there = option_map (λ slot. record { first = track.first; slot = slot }) (nearest track there)
+
+-- the latest slot of a track, after a block that stands there
+abbrev pub latest : Option Track → (there : Track) → Track
+latest None there = there
+latest (Some before) there = record { first = there.first; slot = max before.slot there.slot }
 
 -- a block at its place of a tape: a place past the end is passed over, and a place has one block
 abbrev pub put_at : List (Option (List ℕ)) → (place : ℕ) → (block : List ℕ) → Option (Option (List ℕ)) →
@@ -48,7 +53,7 @@ put_at blocks place block (Some (Some known)) = if bytes_eq known block then Som
 unfoldable pub put : List (Option (List ℕ)) → (place : ℕ) → (block : List ℕ) → Option (List (Option (List ℕ)))
 put blocks place block = put_at blocks place block (slice_get blocks place)
 
--- what is known of a tape: the slot of the last block that was placed, and the blocks, where there is one
+-- what is known of a tape: the latest slot in which a block was placed, and the blocks, where there is one
 pub record Known : Type 0 where
   pub track : Option Track
   pub blocks : List (Option (List ℕ))
@@ -57,12 +62,13 @@ abbrev pub put_result : Track → Option (List (Option (List ℕ))) → Result K
 put_result track None = Err Differs
 put_result track (Some blocks) = Ok (record { track = Some track; blocks = blocks })
 
-abbrev pub put_on : List (Option (List ℕ)) → Sent → Option Track → Result Known AirFaultKind
-put_on blocks sent None = Err StepsBack
-put_on blocks sent (Some track) = put_result track (put blocks (4 * track.slot + place_in sent.frame) sent.block)
+abbrev pub put_on : Known → Sent → (there : Option Track) → Result Known AirFaultKind
+put_on known sent None = Err StepsBack
+put_on known sent (Some there) =
+    put_result (latest known.track there) (put known.blocks (4 * there.slot + place_in sent.frame) sent.block)
 
 -- one block more; those of the extended channel are passed over
 unfoldable pub with_block : Known → Sent → Result Known AirFaultKind
 with_block known sent =
-    if nat_lt (place_in sent.frame) 4 then put_on known.blocks sent (followed known.track (slot_of_frame sent.frame))
+    if nat_lt (place_in sent.frame) 4 then put_on known sent (followed known.track (slot_of_frame sent.frame))
     else Ok known

@@ -2,9 +2,9 @@
 //! format of libpcap, with IPv4, UDP and GSMTAP around each block.
 //!
 //! [`capture_of`] makes the capture of tapes, whose octets `specs/Capture.antt` says; [`tape_of_capture`] makes a tape
-//! of a capture that others made, in that format or in pcapng, as `specs/TapeOfCapture.antt` says. [`heard_in_capture`]
-//! names who sends in it and says when (`specs/Heard.antt`, `specs/Times.antt`), and [`carried_by`] says what one of
-//! them sends (`specs/Carried.antt`).
+//! of a capture that others made, in that format or in pcapng, as `specs/TapeOfCapture.antt` says.
+//! [`senders_of_capture`] names who sends in it (`specs/Heard.antt`), and says when (`specs/Times.antt`) and what
+//! (`specs/Carried.antt`).
 #![tactic(auto)]
 
 mod blocks;
@@ -15,9 +15,11 @@ pub mod file;
 mod frontier;
 pub mod heard;
 mod laws;
+mod listener;
 mod options;
 mod packet;
 mod pieces;
+mod sender_table;
 mod taker;
 mod tap;
 pub mod tape;
@@ -26,12 +28,13 @@ mod track;
 mod walk;
 
 pub use capture::{CaptureFault, Settings, Slots, capture_of};
-pub use carried::{Carried, carried_by};
+pub use carried::Carried;
 pub use fault::{AirFault, AirFaultKind};
-pub use heard::{Heard, SendersHeard, heard_in_capture};
+pub use heard::Heard;
 pub use laws::{capture_laws, tapes_laws};
 pub use packet::{Channel, Place, Start, push_packet};
 pub use pieces::Captured;
+pub use sender_table::{SenderRow, SenderTable, senders_of_capture};
 pub use taker::TakesPackets;
 pub use tap::Station;
 pub use tape::{ChannelType, Sender, Wanted, tape_of_capture};

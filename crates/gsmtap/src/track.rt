@@ -4,7 +4,7 @@ ghost use Rattle.std.specs.Prelude.{◌≡◌, ◌+◌, ◌*◌, ◌<◌, ◌≤
 ghost use Rattle.std.specs.Prelude.{Ok, Err, Some, None, MatchBool, vec_len};
 ghost use Rattle.gsmtap.specs.TapeOfCapture.{after_sent, nothing_known};
 ghost use Rattle.gsmtap.specs.TapeSteps.{IsBlockKind, known_of, last_slot};
-ghost use Rattle.gsmtap.specs.Track.{ahead, followed, nearest, place_in, put, slot_of_frame, with_block};
+ghost use Rattle.gsmtap.specs.Track.{ahead, followed, latest, nearest, place_in, put, slot_of_frame, with_block};
 
 use crate::fault::AirFaultKind;
 use crate::tap::Sent;
@@ -16,7 +16,7 @@ const SLOTS: u32 = 6656;
 /// How many 51-multiframes a hyperframe has.
 const MULTIFRAMES: u32 = 53_248;
 
-/// Where the last block stands that was placed.
+/// Where blocks stand: the latest slot in which one was placed, or that of one.
 #[derive(Clone, Copy, Debug, PartialEq, Eq)]
 pub struct Track {
     /// The slot of the hyperframe that is slot 0 of the tape.
@@ -25,10 +25,10 @@ pub struct Track {
     pub slot: u64,
 }
 
-/// The blocks of a tape that are known, and where the last of them stands.
+/// The blocks of a tape that are known, and the latest slot of one.
 #[derive(Drop)]
 pub struct Air {
-    /// Where the last block stands that was placed, if one was.
+    /// The latest slot in which a block was placed, if one was.
     pub track: Option<Track>,
     /// Four places for each slot.
     pub blocks: Vec<Option<[u8; 23]>>,
@@ -60,23 +60,23 @@ impl Air {
         if place >= 4 {
             return Ok(());
         }
-        let Some(track) = followed(self.track, slot_in(sent.frame)) else {
+        let Some(there) = followed(self.track, slot_in(sent.frame)) else {
             return Err(AirFaultKind::StepsBack);
         };
         if !put(
             &mut self.blocks,
-            4 * track.slot + u64::from(place),
+            4 * there.slot + u64::from(place),
             &sent.block,
         ) {
             return Err(AirFaultKind::Differs);
         }
-        self.track = Some(track);
+        self.track = Some(latest(self.track, there));
         Ok(())
     }
 }
 
 /// The slot of a frame within the hyperframe.
-fn slot_in(frame: u32) -> u32
+pub fn slot_in(frame: u32) -> u32
     ensures slot { result ≡ slot_of_frame frame }
     ensures bound { result < 6656 }
 {
@@ -90,9 +90,9 @@ pub fn place_in(frame: u32) -> u32
     frame / 51 % MULTIFRAMES % 8
 }
 
-/// The track with a block more, in this slot of the hyperframe.
+/// Where a block stands that is in this slot of the hyperframe.
 #[tactic(auto, unfolding(crate::specs::Track::followed))]
-fn followed(track: Option<Track>, there: u32) -> Option<Track>
+pub fn followed(track: Option<Track>, there: u32) -> Option<Track>
     requires few { last_slot track < 2 ^ 62 }
     requires there { there < 6656 }
     ensures followed { result ≡ followed track there }
@@ -113,7 +113,20 @@ fn followed(track: Option<Track>, there: u32) -> Option<Track>
     }
 }
 
-/// The slot of a track that is nearest to its last one and is this slot of the hyperframe.
+/// The latest slot of a track, after a block that stands there.
+pub fn latest(before: Option<Track>, there: Track) -> Track
+    ensures { result ≡ latest before there }
+{
+    match before {
+        None => there,
+        Some(before) => Track {
+            first: there.first,
+            slot: before.slot.max(there.slot),
+        },
+    }
+}
+
+/// The slot of a track that is nearest to its latest one and is this slot of the hyperframe.
 fn nearest(track: Track, there: u32) -> Option<u64>
     requires few { track.slot < 2 ^ 62 }
     requires there { there < 6656 }

@@ -12,7 +12,8 @@
 //! enough: the answer is then `refused; ` and what came in the end. `fronts N M LAC CI SLOTS` makes tapes of each front
 //! of N to M octets, and the answer is that of all of them. `senders` names who sends in the octets: each one's
 //! address, radio channel, mark, and first and last packet, and a semicolon. `carried ADDRESS ARFCN sdcch` says what
-//! the blocks of this sender carry, or of one of `cbch`. `times` says when each packet came, in nanoseconds, or `-`.
+//! the blocks of this sender carry, or of one of `cbch`. `times` says when the first and the last packet of each sender
+//! came, in nanoseconds, or `-`.
 //!
 //! `for LAC CI N ..`, with the words of `tape`, wants one tape more, until `new` or `none`; `tapes` makes all of them
 //! together, and answers as `tape` does. `parts N` makes them as `tapes` does, of octets that come in parts of N.
@@ -24,9 +25,9 @@ ghost use Rattle.std.specs.Prelude.{◌<◌, ◌≤◌, [], length, IfSome};
 ghost use Rattle.gsmtap.specs.TapesTaken.{IsWalkFor};
 
 use gsmtap::{
-    AirFault, AirFaultKind, Channel, ChannelType, Heard, Sender, Settings, Slots, Start, Station,
-    Tapes, TapesFault, Walk, Wanted, capture_of, carried_by, heard_in_capture, tape_of_capture,
-    tapes_of_capture, tapes_of_walk,
+    AirFault, AirFaultKind, Carried, Channel, ChannelType, Heard, Sender, SenderRow, Settings,
+    Slots, Start, Station, Tapes, TapesFault, Walk, Wanted, capture_of, senders_of_capture,
+    tape_of_capture, tapes_of_capture, tapes_of_walk,
 };
 use std::alloc::Global;
 use std::process::Abort;
@@ -287,26 +288,34 @@ fn begin(bench: &mut Bench) {
     bench.tapes.clear();
 }
 
-/// Names the senders of octets, as `7f000001 0 cbch 2 1-2` each: how many blocks, in which packets.
-fn senders(alloc: Global, bench: &mut Bench) -> Result<String, Fail> {
+/// Who sends in octets, or the fault's text.
+fn rows(alloc: Global, bench: &mut Bench) -> Result<Result<Vec<SenderRow>, String>, Fail> {
     if bench.octets.len() > 1_000_000 {
         return Err(Fail::new("too many octets for a test"));
     }
     bench.drought.begin(alloc);
-    let outcome = heard_in_capture(alloc, &bench.octets);
+    let outcome = senders_of_capture(alloc, &bench.octets);
     bench.drought.end();
-    let senders = match outcome {
-        Ok(senders) => senders,
-        Err(fault) => return Ok(fault.to_string(alloc)?),
+    match outcome {
+        Ok(rows) => Ok(Ok(rows)),
+        Err(fault) => Ok(Err(fault.to_string(alloc)?)),
+    }
+}
+
+/// Names the senders of octets, as `7f000001 0 cbch 2 1-2` each: how many blocks, in which packets.
+fn senders(alloc: Global, bench: &mut Bench) -> Result<String, Fail> {
+    let rows = match rows(alloc, bench)? {
+        Ok(rows) => rows,
+        Err(fault) => return Ok(fault),
     };
     let mut all = String::new(alloc);
-    for one in &senders.heard {
+    for one in &rows {
         let Heard {
             station,
             blocks,
             first,
             last,
-        } = *one;
+        } = one.heard;
         let mark = match station.channel {
             ChannelType::Cbch => "cbch",
             ChannelType::Sdcch => "sdcch",
@@ -317,46 +326,56 @@ fn senders(alloc: Global, bench: &mut Bench) -> Result<String, Fail> {
     Ok(all)
 }
 
-/// Says when the packets of octets came, in nanoseconds: `-` if that isn't known.
+/// Says when the first packet of each sender came and the last one, in nanoseconds, or once if both came at that time:
+/// `-` if that isn't known.
 fn times(alloc: Global, bench: &mut Bench) -> Result<String, Fail> {
-    if bench.octets.len() > 1_000_000 {
-        return Err(Fail::new("too many octets for a test"));
-    }
-    bench.drought.begin(alloc);
-    let outcome = heard_in_capture(alloc, &bench.octets);
-    bench.drought.end();
-    let senders = match outcome {
-        Ok(senders) => senders,
-        Err(fault) => return Ok(fault.to_string(alloc)?),
+    let rows = match rows(alloc, bench)? {
+        Ok(rows) => rows,
+        Err(fault) => return Ok(fault),
     };
     let mut all = String::new(alloc);
-    for time in &senders.times {
-        let between = if all.is_empty() { "" } else { " " };
-        match time {
-            Some(time) => all.push_str(&format!(in alloc; "{between}{time}")?)?,
-            None => all.push_str(&format!(in alloc; "{between}-")?)?,
+    for one in &rows {
+        let first = time_text(alloc, one.first_time)?;
+        let last = time_text(alloc, one.last_time)?;
+        if one.first_time == one.last_time {
+            all.push_str(&format!(in alloc; "{first};")?)?;
+        } else {
+            all.push_str(&format!(in alloc; "{first} {last};")?)?;
         }
     }
     Ok(all)
 }
 
-/// Says what the blocks of a sender carry, as `2 slots, 1 pages: 4370`.
-fn carried(alloc: Global, bench: &mut Bench, words: &mut Words) -> Result<String, Fail> {
-    if bench.octets.len() > 1_000_000 {
-        return Err(Fail::new("too many octets for a test"));
+/// A time, or `-`.
+fn time_text(alloc: Global, time: Option<u64>) -> Result<String, Fail> {
+    match time {
+        Some(time) => Ok(time.to_string(alloc)?),
+        None => Ok(String::from_str(alloc, "-")?),
     }
+}
+
+/// Says what the blocks of a sender carry, as `2 slots, 1 pages: 4370`, or `no tape`; of one that isn't there `nobody`.
+fn carried(alloc: Global, bench: &mut Bench, words: &mut Words) -> Result<String, Fail> {
     let from = sender_in(words)?;
     let station = Station {
         address: from.address.unwrap_or(0),
         arfcn: from.arfcn.unwrap_or(0),
         channel: from.channel,
     };
-    bench.drought.begin(alloc);
-    let outcome = carried_by(alloc, &bench.octets, station);
-    bench.drought.end();
-    let carried = match outcome {
-        Ok(carried) => carried,
-        Err(fault) => return Ok(fault.to_string(alloc)?),
+    let rows = match rows(alloc, bench)? {
+        Ok(rows) => rows,
+        Err(fault) => return Ok(fault),
+    };
+    match rows.iter().find(|one| one.heard.station == station) {
+        Some(one) => carried_text(alloc, &one.carried),
+        None => Ok(String::from_str(alloc, "nobody")?),
+    }
+}
+
+/// What blocks carry, if they make a tape.
+fn carried_text(alloc: Global, carried: &Option<Carried>) -> Result<String, Fail> {
+    let Some(carried) = carried else {
+        return Ok(String::from_str(alloc, "no tape")?);
     };
     let (slots, pages) = (carried.slots, carried.pages);
     let mut all = format!(in alloc; "{slots} slots, {pages} pages:")?;

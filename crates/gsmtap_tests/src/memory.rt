@@ -47,7 +47,7 @@ hex 0300000054000000 43000000
 hex 450000430007000040117ca17f0000017f000001
 hex 12791279002f0000 0204010000000000000000200f000200 200010111201118046a3d168341a8d46a3d168341a8d46 00 54000000
 scarce senders -> refused; 7f000001 0 cbch 1 1-1;
-scarce times -> refused; -
+scarce times -> refused; -;
 new
 
 # in parts, of which an octet that is none of a whole block is kept

@@ -3,6 +3,5 @@ pub mod TextLaws
 pub mod TableLaws
 pub mod TooLong
 pub mod WholeInput
-pub mod Rows
 pub mod Parts
 pub mod Made

@@ -1,6 +1,5 @@
 pub mod PcapOutput
 pub mod TapeOutput
-pub mod CellsSteps
 pub mod CellTable
 pub mod CellTableSteps
 pub mod AllTapes

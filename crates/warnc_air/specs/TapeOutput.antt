@@ -1,22 +1,21 @@
 -- What `warnc tape` and `warnc cells` make of the octets that they read: of the capture file that they are, its tape,
 -- and a table of who sends in it. Own.
-use Rattle.std.specs.Prelude.{◌≡◌, ◌≢◌, ℕ, ◌-◌, ◌/◌, ◌%◌, ◌<◌, ◌≤◌, List, [], ◌∷◌, ◌++◌, length, map, Option, Some}
-use Rattle.std.specs.Prelude.{None}
-use Rattle.std.specs.Prelude.{codes, slice_get}
+use Rattle.std.specs.Prelude.{◌≡◌, ◌≢◌, ℕ, ◌/◌, ◌%◌, ◌<◌, ◌≤◌, List, [], ◌∷◌, ◌++◌, length, Option, Some, None}
+use Rattle.std.specs.Prelude.{codes}
 use Rattle.std.specs.Fmt.{decimal}
 use Rattle.std.specs.Io.KnownBytes.{Keeps}
-use Rattle.std.specs.List.{AllByRecursion, flat_map}
-use Rattle.std.specs.Option.{option_and_then}
+use Rattle.std.specs.List.{flat_map}
+use Rattle.std.specs.Option.{option_map}
 use Rattle.device_ends.specs.Moves.{AppendsFront}
-use Rattle.gsmtap.specs.Carried.{IsCarriedBy, IsUncarried, Summary}
-use Rattle.gsmtap.specs.Heard.{AreHeard, IsHeardFault}
+use Rattle.gsmtap.specs.Carried.{Summary, summary_of}
+use Rattle.gsmtap.specs.Heard.{IsHeardFault}
+use Rattle.gsmtap.specs.Senders.{AreRowsIn}
 use Rattle.gsmtap.specs.TapeOfCapture.{IsAirFault, IsTapeOfCapture}
-use Rattle.gsmtap.specs.Times.{AreTimes}
 use Rattle.gsmtap.specs.declared.fault.AirFault.{AirFault}
 use Rattle.gsmtap.specs.declared.fault.AirFaultKind.{AirFaultKind}
 use Rattle.gsmtap.specs.declared.fault.AirFaultKind.TheVariants as kind
 use Rattle.gsmtap.specs.declared.heard.Heard.{Heard}
-use Rattle.gsmtap.specs.declared.tap.Station.{Station}
+use Rattle.gsmtap.specs.declared.sender_table.SenderRow.{SenderRow}
 use Rattle.gsmtap.specs.declared.tape.ChannelType.{ChannelType}
 use Rattle.gsmtap.specs.declared.tape.ChannelType.TheVariants.{Cbch, Sdcch}
 use Rattle.gsmtap.specs.declared.tape.Wanted.{Wanted}
@@ -88,10 +87,6 @@ carried_text (Some summary) =
     codes "," ++ (decimal summary.slots ++ (codes "," ++ (decimal summary.pages ++ (codes ","
     ++ joined_text summary.identifiers))))
 
--- when the packet of a number came, from 1 on, of which these are the times
-abbrev pub time_of : (times : List (Option ℕ)) (number : ℕ) → Option ℕ
-time_of times number = option_and_then (λ time. time) (slice_get times (number - 1))
-
 -- a time, in seconds with nine decimals; nothing where it isn't known
 abbrev pub three_digits : ℕ → List ℕ
 three_digits number = decimal (number / 100) ++ (decimal (number / 10 % 10) ++ decimal (number % 10))
@@ -106,40 +101,19 @@ time_text None = []
 time_text (Some time) = seconds_text time
 
 -- when its first block came, and its last one
-abbrev pub times_text : (times : List (Option ℕ)) → Heard → List ℕ
-times_text times one =
-    codes "," ++ (time_text (time_of times one.first) ++ (codes "," ++ time_text (time_of times one.last)))
+abbrev pub times_text : (first last : Option ℕ) → List ℕ
+times_text first last = codes "," ++ (time_text first ++ (codes "," ++ time_text last))
 
--- a sender, and what its blocks carry if they make a tape
-pub record Sending : Type 0 where
-  pub heard : Heard
-  pub carried : Option Summary
-
-abbrev pub sending_text : (times : List (Option ℕ)) → Sending → List ℕ
-sending_text times one =
-    sender_text one.heard ++ (carried_text one.carried ++ (times_text times one.heard ++ codes "\n"))
-
--- this is what a sender's blocks in a capture file carry, or else they make no tape, as some differ or step back
-abbrev pub CarriesIn : (input : List ℕ) → Station → Option Summary → Type 0
-CarriesIn input station None = (why : AirFault) × IsUncarried station input why × (why.kind ≢ kind.Refused)
-CarriesIn input station (Some summary) = IsCarriedBy station input summary
-
-abbrev pub IsSendingIn : (input : List ℕ) → Sending → Type 0
-IsSendingIn input one = CarriesIn input one.heard.station one.carried
-
--- the table of these senders of a capture file whose packets came at these times
-pub record IsTableOf (input : List ℕ) (times : List (Option ℕ)) (heard : List Heard) (output : List ℕ) : Type 0
-  where
-    pub sending : List Sending
-    pub heard_are : map (λ (one : Sending). one.heard) sending ≡ heard
-    pub carry : AllByRecursion (IsSendingIn input) sending
-    pub written : output ≡ columns_text ++ flat_map (sending_text times) sending
+-- the line of a sender
+abbrev pub row_text : SenderRow → List ℕ
+row_text row =
+    sender_text row.heard ++ (carried_text (option_map summary_of row.carried)
+    ++ (times_text row.first_time row.last_time ++ codes "\n"))
 
 -- the output is the table of who sends in the capture file that the input is
 abbrev pub IsCellsOutput : (input output : List ℕ) → Type 0
 IsCellsOutput input output =
-    (heard : List Heard) × AreHeard input heard
-    × ((times : List (Option ℕ)) × AreTimes input times × IsTableOf input times heard output)
+    (rows : List SenderRow) × AreRowsIn input rows × (output ≡ columns_text ++ flat_map row_text rows)
 
 -- why no table of senders is written
 abbrev pub IsCellsFault : (input : List ℕ) (old new : Option (List ℕ)) → TapeCommandFault → Type 0

@@ -1,17 +1,21 @@
 //! The command `cells`: a capture file to a table of who sends in it.
 
-ghost use Rattle.std.specs.Prelude.{◌≡◌, ◌+◌, ◌<◌, ◌^◌, IfErr, IfOk, OnOk, length, string_bytes};
+ghost use Rattle.std.specs.Prelude.{◌≡◌, ◌+◌, ◌++◌, IfErr, IfOk, OnOk, string_bytes};
+ghost use Rattle.std.specs.List.{flat_map};
+ghost use Rattle.std.specs.Option.{option_map};
 ghost use Rattle.device_ends.specs.Moves.{ConsumesSome};
 ghost use Rattle.device_ends.specs.Source.{reader_of};
 ghost use Rattle.device_ends.specs.Stream.{FaultOfInput, IsStreamBetween, OutputOfInput};
-ghost use Rattle.warnc_air.specs.CellsSteps.{IsRowOf, summary_of_any};
-ghost use Rattle.warnc_air.specs.TapeOutput.{CarriesIn, IsCellsFault, IsCellsOutput, IsTableOf, IsTapeWriteFault};
-ghost use Rattle.warnc_air.specs.TapeOutput.{address_text, carried_text, channel_text, joined_text, seconds_text};
-ghost use Rattle.warnc_air.specs.TapeOutput.{sender_text, three_digits, time_of, time_text, times_text};
+ghost use Rattle.gsmtap.specs.Carried.{summary_of};
+ghost use Rattle.warnc_air.specs.TapeOutput.{IsCellsFault, IsCellsOutput, IsTapeWriteFault};
+ghost use Rattle.warnc_air.specs.TapeOutput.{address_text, carried_text, channel_text, columns_text};
+ghost use Rattle.warnc_air.specs.TapeOutput.{joined_text, row_text};
+ghost use Rattle.warnc_air.specs.TapeOutput.{seconds_text, sender_text, three_digits, time_text, times_text};
 
+use crate::reading::walk_over;
 use crate::tape::{MAX_INPUT, TapeCommandFault, fault_of_air};
-use device_ends::{Failed, ReadFault, Sink, Source, read_up_to, write_all};
-use gsmtap::{AirFaultKind, Carried, ChannelType, Heard, Station, carried_by, heard_in_capture};
+use device_ends::{Failed, ReadFault, Sink, Source, write_all};
+use gsmtap::{Carried, ChannelType, Heard, SenderRow, SenderTable, Walk};
 use std::alloc::{AllocError, Global};
 use std::io::{Read, Write};
 
@@ -24,7 +28,7 @@ const COLUMNS: &str =
 /// numbers of the first and the last of them; of the tape that these blocks make alone the number of its slots and of
 /// its pages, and their message identifiers, which are empty if they make none; and when the first packet and the last
 /// one came, in seconds from 1970-01-01T00:00:00Z on, which is empty if the file doesn't say it. Nothing is written
-/// before all of the table is made.
+/// before all of the table is made. The file isn't kept, nor any of its packets.
 pub fn cells_stream<R: Read, W: Write>(
     alloc: Global,
     source: &mut Source<R>,
@@ -42,19 +46,26 @@ pub fn cells_stream<R: Read, W: Write>(
     ensures any_ends { IsStreamBetween TapeCommandFault.ReadFailed IsTapeWriteFault result W.contents source.old
         source.new sink.old sink.new }
 {
-    let input = match read_up_to(source, alloc, MAX_INPUT) {
-        Ok(input) => input,
+    if source.failed() {
+        return Err(TapeCommandFault::ReadFailed);
+    }
+    let mut walk = Walk::new(alloc, SenderTable::new(alloc));
+    let count = match walk_over(alloc, source, &mut walk) {
+        Ok(count) => count,
         Err(ReadFault::Device) => return Err(TapeCommandFault::ReadFailed),
         Err(ReadFault::Refused) => return Err(TapeCommandFault::Refused),
     };
-    if input.len() > MAX_INPUT {
+    if count > MAX_INPUT {
         return Err(TapeCommandFault::TooLong);
     }
-    let senders = match heard_in_capture(alloc, &input) {
+    let senders = match walk.end() {
         Ok(senders) => senders,
         Err(fault) => return Err(fault_of_air(fault)),
     };
-    let Ok(output) = table_of(alloc, &input, &senders.times, &senders.heard) else {
+    let Ok(rows) = senders.rows() else {
+        return Err(TapeCommandFault::Refused);
+    };
+    let Ok(output) = table_of(alloc, &rows) else {
         return Err(TapeCommandFault::Refused);
     };
     match write_all(sink, output.as_bytes()) {
@@ -63,69 +74,35 @@ pub fn cells_stream<R: Read, W: Write>(
     }
 }
 
-/// The table of senders in a capture file.
-fn table_of(
-    alloc: Global,
-    input: &[u8],
-    times: &[Option<u64>],
-    heard: &[Heard],
-) -> Result<String, AllocError>
-    requires { length input.now < 2 ^ 48 }
-    ensures { IfOk result (λ text. IsTableOf input.now times.now heard.now (string_bytes text)) }
+/// The table of who sends in a capture file.
+fn table_of(alloc: Global, rows: &[SenderRow]) -> Result<String, AllocError>
+    ensures { IfOk result (λ text. string_bytes text ≡ columns_text ++ flat_map row_text rows.now) }
 {
     let mut text = String::from_str(alloc, COLUMNS)?;
-    for one in heard {
-        text.push_str(&row_of(alloc, input, times, one)?)?;
+    for row in rows {
+        text.push_str(&row_text(alloc, row)?)?;
     }
     Ok(text)
 }
 
-/// The row of a sender in a capture file.
-fn row_of(
-    alloc: Global,
-    input: &[u8],
-    times: &[Option<u64>],
-    one: &Heard,
-) -> Result<String, AllocError>
-    requires { length input.now < 2 ^ 48 }
-    ensures { IfOk result (λ text. IsRowOf input.now times.now one.now (string_bytes text)) }
+/// The line of a sender.
+fn row_text(alloc: Global, row: &SenderRow) -> Result<String, AllocError>
+    ensures { IfOk result (λ text. string_bytes text ≡ row_text row.now) }
 {
-    let carried = carried_in(alloc, input, one.station)?;
-    let mut text = sender_text(alloc, one)?;
-    text.push_str(&carried_text(alloc, &carried)?)?;
-    text.push_str(&times_text(alloc, times, one)?)?;
+    let mut text = sender_text(alloc, &row.heard)?;
+    text.push_str(&carried_text(alloc, &row.carried)?)?;
+    text.push_str(&times_text(alloc, row.first_time, row.last_time)?)?;
     text.push_str("\n")?;
     Ok(text)
 }
 
-/// What a sender's blocks in a capture file carry, if they make a tape.
-fn carried_in(alloc: Global, input: &[u8], station: Station) -> Result<Option<Carried>, AllocError>
-    requires { length input.now < 2 ^ 48 }
-    ensures { IfOk result (λ carried. CarriesIn input.now station (summary_of_any carried)) }
-{
-    match carried_by(alloc, input, station) {
-        Ok(carried) => Ok(Some(carried)),
-        Err(fault) => match fault.kind {
-            AirFaultKind::Refused => Err(AllocError),
-            _ => Ok(None),
-        },
-    }
-}
-
 /// The columns of when a sender's first and last packets came, and the commas before them.
-fn times_text(alloc: Global, times: &[Option<u64>], one: &Heard) -> Result<String, AllocError>
-    ensures { IfOk result (λ text. string_bytes text ≡ times_text times.now one.now) }
+fn times_text(alloc: Global, first: Option<u64>, last: Option<u64>) -> Result<String, AllocError>
+    ensures { IfOk result (λ text. string_bytes text ≡ times_text first last) }
 {
-    let first = time_text(alloc, time_of(times, one.first))?;
-    let last = time_text(alloc, time_of(times, one.last))?;
+    let first = time_text(alloc, first)?;
+    let last = time_text(alloc, last)?;
     format!(in alloc; ",{first},{last}")
-}
-
-/// When the packet of a number came, from 1 on, of which these are the times.
-fn time_of(times: &[Option<u64>], number: u64) -> Option<u64>
-    ensures { result ≡ time_of times.now number }
-{
-    *times.get(number.saturating_sub(1) as usize)?
 }
 
 /// A time in seconds with nine decimals, or nothing.
@@ -170,7 +147,7 @@ fn sender_text(alloc: Global, one: &Heard) -> Result<String, AllocError>
 
 /// The columns of what a sender's blocks carry, and the commas before them.
 fn carried_text(alloc: Global, carried: &Option<Carried>) -> Result<String, AllocError>
-    ensures { IfOk result (λ text. string_bytes text ≡ carried_text (summary_of_any carried.now)) }
+    ensures { IfOk result (λ text. string_bytes text ≡ carried_text (option_map summary_of carried.now)) }
 {
     let Some(carried) = carried else {
         return String::from_str(alloc, ",,,");
