@@ -5,11 +5,10 @@ pub mod PieceSteps
 pub mod PacketSteps
 pub mod ThereAndBack
 pub mod Senders
-pub mod Hearing
 pub mod Once
-pub mod Times
 pub mod OptionWalk
 pub mod TapesLaws
 pub mod TapesFaults
 pub mod Walks
+pub mod Hearing
 pub mod TapesTaken

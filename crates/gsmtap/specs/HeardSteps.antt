@@ -3,15 +3,12 @@ use Rattle.std.specs.Prelude.{◌≡◌, ℕ, ◌+◌, min, ◌⊎◌, List, [],
 use Rattle.std.specs.Prelude.{Some, None, Result, Ok, Err}
 use Rattle.gsmtap.specs.File.{Packet, link_numbered}
 use Rattle.gsmtap.specs.Heard.{is_station, station_in}
-use Rattle.gsmtap.specs.Taken.{Taking}
-use Rattle.gsmtap.specs.TapeSteps.{IsFoundKind, after_found}
+use Rattle.gsmtap.specs.TapeSteps.{IsPacketKind}
 use Rattle.gsmtap.specs.declared.fault.AirFault.{AirFault}
 use Rattle.gsmtap.specs.declared.fault.AirFaultKind.{AirFaultKind}
 use Rattle.gsmtap.specs.declared.fault.AirFaultKind.TheVariants as kind
 use Rattle.gsmtap.specs.declared.file.Link.{Link}
 use Rattle.gsmtap.specs.declared.heard.Heard.{Heard}
-use Rattle.gsmtap.specs.declared.pieces.Found.{Found}
-use Rattle.gsmtap.specs.declared.pieces.Found.TheVariants as found
 use Rattle.gsmtap.specs.declared.tap.Station.{Station}
 
 -- a sender of whom the packet of this number is the first; and with one packet more, if there was one before. (No file
@@ -38,36 +35,16 @@ abbrev pub with_sender : (number : ℕ) → List Heard → Option Station → Li
 with_sender number heard None = heard
 with_sender number heard (Some station) = with_station number heard station
 
--- what is known after some packets: how many these are, and who sends
-pub record Hearing : Type 0 where
-  pub packets : ℕ
-  pub heard : List Heard
+-- who sends after the packet of this number, of this link type if that is known
+abbrev pub counted_by : (number : ℕ) → List Heard → Packet → Option Link → Result (List Heard) AirFaultKind
+counted_by number heard packet None = Err (kind.OtherLink packet.link)
+counted_by number heard packet (Some link) = Ok (with_sender number heard (station_in link packet.octets))
 
-abbrev pub hearing_of : (packets : ℕ) → List Heard → Hearing
-hearing_of packets heard = record { packets = packets; heard = heard }
+unfoldable pub count : (number : ℕ) → List Heard → Packet → Result (List Heard) AirFaultKind
+count number heard packet = counted_by number heard packet (link_numbered packet.link)
 
-abbrev pub counted_by : Hearing → Packet → Option Link → Result Hearing AirFaultKind
-counted_by hearing packet None = Err (kind.OtherLink packet.link)
-counted_by hearing packet (Some link) = Ok (record {
-  packets = hearing.packets + 1;
-  heard = with_sender (hearing.packets + 1) hearing.heard (station_in link packet.octets);
-})
-
-unfoldable pub count : Hearing → Packet → Result Hearing AirFaultKind
-count hearing packet = counted_by hearing packet (link_numbered packet.link)
-
-abbrev pub for_counting : Taking Hearing
-for_counting = record { start = record { packets = 0; heard = [] }; step = count }
-
--- the times with that of a packet, if one was found
-abbrev pub times_with : List (Option ℕ) → Found → List (Option ℕ)
-times_with times (found.Packet packet) = times ++ packet.time ∷ []
-times_with times found.Nothing = times
-times_with times found.Wrong = times
-
--- why the packet that was found next isn't taken: it is at fault, or memory was refused
-abbrev pub IsHearingFault : (packets : ℕ) → List Heard → Found → AirFault → Type 0
-IsHearingFault packets heard found fault =
-    ((fault.kind ≡ kind.Refused) × (fault.packet ≡ 0))
-    ⊎ ((fault.packet ≡ packets + 1) × (after_found count (hearing_of packets heard) found ≡ Err fault.kind)
-    × IsFoundKind found fault.kind)
+-- why the packet of this number isn't counted: it is at fault, or memory was refused
+abbrev pub IsHearingFault : (number : ℕ) → List Heard → Packet → AirFault → Type 0
+IsHearingFault number heard packet fault =
+    (fault ≡ record { packet = 0; kind = kind.Refused })
+    ⊎ ((fault.packet ≡ number) × IsPacketKind fault.kind × (count number heard packet ≡ Err fault.kind))

@@ -21,5 +21,6 @@ pub mod Heard
 pub mod HeardSteps
 pub mod Laws
 pub mod Times
+pub mod HeardTaken
 pub mod Carried
 pub mod CarriedSteps

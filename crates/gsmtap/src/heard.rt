@@ -1,19 +1,20 @@
 //! Who sends in a capture file.
 
-ghost use Rattle.std.specs.Prelude.{◌≡◌, ◌+◌, ◌-◌, ◌<◌, ◌^◌, ℕ, length, IfErr, IfOk, Ok, OnOk};
-ghost use Rattle.gsmtap.specs.Heard.{AreHeard, IsHeardFault, is_station};
-ghost use Rattle.gsmtap.specs.HeardSteps.{IsHearingFault, count, for_counting, heard_again, hearing_of, place_of};
-ghost use Rattle.gsmtap.specs.HeardSteps.{times_with, with_station};
-ghost use Rattle.gsmtap.specs.PieceSteps.{packet_of, section_of};
-ghost use Rattle.gsmtap.specs.Taken.{AreKnown};
-ghost use Rattle.gsmtap.specs.TapeSteps.{IsPieceFault, after_found, count_of};
-ghost use Rattle.gsmtap.specs.Times.{AreTimes, for_times};
+ghost use Rattle.std.specs.Prelude.{◌≡◌, ◌<◌, ◌^◌, ◌++◌, ◌∷◌, [], List, length, Option, IfErr, IfOk, Ok, OnOk};
+ghost use Rattle.gsmtap.specs.Heard.{AreHeard, IsHeardFault, for_hearing, is_station};
+ghost use Rattle.gsmtap.specs.HeardSteps.{IsHearingFault, count, heard_again, place_of, with_station};
+ghost use Rattle.gsmtap.specs.HeardTaken.{HaveHeard};
+ghost use Rattle.gsmtap.specs.PieceSteps.{packet_of};
+ghost use Rattle.gsmtap.specs.Times.{AreTimes};
+ghost use Rattle.gsmtap.specs.declared.tap.Station.{Station};
 
 use crate::fault::{AirFault, AirFaultKind};
 use crate::file::link_numbered;
-use crate::pieces::{Captured, Found, Reader};
+use crate::frontier::take_all;
+use crate::pieces::Captured;
+use crate::taker::TakesPackets;
 use crate::tap::{Station, station_in};
-use crate::tape::{fault_at, opened};
+use crate::tape::fault_at;
 use std::alloc::{AllocError, Global};
 
 /// A sender of blocks of a cell broadcast channel, and where a capture file has them.
@@ -39,6 +40,33 @@ pub struct SendersHeard {
     pub times: Vec<Option<u64>>,
 }
 
+impl SendersHeard {
+    /// No packet.
+    pub fn new(alloc: Global) -> SendersHeard
+        ensures { HaveHeard [] result }
+    {
+        SendersHeard {
+            heard: Vec::new(alloc),
+            times: Vec::new(alloc),
+        }
+    }
+}
+
+impl TakesPackets for SendersHeard {
+    ghost Given = { Unit {0} };
+
+    ghost State = { List (Option Station) };
+
+    ghost taking = { λ _. for_hearing };
+
+    ghost HasTaken = { λ _. HaveHeard };
+
+    fn take(&mut self, before: u64, packet: &Captured) -> Result<(), AirFault> {
+        note_time(&mut self.times, packet.time)?;
+        hear_packet(&mut self.heard, before + 1, packet)
+    }
+}
+
 /// Who sends blocks of a cell broadcast channel in a capture file, in the order of their first ones. Blocks are marked
 /// as such, or as those of the SDCCH in whose place the channel stands; those of the extended channel are passed over.
 ///
@@ -52,82 +80,22 @@ pub fn heard_in_capture(alloc: Global, input: &[u8]) -> Result<SendersHeard, Air
     ensures times { IfOk result (λ senders. AreTimes input.now senders.times.items) }
     ensures fault { IfErr result (IsHeardFault input.now) }
 {
-    let (reader, octets) = match opened(alloc, input) {
-        Ok(opened) => opened,
-        Err(kind) => return Err(fault_at(0, kind)),
-    };
-    hear_pieces(alloc, reader, octets)
+    take_all(alloc, input, SendersHeard::new(alloc))
 }
 
-/// Who sends in all pieces of a file, from its first one on.
-fn hear_pieces(alloc: Global, mut reader: Reader, octets: &[u8]) -> Result<SendersHeard, AirFault>
-    requires { length octets.now < 2 ^ 48 }
-    ensures heard { IfOk result (λ senders. (packets : ℕ) × (packets < 2 ^ 60)
-        × AreKnown for_counting (section_of reader) octets.now (hearing_of packets senders.heard.items)) }
-    ensures times { IfOk result (λ senders.
-        AreKnown for_times (section_of reader) octets.now senders.times.items) }
-    ensures fault { IfErr result (IsPieceFault for_counting (section_of reader) octets.now) }
+/// Notes when a packet came.
+fn note_time(times: &mut Vec<Option<u64>>, time: Option<u64>) -> Result<(), AllocError>
+    ensures { OnOk result (times.new.items ≡ times.old.items ++ time ∷ []) }
 {
-    let mut heard = Vec::new(alloc);
-    let mut times = Vec::new(alloc);
-    let mut left = octets;
-    let mut number = 0;
-    'pieces: while !left.is_empty() {
-        let (piece, rest) = match reader.split(left) {
-            Ok(split) => split,
-            Err(kind) => return Err(fault_at(number + 1, kind)),
-        };
-        let found = reader.enter(piece)?;
-        push_time(&mut times, &found)?;
-        match hear_found(&mut heard, number, &found) {
-            Ok(packets) => number += packets,
-            Err(fault) => return Err(fault),
-        }
-        left = rest;
-    }
-    Ok(SendersHeard { heard, times })
-}
-
-/// Takes in the time of a packet, if one was found.
-fn push_time(times: &mut Vec<Option<u64>>, found: &Found) -> Result<(), AllocError>
-    ensures { OnOk result (times.new.items ≡ times_with times.old.items found.now) }
-{
-    match found {
-        Found::Packet(packet) => {
-            times.push(packet.time)?;
-            Ok(())
-        }
-        Found::Nothing => Ok(()),
-        Found::Wrong => Ok(()),
-    }
-}
-
-/// Counts the block that a packet carries, if one was found and it does, and returns how many packets there were.
-fn hear_found(heard: &mut Vec<Heard>, number: u64, found: &Found) -> Result<u64, AirFault>
-    requires { number < 2 ^ 60 }
-    ensures heard { OnOk result (after_found count (hearing_of number heard.old.items) found.now
-        ≡ Ok (hearing_of (number + count_of found.now) heard.new.items)) }
-    ensures many { IfOk result (λ packets. packets ≡ count_of found.now) }
-    ensures fault { IfErr result (IsHearingFault number heard.old.items found.now) }
-{
-    match found {
-        Found::Packet(packet) => match hear_packet(heard, number + 1, packet) {
-            Ok(()) => Ok(1),
-            Err(fault) => Err(fault),
-        },
-        Found::Nothing => Ok(0),
-        Found::Wrong => Err(fault_at(number + 1, AirFaultKind::WrongBlock)),
-    }
+    times.push(time)?;
+    Ok(())
 }
 
 /// Counts the block that the packet of this number carries, if it does.
 #[tactic(auto, unfolding(crate::specs::HeardSteps::count))]
 fn hear_packet(heard: &mut Vec<Heard>, number: u64, packet: &Captured) -> Result<(), AirFault>
-    requires { 0 < number }
-    ensures heard { OnOk result (count (hearing_of (number - 1) heard.old.items) (packet_of packet.now)
-        ≡ Ok (hearing_of number heard.new.items)) }
-    ensures fault { IfErr result (IsHearingFault (number - 1) heard.old.items
-        (Found.Packet packet.now)) }
+    ensures heard { OnOk result (count number heard.old.items (packet_of packet.now) ≡ Ok heard.new.items) }
+    ensures fault { IfErr result (IsHearingFault number heard.old.items (packet_of packet.now)) }
 {
     let Some(link) = link_numbered(packet.link) else {
         return Err(fault_at(number, AirFaultKind::OtherLink(packet.link)));
