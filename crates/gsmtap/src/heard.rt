@@ -14,7 +14,7 @@ use crate::frontier::take_all;
 use crate::pieces::Captured;
 use crate::taker::TakesPackets;
 use crate::tap::{Station, station_in};
-use crate::tape::fault_at;
+use crate::tape::{fault_at, opened};
 use std::alloc::{AllocError, Global};
 
 /// A sender of blocks of a cell broadcast channel, and where a capture file has them.
@@ -80,7 +80,11 @@ pub fn heard_in_capture(alloc: Global, input: &[u8]) -> Result<SendersHeard, Air
     ensures times { IfOk result (λ senders. AreTimes input.now senders.times.items) }
     ensures fault { IfErr result (IsHeardFault input.now) }
 {
-    take_all(alloc, input, SendersHeard::new(alloc))
+    let (reader, octets) = match opened(alloc, input) {
+        Ok(opened) => opened,
+        Err(kind) => return Err(fault_at(0, kind)),
+    };
+    take_all(reader, octets, SendersHeard::new(alloc))
 }
 
 /// Notes when a packet came.
