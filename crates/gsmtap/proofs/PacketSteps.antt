@@ -3,7 +3,7 @@ use Rattle.std.proofs.Common.{◌≡◌, ℕ, ◌+◌, ◌*◌, ◌≤◌, List,
 use Rattle.std.proofs.Common.{arith, append_assoc, append-nil, Some, None, Result, Ok, Err}
 use Rattle.std.specs.List.{flat_map}
 use Rattle.std.proofs.lemmas.Grind.{flat_map-append}
-use Rattle.std.proofs.lemmas.List.{length-append, length-replicate, length_push}
+use Rattle.std.proofs.lemmas.List.{length-replicate, length_push}
 use Rattle.gsmtap.specs.File.{Packet}
 use Rattle.gsmtap.specs.PieceSteps.{BeginsWithPiece, IsFrontFault, meant, packet_of}
 use Rattle.gsmtap.specs.Pieces.{BeginWithPackets, BringAll, Brings, IsCutPiece, IsWrongPiece, least, meaning}
@@ -33,13 +33,6 @@ count_few found.Wrong = omega arith
 pub least_is : (format : Format) → 12 ≤ least format
 least_is (Classic link unit) = omega arith
 least_is Pcapng = omega arith
-
--- what is left is shorter by a block's frame at least
-pub shorter : (section : Section) (octets piece rest : List ℕ) → BeginsWithPiece section octets piece rest →
-    length rest + 12 ≤ length octets
-shorter section octets piece rest begins =
-    let whole : length octets ≡ length piece + length rest = ap length begins.split ∙ length-append piece rest in
-    omega (arith, whole, least_is section.format, begins.is.long)
 
 -- one packet more
 after_more : {S : Type 0} (step : S → Packet → Result S AirFaultKind) (number : ℕ) (state : Result S AirFaultKind)
@@ -128,60 +121,6 @@ taken_of by here octets there left packets number known begin many comes = recor
   many = many;
   are_taken = comes;
 }
-
--- a piece more that has no packet
-nothing_more : {S : Type 0} (by : Taking S) (here : Section) (octets : List ℕ) (there : Section) (left : List ℕ)
-    (number : ℕ)
-    (known : S) (piece rest : List ℕ) (new : Section) → AreTaken by here octets there left number known →
-    BeginsWithPiece there left piece rest → meaning there piece ≡ Some (record { section = new; packet = None }) →
-    AreTaken by here octets new rest number known
-nothing_more by here octets there left number known piece rest new sofar begins brings = record {
-  pieces = sofar.pieces ++ piece ∷ [];
-  packets = sofar.packets;
-  split = split_more octets left piece rest sofar.pieces sofar.split begins.split;
-  bring =
-      subst (λ packets. BringAll here (sofar.pieces ++ piece ∷ []) new packets) (append-nil sofar.packets)
-      (bring_more here sofar.pieces there sofar.packets piece (record { section = new; packet = None }) sofar.bring
-      (record { is = begins.is; brings = brings }));
-  many = sofar.many;
-  are_taken = sofar.are_taken;
-}
-
--- a piece more that has a packet, which brings no fault
-packet_more : {S : Type 0} (by : Taking S) (here : Section) (octets : List ℕ) (there : Section) (left : List ℕ)
-    (number : ℕ)
-    (known : S) (piece rest : List ℕ) (new : Section) (packet : Packet) (next : S) →
-    AreTaken by here octets there left number known → BeginsWithPiece there left piece rest →
-    meaning there piece ≡ Some (record { section = new; packet = Some packet }) →
-    by.step known packet ≡ Ok next → AreTaken by here octets new rest (number + 1) next
-packet_more by here octets there left number known piece rest new packet next sofar begins brings comes = record {
-  pieces = sofar.pieces ++ piece ∷ [];
-  packets = sofar.packets ++ packet ∷ [];
-  split = split_more octets left piece rest sofar.pieces sofar.split begins.split;
-  bring =
-      bring_more here sofar.pieces there sofar.packets piece (record { section = new; packet = Some packet })
-      sofar.bring (record { is = begins.is; brings = brings });
-  many = length_push sofar.packets packet ∙ ap (λ n. n + 1) sofar.many;
-  are_taken = taken_more by sofar.packets packet known (Ok next) sofar.are_taken comes;
-}
-
--- one piece more
-pub one_more : {S : Type 0} (by : Taking S) (here : Section) (octets : List ℕ) (there : Section) (left : List ℕ)
-    (number : ℕ)
-    (known : S) (piece rest : List ℕ) (new : Section) (what : Found) (next : S) →
-    AreTaken by here octets there left number known → BeginsWithPiece there left piece rest →
-    meant new what ≡ meaning there piece → after_found by.step known what ≡ Ok next →
-    AreTaken by here octets new rest (number + count_of what) next
-one_more by here octets there left number known piece rest new (found.Packet packet) next sofar begins is comes =
-    packet_more by here octets there left number known piece rest new
-    (packet_of packet) next sofar begins (sym is) comes
-one_more by here octets there left number known piece rest new found.Nothing next sofar begins is comes =
-    let same : known ≡ next = cc in
-    let many : number ≡ number + 0 = omega arith in
-    subst (λ n. AreTaken by here octets new rest n next) many
-    (subst (λ k. AreTaken by here octets new rest number k) same
-    (nothing_more by here octets there left number known piece rest new sofar begins (sym is)))
-one_more by here octets there left number known piece rest new found.Wrong next sofar begins is comes = cc
 
 wrong_packet : {S : Type 0} (by : Taking S) (here : Section) (octets : List ℕ) (there : Section) (left : List ℕ)
     (number : ℕ)
@@ -282,19 +221,6 @@ all_taken by here octets there left number known sofar end = record {
   there = there;
   number = number;
   are = subst (λ rest. AreTaken by here octets there rest number known) end sofar;
-}
-
--- before the first piece
-pub none_taken : {S : Type 0} (by : Taking S) (here : Section) (octets : List ℕ) (known : S) → known ≡ by.start →
-    AreTaken by here octets here octets 0 known
-unfolding taken
-none_taken by here octets known is = record {
-  pieces = [];
-  packets = [];
-  split = refl;
-  bring = (refl, refl);
-  many = refl;
-  are_taken = ap Ok (sym is);
 }
 
 -- there are four places for each slot

@@ -6,7 +6,6 @@ use Rattle.gsmtap.specs.Pieces.{IsCutPiece, IsWrongPiece}
 use Rattle.gsmtap.specs.Section.{Section}
 use Rattle.gsmtap.specs.Taken.{EndsWith, HasWrongPacket, IsNoCapture, IsOtherLink, Taking}
 use Rattle.gsmtap.specs.Track.{Known}
-use Rattle.gsmtap.specs.declared.fault.AirFault.{AirFault}
 use Rattle.gsmtap.specs.declared.fault.AirFaultKind.{AirFaultKind}
 use Rattle.gsmtap.specs.declared.fault.AirFaultKind.TheVariants as kind
 use Rattle.gsmtap.specs.declared.pieces.Found.{Found}
@@ -49,9 +48,6 @@ IsPieceFaultOf by here octets packet kind.StepsBack =
     HasWrongPacket by here octets (record { packet = packet; kind = kind.StepsBack })
 IsPieceFaultOf by here octets packet kind.NoBlock = ⊥
 IsPieceFaultOf by here octets packet kind.Refused = packet ≡ 0
-
-abbrev pub IsPieceFault : {S : Type 0} → Taking S → Section → List ℕ → AirFault → Type 0
-IsPieceFault by here octets fault = IsPieceFaultOf by here octets fault.packet fault.kind
 
 -- a fault of a block, which is of one of two kinds
 abbrev pub IsBlockKind : AirFaultKind → Type 0

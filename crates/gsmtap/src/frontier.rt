@@ -2,7 +2,7 @@
 
 ghost use Rattle.std.specs.Prelude.{◌≡◌, ◌<◌, ◌≤◌, ◌^◌, ℕ, List, [], drop, length, IfErr, IfOk, OnOk};
 ghost use Rattle.gsmtap.specs.PieceSteps.{section_of};
-ghost use Rattle.gsmtap.specs.Taken.{IsFileFault};
+ghost use Rattle.gsmtap.specs.Taken.{IsFileFault, Opens};
 ghost use Rattle.gsmtap.specs.Taker.{CanTake, HasTakenAll, IsTakingFault, TakesFound};
 ghost use Rattle.gsmtap.specs.TapeSteps.{count_of};
 ghost use Rattle.gsmtap.specs.Walk.{AreLeft, IsLastingFault, HaveNoPiece};
@@ -11,8 +11,7 @@ ghost use Rattle.gsmtap.specs.WalkSteps.{AreLeftOfSome};
 use crate::fault::{AirFault, AirFaultKind};
 use crate::pieces::{Found, Reader};
 use crate::taker::TakesPackets;
-use crate::tape::{fault_at, opened};
-use std::alloc::Global;
+use crate::tape::fault_at;
 
 /// What is known of a capture file where one of its pieces begins, and the taker of the packets before.
 #[derive(Drop)]
@@ -78,28 +77,26 @@ fn take_found<T: TakesPackets>(taker: &mut T, before: u64, found: &Found) -> Res
     }
 }
 
-/// Hands the packets of a file to a taker that has none yet, and gives it back.
+/// Hands the packets of a file to a taker that has none yet, and gives it back. The file goes on with these octets from
+/// its first piece on.
 ///
 /// # Errors
 ///
-/// Returns the fault of the first packet or block that has one, or of the file's begin, which is packet 0, and out of
-/// memory.
+/// Returns the fault of the first packet or block that has one, and out of memory.
 pub(crate) fn take_all<T: TakesPackets + Drop>(
-    alloc: Global,
-    input: &[u8],
+    reader: Reader,
+    octets: &[u8],
     taker: T,
 ) -> Result<T, AirFault>
-    requires few { length input.now < 2 ^ 48 }
-    requires none { (given : T.Given) × T.HasTaken given [] taker }
-    ensures taken { IfOk result (λ taken. (given : T.Given) → T.HasTaken given [] taker →
-        HasTakenAll (T.taking given) (T.HasTaken given) input.now taken) }
-    ensures fault { IfErr result (λ fault. (given : T.Given) → T.HasTaken given [] taker →
-        IsFileFault (T.taking given) input.now fault.packet fault.kind) }
+    requires { (given : T.Given) × (input : List ℕ) × Opens input (section_of reader) octets.now
+        × T.HasTaken given [] taker × (length input < 2 ^ 48) }
+    ensures taken { IfOk result (λ taken. (given : T.Given) (input : List ℕ) →
+        Opens input (section_of reader) octets.now → T.HasTaken given [] taker →
+        HasTakenAll (T.taking given) (T.HasTaken given) input taken) }
+    ensures fault { IfErr result (λ fault. (given : T.Given) (input : List ℕ) →
+        Opens input (section_of reader) octets.now → T.HasTaken given [] taker →
+        IsFileFault (T.taking given) input fault.packet fault.kind) }
 {
-    let (reader, octets) = match opened(alloc, input) {
-        Ok(opened) => opened,
-        Err(kind) => return Err(fault_at(0, kind)),
-    };
     let mut front = Frontier {
         reader,
         taker,

@@ -2,7 +2,7 @@
 
 ghost use Rattle.std.specs.Prelude.{◌≡◌, ◌<◌, ◌≤◌, ◌^◌, length, [], IfOk};
 ghost use Rattle.std.specs.Prelude.{MatchOption, MatchResult};
-ghost use Rattle.gsmtap.specs.PieceSteps.{BeginsWithPiece, IsFrontFault, meant, section_of};
+ghost use Rattle.gsmtap.specs.PieceSteps.{BeginsWithPiece, meant, section_of};
 ghost use Rattle.gsmtap.specs.Pieces.{IsCutPiece, IsWrongPiece, least, meaning, piece_length};
 ghost use Rattle.gsmtap.specs.Taken.{no_section};
 ghost use Rattle.gsmtap.specs.declared.fault.AirFaultKind.TheVariants as kinds;
@@ -93,25 +93,6 @@ impl Reader {
             format: Format::Pcapng,
             order: OctetOrder::LowFirst,
             interfaces: Vec::new(alloc),
-        }
-    }
-
-    /// The first piece of octets, and what follows it.
-    ///
-    /// # Errors
-    ///
-    /// Returns [`AirFaultKind::Short`] if the octets end inside it, and [`AirFaultKind::WrongBlock`] if a block's first
-    /// octets contradict themselves.
-    pub fn split<'a>(&self, octets: &'a [u8]) -> Result<(&'a [u8], &'a [u8]), AirFaultKind>
-        requires { 0 < length octets.now }
-        ensures { MatchResult result
-            (λ it. BeginsWithPiece (section_of self.now) octets.now it.0.now it.1.now)
-            (IsFrontFault (section_of self.now) octets.now) }
-    {
-        match self.next_piece(octets) {
-            Ok(Some(split)) => Ok(split),
-            Ok(None) => Err(AirFaultKind::Short),
-            Err(kind) => Err(kind),
         }
     }
 

@@ -20,7 +20,7 @@ use crate::listener::Listener;
 use crate::pieces::Captured;
 use crate::taker::TakesPackets;
 use crate::tap::{Sent, Station, sent_in, station_in};
-use crate::tape::fault_at;
+use crate::tape::{fault_at, opened};
 use std::alloc::{AllocError, Global};
 
 /// A row of the table of who sends in a capture file.
@@ -255,7 +255,11 @@ pub fn senders_of_capture(alloc: Global, input: &[u8]) -> Result<Vec<SenderRow>,
     ensures rows { IfOk result (λ rows. AreRowsIn input.now rows.items) }
     ensures fault { IfErr result (IsHeardFault input.now) }
 {
-    let senders = match take_all(alloc, input, SenderTable::new(alloc)) {
+    let (reader, octets) = match opened(alloc, input) {
+        Ok(opened) => opened,
+        Err(kind) => return Err(fault_at(0, kind)),
+    };
+    let senders = match take_all(reader, octets, SenderTable::new(alloc)) {
         Ok(senders) => senders,
         Err(fault) => return Err(fault),
     };

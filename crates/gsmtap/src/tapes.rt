@@ -17,7 +17,7 @@ use crate::fault::{AirFault, AirFaultKind};
 use crate::frontier::take_all;
 use crate::pieces::Captured;
 use crate::taker::TakesPackets;
-use crate::tape::{Wanted, air_for, fault_at, take_packet, tape_of};
+use crate::tape::{Wanted, air_for, fault_at, opened, take_packet, tape_of};
 use crate::track::Air;
 use crate::walk::Walk;
 use std::alloc::{AllocError, Global};
@@ -135,8 +135,12 @@ pub(crate) fn read_file(
     ensures known { IfOk result (λ airs. ComesTo (for_tapes wanted.now) input.now (known_of_each airs.items)) }
     ensures fault { IfErr result (λ fault. IsFileFault (for_tapes wanted.now) input.now fault.packet fault.kind) }
 {
+    let (reader, octets) = match opened(alloc, input) {
+        Ok(opened) => opened,
+        Err(kind) => return Err(fault_at(0, kind)),
+    };
     let tapes = Tapes::new(alloc, Vec::from_slice(alloc, wanted)?)?;
-    match take_all(alloc, input, tapes) {
+    match take_all(reader, octets, tapes) {
         Ok(tapes) => Ok(tapes.airs),
         Err(fault) => Err(fault),
     }
