@@ -7,7 +7,7 @@ use Rattle.cbsp_wire.specs.declared.message.Cell.{Cell}
 use Rattle.handset.specs.Tape.{octets_of_blocks, tape_octets}
 use Rattle.gsmtap.specs.TapeOfCapture.{IsTapeOfCapture, blocks_before, blocks_in, blocks_on_tape, slots_on_tape}
 use Rattle.gsmtap.specs.declared.tape.Wanted.{Wanted}
-use Rattle.warnc_air.specs.TapeOutput.{IsCellsFault, IsCellsOutput, IsTapeCommandFault, sending_text}
+use Rattle.warnc_air.specs.TapeOutput.{IsCellsFault, IsCellsOutput, IsTapeCommandFault, row_text}
 use Rattle.warnc_air.specs.declared.tape.TapeCommandFault.{TapeCommandFault}
 use Rattle.warnc_air.specs.declared.tape.TapeCommandFault.TheVariants as fault
 use Rattle.warnc_cli.specs.Status.{status_of_tape_fault}
@@ -32,10 +32,10 @@ some_tape wanted input output is =
 -- the table of senders is never empty: it has the columns' names
 pub some_senders : (input output : List ℕ) → IsCellsOutput input output → 0 < length output
 some_senders input output is =
-    subst (λ (octets : List ℕ). 0 < length octets) (sym is.2.2.written)
+    subst (λ (octets : List ℕ). 0 < length octets) (sym is.2)
     (longer 115
     (codes "ource,arfcn,channel,blocks,first,last,slots,pages,identifiers,first_time,last_time\n"
-    ++ flat_map (sending_text is.2.0) is.2.2.sending))
+    ++ flat_map row_text is.0))
 
 refused_here : (wanted : Wanted) (input : List ℕ) (old new : Option (List ℕ)) (why : TapeCommandFault) →
     IsTapeCommandFault wanted input old new why → status_of_tape_fault why ≡ 1 → IsNoAir wanted input
