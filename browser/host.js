@@ -64,9 +64,22 @@ function run(words, input = "") {
     return { status, out: joined(written[1]), says: decode(joined(written[2])).trim().replace(/^warnc: /, "") };
 }
 
+// The octets of a text in base 85: four octets are five signs, as Python's base64.b85encode writes them.
+const SIGNS = "0123456789ABCDEFGHIJKLMNOPQRSTUVWXYZabcdefghijklmnopqrstuvwxyz!#$%&()*+-;<=>?@^_`{|}~";
+
+function octetsOf(text) {
+    const values = new Uint8Array(128), missing = (5 - (text.length % 5)) % 5, whole = text + "~".repeat(missing);
+    [...SIGNS].forEach((sign, value) => { values[sign.charCodeAt(0)] = value; });
+    const octets = new DataView(new ArrayBuffer((whole.length / 5) * 4));
+    for (let at = 0; at < whole.length; at += 5) {
+        let four = 0;
+        for (let next = at; next < at + 5; next += 1) four = four * 85 + values[whole.charCodeAt(next)];
+        octets.setUint32((at / 5) * 4, four);
+    }
+    return new Uint8Array(octets.buffer, 0, octets.byteLength - missing);
+}
+
 async function compiled(packed) {
-    const octets = Uint8Array.fromBase64 ? Uint8Array.fromBase64(packed)
-        : Uint8Array.from(atob(packed), (sign) => sign.charCodeAt(0));
-    const stream = new Blob([octets]).stream().pipeThrough(new DecompressionStream("gzip"));
+    const stream = new Blob([octetsOf(packed)]).stream().pipeThrough(new DecompressionStream("gzip"));
     return WebAssembly.compile(await new Response(stream).arrayBuffer());
 }

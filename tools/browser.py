@@ -204,7 +204,8 @@ def hash_of(text):
 
 
 def packed(wasm):
-    return base64.b64encode(gzip.compress(wasm, 9, mtime=0)).decode()
+    """Returns the program as it stands in a page: packed, in signs that end no script, since none of them is `/`."""
+    return base64.b85encode(gzip.compress(wasm, 9, mtime=0)).decode()
 
 
 def made_page(text):
@@ -213,7 +214,7 @@ def made_page(text):
     parts["script"], parts["worker"] = ("".join(map(part, it)) for it in (SCRIPT, WORKER))
     for name in ("start", "script", "style"):
         parts[f"{name}_hash"] = hash_of(parts[name])
-    ending = [name for name, it in parts.items() if re.search(r"</(script|style)", it, re.I)]
+    ending = [name for name, it in parts.items() if re.search(r"</(script|style)|<!--", it, re.I)]
     if ending:
         raise Unmade(f"{ending[0]} would end the script that it stands in")
     return re.sub(r"\{\{(\w+)\}\}", lambda it: parts[it[1]], part("page.html")).encode()
@@ -221,7 +222,7 @@ def made_page(text):
 
 def packed_in(page):
     """Returns the program as it stands in a page."""
-    found = re.search(r'<script type="text/plain" id="packed">([A-Za-z0-9+/=]*)</script>', page.decode())
+    found = re.search(r'<script type="text/plain" id="packed">([^/]*)</script>', page.decode())
     return found[1] if found else ""
 
 
@@ -281,7 +282,7 @@ def check(top=TOP):
         return False
     wasm, page = release.read(WASM), release.read(PAGE)
     text = packed_in(page)
-    are_equal = {"page": gzip.decompress(base64.b64decode(text)) == wasm and made_page(text) == page}
+    are_equal = {"page": gzip.decompress(base64.b85decode(text)) == wasm and made_page(text) == page}
     try:
         are_equal["program"] = made_wasm(top) == wasm
     except Unmade as why:
