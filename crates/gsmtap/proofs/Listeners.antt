@@ -50,16 +50,6 @@ once-append front back =
 none_under_way : IsUnderWay [] []
 none_under_way = record { few = omega arith; begun = refl; goes_on = λ more. refl }
 
--- before the first block
-pub counted_none : (count : PageCount) → count.kept.items ≡ [] → count.pages ≡ 0 → count.identifiers.items ≡ [] →
-    AreCounted count []
-counted_none count kept pages identifiers = record {
-  under_way = subst (λ it. IsUnderWay it []) (sym kept) none_under_way;
-  kept = kept;
-  pages = pages;
-  identifiers = identifiers;
-}
-
 few_in_front : (blocks : List (List ℕ)) → length (page_in_front blocks) ≤ 1
 few_in_front blocks = elim (cases_Bool (bytes_eq (map block_type (take 4 blocks)) page_types)) [
   | inl is ↦ rw is (omega arith)

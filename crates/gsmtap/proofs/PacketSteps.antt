@@ -11,7 +11,7 @@ use Rattle.gsmtap.specs.Pieces.{packets_in}
 use Rattle.gsmtap.specs.Section.{Meaning, Section}
 use Rattle.gsmtap.specs.Taken.{AreKnown, AreTaken, EndsWith, HasWrongPacket, IsFileFault, IsFileWith, Opens, Taking}
 use Rattle.gsmtap.specs.Taken.{after_packets, taken}
-use Rattle.gsmtap.specs.TapeOfCapture.{IsAirFaultOf, for_tape, nothing_known}
+use Rattle.gsmtap.specs.TapeOfCapture.{nothing_known}
 use Rattle.gsmtap.specs.TapeSteps.{IsBeginFault, IsFoundKind, IsPacketKind, IsPieceFaultOf}
 use Rattle.gsmtap.specs.TapeSteps.{after_found, count_of}
 use Rattle.gsmtap.specs.Track.{Known}
@@ -21,7 +21,6 @@ use Rattle.gsmtap.specs.declared.pieces.Format.{Format}
 use Rattle.gsmtap.specs.declared.pieces.Format.TheVariants.{Classic, Pcapng}
 use Rattle.gsmtap.specs.declared.pieces.Found.{Found}
 use Rattle.gsmtap.specs.declared.pieces.Found.TheVariants as found
-use Rattle.gsmtap.specs.declared.tape.Wanted.{Wanted}
 
 -- a piece has one packet at most
 pub count_few : (what : Found) → count_of what ≤ 1
@@ -256,27 +255,3 @@ fault_of_begin by input kind.Differs is = absurd is
 fault_of_begin by input kind.StepsBack is = absurd is
 fault_of_begin by input kind.NoBlock is = absurd is
 fault_of_begin by input kind.Refused is = absurd is
-
--- a fault of a file is one of its tape
-of_tape : (wanted : Wanted) (input : List ℕ) (packet : ℕ) (why : AirFaultKind) →
-    IsFileFault (for_tape wanted) input packet why → IsAirFaultOf wanted input packet why
-of_tape wanted input packet kind.NoCapture is = is
-of_tape wanted input packet (kind.OtherLink other) is = is
-of_tape wanted input packet kind.Short is = is
-of_tape wanted input packet kind.WrongBlock is = is
-of_tape wanted input packet kind.Differs is = is
-of_tape wanted input packet kind.StepsBack is = is
-of_tape wanted input packet kind.NoBlock is = absurd is
-of_tape wanted input packet kind.Refused is = is
-
--- and so is one of its pieces
-pub tape_fault_of_pieces : (wanted : Wanted) (input : List ℕ) (here : Section) (after : List ℕ) (number : ℕ)
-    (why : AirFaultKind) → Opens input here after → IsPieceFaultOf (for_tape wanted) here after number why →
-    IsAirFaultOf wanted input number why
-tape_fault_of_pieces wanted input here after number why opens is =
-    of_tape wanted input number why (fault_of_pieces (for_tape wanted) input here after number why opens is)
-
--- and one of its begin
-pub tape_fault_of_begin : (wanted : Wanted) (input : List ℕ) (why : AirFaultKind) → IsBeginFault input why →
-    IsAirFaultOf wanted input 0 why
-tape_fault_of_begin wanted input why is = of_tape wanted input 0 why (fault_of_begin (for_tape wanted) input why is)

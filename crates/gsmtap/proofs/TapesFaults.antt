@@ -1,11 +1,11 @@
 -- A fault of tapes that are walked together is the fault of one of them alone.
 use Rattle.std.proofs.Common.{◌≡◌, ◌⊎◌, ℕ, ◌+◌, ◌*◌, ◌<◌, List, [], ◌∷◌, ◌++◌, length, refl, sym, ap, ◌∙◌, subst, inl}
 use Rattle.std.proofs.Common.{inr}
-use Rattle.std.proofs.Common.{arith, append-nil, get_or, Option, Some, None, false, Result, Ok, Err, nat_lt}
+use Rattle.std.proofs.Common.{arith, append-nil, Option, Some, None, false, Result, Ok, Err, nat_lt}
 use Rattle.std.specs.Prelude.{not, is_none}
 use Rattle.std.specs.List.{prefix_len}
 use Rattle.std.proofs.lemmas.Bool.{cases_Bool, ltb-true}
-use Rattle.std.proofs.lemmas.List.{length-append, length-map}
+use Rattle.std.proofs.lemmas.List.{length-append}
 use Rattle.gsmtap.specs.File.{Packet}
 use Rattle.gsmtap.specs.Laws.{FaultIsOfOne, ForOne, IsSilentAlone, SilentIsOne}
 use Rattle.gsmtap.specs.Pieces.{IsCutPiece, IsWrongPiece}
@@ -16,7 +16,6 @@ use Rattle.gsmtap.specs.TapeOfCapture.{nothing_known, slots_taken}
 use Rattle.gsmtap.specs.TapesOfCapture.{AreTapesOfCapture, IsTapesFault, after_each, before_others, fault_alone}
 use Rattle.gsmtap.specs.TapesOfCapture.{for_tapes, is_silent, none_known}
 use Rattle.gsmtap.specs.TapeSteps.{known_of}
-use Rattle.gsmtap.specs.TapesSteps.{known_of_each}
 use Rattle.gsmtap.specs.Track.{Known}
 use Rattle.gsmtap.specs.declared.fault.AirFault.{AirFault}
 use Rattle.gsmtap.specs.declared.fault.AirFaultKind.{AirFaultKind}
@@ -302,23 +301,6 @@ alone_tape one input output are =
     let whole : output ≡ are.0 = are.4 ∙ ap (λ rest. are.0 ++ rest) are.3 ∙ append-nil are.0 in
     subst (λ octets. IsTapeOfCapture one input octets) (sym whole) are.2
 
--- of a file that is at fault, too
-pub alone_file : (one : Wanted) (input : List ℕ) (packet : ℕ) (why : AirFaultKind) →
-    IsFileFault (for_tapes (one ∷ [])) input packet why → IsFileFault (for_tape one) input packet why
-alone_file one input packet kind.NoCapture is = is
-alone_file one input packet (kind.OtherLink number) is =
-    alone_fault one input (faults.Air (record { packet = packet; kind = kind.OtherLink number })) is
-alone_file one input packet kind.Short is =
-    alone_fault one input (faults.Air (record { packet = packet; kind = kind.Short })) is
-alone_file one input packet kind.WrongBlock is =
-    alone_fault one input (faults.Air (record { packet = packet; kind = kind.WrongBlock })) is
-alone_file one input packet kind.Differs is =
-    alone_fault one input (faults.Air (record { packet = packet; kind = kind.Differs })) is
-alone_file one input packet kind.StepsBack is =
-    alone_fault one input (faults.Air (record { packet = packet; kind = kind.StepsBack })) is
-alone_file one input packet kind.NoBlock is = absurd is
-alone_file one input packet kind.Refused is = is
-
 first_is : (a : Known) (rest : List Known) (b : Known) (others : List Known) → a ∷ rest ≡ b ∷ others → a ≡ b
 first_is a rest b others is = cc
 
@@ -326,23 +308,3 @@ first_is a rest b others is = cc
 pub record IsKnownAlone (one : Wanted) (input : List ℕ) (air : Air) : Type 0 where
   pub file : ComesTo (for_tape one) input (known_of air)
   pub long : length air.blocks.items ≡ 4 * slots_taken one
-
--- of one tape something is known
-pub alone_many : (one : Wanted) (input : List ℕ) (airs : List Air) →
-    ComesTo (for_tapes (one ∷ [])) input (known_of_each airs) → length airs ≡ 1
-alone_many one input airs file =
-    sym (length-map airs known_of)
-    ∙ long_many (one ∷ []) (known_of_each airs) (long_file (one ∷ []) input (known_of_each airs) file)
-
--- and that is what is known of it alone
-pub alone_known : (one : Wanted) (input : List ℕ) (airs : List Air) (d : Air) →
-    ComesTo (for_tapes (one ∷ [])) input (known_of_each airs) → IsKnownAlone one input (get_or airs 0 d)
-alone_known one input [] d file = absurd (omega (arith, alone_many one input [] file))
-alone_known one input (air ∷ airs) d file =
-    let apart = file_apart one [] input (known_of_each (air ∷ airs)) file in
-    let same : known_of air ≡ apart.first = first_is (known_of air) (known_of_each airs) apart.first apart.rest
-    apart.next_is in
-    record {
-      file = subst (λ (known : Known). ComesTo (for_tape one) input known) (sym same) apart.alone;
-      long = (long_file (one ∷ []) input (known_of_each (air ∷ airs)) file).0;
-    }

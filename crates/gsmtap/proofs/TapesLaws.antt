@@ -1,14 +1,14 @@
 -- Tapes that are walked together: what a packet more does to each of them, and that each comes to what it comes to
 -- alone.
 use Rattle.std.proofs.Common.{◌≡◌, ℕ, ◌+◌, ◌-◌, ◌*◌, ◌<◌, ◌≤◌, ◌⊎◌, List, [], ◌∷◌, ◌++◌, length, map, take, drop, refl}
-use Rattle.std.proofs.Common.{suc, sym, ap, ◌∙◌, subst, inl, inr, arith, append_assoc, append-nil, Option, Some, None}
+use Rattle.std.proofs.Common.{suc, sym, ap, ◌∙◌, subst, inl, inr, arith, append_assoc, Option, Some, None}
 use Rattle.std.proofs.Common.{Bool, true, false, Result, Ok, Err, get_or, set, if◌then◌else◌, nat_lt}
 use Rattle.std.specs.Prelude.{◌==◌, ◌%◌, ◌&&◌, nat_le, not, is_none, is_some, option_map, position, slice_set}
 use Rattle.std.specs.List.{AllByRecursion, prefix_len}
 use Rattle.std.specs.Str.{bytes_eq}
 use Rattle.std.proofs.lemmas.Bool.{cases_Bool, ltb-false, ltb-true}
-use Rattle.std.proofs.lemmas.List.{drop_all, drop_more, drop-set-lt, length-map, length-replicate, length-set}
-use Rattle.std.proofs.lemmas.List.{take_all, take_more_set}
+use Rattle.std.proofs.lemmas.List.{drop_more, drop-set-lt, length-map, length-replicate, length-set}
+use Rattle.std.proofs.lemmas.List.{take_more_set}
 use Rattle.gsmtap.specs.File.{Packet, link_numbered}
 use Rattle.gsmtap.specs.Taken.{ComesTo, after_packets, taken}
 use Rattle.gsmtap.specs.Tap.{sent_in}
@@ -497,16 +497,6 @@ pub offered_fault : (wanted : List Wanted) (old now : List Known) (packet : Pack
 offered_fault wanted old now packet place one nobody known nothing why so inside many one_is known_is comes =
     at_place wanted old now packet place one nobody known nothing (Err why) so inside many one_is known_is comes
 
--- all have taken it
-pub offered_all : (wanted : List Wanted) (old now : List Known) (packet : Packet) (place : ℕ) →
-    IsOffered wanted old now packet place → length wanted ≤ place → length now ≡ length wanted →
-    after_each wanted old packet ≡ Ok now
-offered_all wanted old now packet place so end many =
-    let none : drop place wanted ≡ [] = drop_all place wanted end in
-    let all : take place now ≡ now = take_all place now (omega (arith, many, end)) in
-    so ∙ ap (λ (ws : List Wanted). onto (take place now) (after_each ws (drop place now) packet)) none
-    ∙ ap Ok (append-nil (take place now) ∙ all)
-
 -- the tape at a place, and those after it
 pub near_at : (known : List Known) (place slot : ℕ) (one nothing : Known) → place < length known →
     one ≡ get_or known place nothing → AreNear slot (drop place known) →
@@ -547,14 +537,6 @@ written_more wanted known place one nobody here nothing before tape all inside m
     append_assoc before tape rest ∙ ap (λ octets. before ++ (octets ++ rest)) tape_is
     ∙ ap (λ (ks : List Known). before ++ tapes_of_known (one ∷ drop (place + 1) wanted) ks) (sym known_is)
     ∙ ap (λ (ws : List Wanted). before ++ tapes_of_known ws (drop place known)) (sym wanted_is)
-    ∙ written
-
--- behind the last tape nothing is left to be written
-pub written_all : (wanted : List Wanted) (known : List Known) (place : ℕ) (before all : List ℕ) →
-    before ++ tapes_of_known (drop place wanted) (drop place known) ≡ all → length wanted ≤ place → before ≡ all
-written_all wanted known place before all written end =
-    sym (append-nil before)
-    ∙ ap (λ (ws : List Wanted). before ++ tapes_of_known ws (drop place known)) (sym (drop_all place wanted end))
     ∙ written
 
 -- the first place of a list is that of what comes of its elements

@@ -17,7 +17,7 @@ use Rattle.gsmtap.specs.Section.{Section}
 use Rattle.gsmtap.specs.Taken.{AreTaken, ComesTo, IsFileFault, Opens, Taking, taken}
 use Rattle.gsmtap.specs.Taker.{HasTakenAll, IsAfter, IsTakingFault, TakesFound}
 use Rattle.gsmtap.specs.TapeSteps.{IsBeginFault, IsFoundKind, after_found, count_of}
-use Rattle.gsmtap.specs.Walk.{AreLeft, IsLastingFault, HasNoBegin, HaveNoPiece, IsUnopened, IsWalkOf, StandsAt}
+use Rattle.gsmtap.specs.Walk.{AreLeft, IsLastingFault, HaveNoPiece, IsUnopened, IsWalkOf, StandsAt}
 use Rattle.gsmtap.specs.WalkSteps.{IsToOpen, IsToTake}
 use Rattle.gsmtap.specs.declared.fault.AirFault.{AirFault}
 use Rattle.gsmtap.specs.declared.fault.AirFaultKind.{AirFaultKind}
@@ -392,10 +392,6 @@ pub begin_fault : {S : Type 0} (by : Taking S) (input : List ℕ) (why : AirFaul
     (is_pcapng input ≡ false → 24 ≤ length input) → IsLastingFault by input (record { packet = 0; kind = why })
 begin_fault by input why is enough more =
     fault_of_begin by (input ++ more) why (begin_longer input more why is enough)
-
--- a file of too few octets is no capture
-pub no_begin : {S : Type 0} (by : Taking S) (input : List ℕ) → HasNoBegin input → IsFileFault by input 0 kind.NoCapture
-no_begin by input none = (refl, record { classic = none.classic; unknown = inl none.short })
 
 -- where a walk stands, by its stage
 at_stage : {G S T : Type 0} (there : WalkStage) (taking : G → Taking S) (HasTaken : G → List Packet → T → Type 0)

@@ -1,9 +1,9 @@
 //! The blocks of pcapng: how long one is, and what it says.
 
-ghost use Rattle.std.specs.Prelude.{◌≡◌, ◌≤◌, length, IfOk};
-ghost use Rattle.gsmtap.specs.Blocks.{block_length, block_meaning, brings, interface_meaning, interface_number};
-ghost use Rattle.gsmtap.specs.Blocks.{kept_of, magic_order, meaning_by_type, order_in, packet_meaning, section_meaning};
-ghost use Rattle.gsmtap.specs.Blocks.{simple_meaning, ticks_in, time_by};
+ghost use Rattle.std.specs.Prelude.{◌≡◌, ◌≤◌, length, slice_get, IfOk};
+ghost use Rattle.gsmtap.specs.Blocks.{block_length, block_meaning, brings, brings_of, interface_meaning};
+ghost use Rattle.gsmtap.specs.Blocks.{interface_number, kept_of, magic_order, meaning_by_type, order_in};
+ghost use Rattle.gsmtap.specs.Blocks.{packet_meaning, section_meaning, simple_meaning, ticks_in, time_by};
 ghost use Rattle.gsmtap.specs.PieceSteps.{meant, section_of};
 ghost use Rattle.gsmtap.specs.Section.{Section};
 
@@ -149,16 +149,25 @@ impl Reader {
         if body.len() < 20 {
             return Found::Wrong;
         }
-        let number = interface_number(self.order, kind, body);
         let length = number_in(self.order, &body[12..]) as usize;
         if length > body.len() - 20 {
             return Found::Wrong;
         }
+        let number = interface_number(self.order, kind, body);
+        self.packet_of(number, body, &body[20..20 + length])
+    }
+
+    /// A packet of the interface of this number, in a block of this body.
+    fn packet_of<'a>(&self, number: usize, body: &[u8], octets: &'a [u8]) -> Found<'a>
+        requires { 12 ≤ length body.now }
+        ensures { meant (section_of self.now) result ≡ brings_of (section_of self.now) body.now octets.now
+            (slice_get (section_of self.now).interfaces number) }
+    {
         match self.interfaces.get(number) {
             Some(interface) => found(
                 interface.link,
                 time_by(interface.tick, ticks_in(self.order, body)),
-                &body[20..20 + length],
+                octets,
             ),
             None => Found::Wrong,
         }
