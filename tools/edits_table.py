@@ -90,9 +90,10 @@ def tests():
     found = set()
     for crate in os.listdir(os.path.join(TOP, "crates")):
         src = os.path.join(TOP, "crates", crate, "src")
-        for name in os.listdir(src) if crate.endswith("_tests") else ():
-            with open(os.path.join(src, name), encoding="utf-8") as it:
-                found.update(re.findall(r"#\[test\]\s*fn (\w+)", it.read()))
+        for place, _, names in os.walk(src) if crate.endswith("_tests") else ():
+            for name in names:
+                with open(os.path.join(place, name), encoding="utf-8") as it:
+                    found.update(re.findall(r"#\[test\]\s*fn (\w+)", it.read()))
     return found
 
 

@@ -20,7 +20,7 @@ import sys
 import tempfile
 
 TOP = os.path.dirname(os.path.dirname(os.path.realpath(__file__)))
-CRATES = "cbs_page cbsp_link cbsp_link_tests cbsp_wire gsm_alphabet septets test_support ucs2_text".split()
+CRATES = "cbs_page cbsp_link cbsp_tests cbsp_wire gsm_alphabet septets test_support ucs2_text".split()
 # the types of messages: an order to write and its two replies, an order to stop and its two replies
 WRITE, WRITTEN, NOT_WRITTEN, KILL, KILLED, NOT_KILLED = range(1, 7)
 # the discriminators of cells: CGI, LAC and CI, CI, LAI, LAC, and all cells
@@ -169,7 +169,7 @@ def written_by_peer(folder, messages):
 def test_of(rows):
     """Returns the source of tests of some rows."""
     parts = [rows[at:at + ROWS] for at in range(0, len(rows), ROWS)]
-    source = ["//! Random messages.\n\nuse crate::table::expect_rows;\nuse std::test::Fail;\n"]
+    source = ["//! Random messages.\n\nuse crate::cbsp_link::table::expect_rows;\nuse std::test::Fail;\n"]
     for number, part in enumerate(parts):
         text = "\n".join(part)
         source.append(f'\nconst ROWS{number}: &str = "\n{text}\n";\n\n#[test]\n'
@@ -179,7 +179,7 @@ def test_of(rows):
 
 
 def run_rows(folder, rows):
-    """Runs rows as tests of a copy of cbsp_link_tests, and returns whether all hold."""
+    """Runs rows as tests of a copy of cbsp_tests, and returns whether all hold."""
     for crate in CRATES:
         shutil.copytree(os.path.join(TOP, "crates", crate), os.path.join(folder, "crates", crate))
     for name in ("crates.txt", "HANDLES"):
@@ -188,12 +188,16 @@ def run_rows(folder, rows):
         lines = [line for line in it if re.match(r"\w+", line) and line.split(":")[0].split()[0] in CRATES]
     with open(os.path.join(folder, "crates.txt"), "w", encoding="utf-8") as it:
         it.writelines(lines)
-    crate = os.path.join(folder, "crates", "cbsp_link_tests")
+    crate = os.path.join(folder, "crates", "cbsp_tests")
     # without the other tests: those of refused memory take a memory that `rt try` doesn't have
     for name in ("captured", "memory", "refusals"):
-        os.remove(os.path.join(crate, "src", f"{name}.rt"))
-    modules = "".join(f"#[cfg(test)]\nmod {name};\n" for name in ("libosmogsm", "said", "table"))
-    sources = {"lib": f"//! Random messages.\n#![tactic(auto)]\n\n{modules}", "libosmogsm": test_of(rows)}
+        os.remove(os.path.join(crate, "src", "cbsp_link", f"{name}.rt"))
+    os.remove(os.path.join(crate, "src", "cbsp_wire.rt"))
+    shutil.rmtree(os.path.join(crate, "src", "cbsp_wire"))
+    shutil.rmtree(os.path.join(crate, "proofs"))
+    sources = {"lib": "//! Random messages.\n#![tactic(auto)]\n\n#[cfg(test)]\nmod cbsp_link;\n",
+               "cbsp_link": "//! Random messages.\n\nmod libosmogsm;\nmod said;\nmod table;\n",
+               "cbsp_link/libosmogsm": test_of(rows)}
     for name, source in sources.items():
         with open(os.path.join(crate, "src", f"{name}.rt"), "w", encoding="utf-8") as it:
             it.write(source)

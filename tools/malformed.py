@@ -9,8 +9,8 @@ Usage: malformed.py messages|tapes|tape|books              prints a table, as a 
 
 It is a plain reading of docs/formats.md, and for phones of docs/definitions.md; so is gsm.py, by which it reads texts,
 pages and tapes. Neither is made from the crates, so a test that compares both has two sources. The tables stand in the
-tests, as `malformed_table.rt` of cbsp_wire_tests, warnc_cli_tests, handset_tests and alert_book_tests; `./test` checks
-that they are what is printed here.
+tests, as `malformed_table.rt` of cbsp_tests, warnc_cli_tests, air_tests and alert_book_tests; `./test` checks that they
+are what is printed here.
 
 A table has for each input a line `input NAME`, lines `and HEX` with its octets, then a line `PLACE DIGEST` for each
 place, then a line `cuts DIGEST`. Some inputs have lines for a few places alone, or for none.

@@ -1,0 +1,5 @@
+//! Tests of `admission`: worked loads, and what a budget has room for.
+
+mod budgets;
+mod calls;
+mod waiting;

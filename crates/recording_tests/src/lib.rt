@@ -1,0 +1,7 @@
+//! Tests of `gsmtap` and `verification`; in one crate, so that their libraries are read once.
+#![tactic(auto)]
+
+#[cfg(test)]
+mod gsmtap;
+#[cfg(test)]
+mod verification;
