@@ -7,14 +7,18 @@ functions have an open goal. An edit counts as refused there only if a goal of i
 function calls another that isn't proved. All others, and those that change more than one function, or a constant or a
 macro, are tried alone: each is refused if the crate isn't proved with it.
 
-Usage: more_edits.py [--batch N] [--lanes N] [--rooms N] [--since COMMIT] [CRATE..]
+Usage: more_edits.py [--batch N] [--lanes N] [--rooms N] [--since COMMIT] [--anew] [CRATE..]
 
 With names of crates, those alone are tried; with --since, those that changed since that commit. With --batch 1 each
 edit is tried alone, which is quicker where most functions of a crate call one another. tools/edits_tried says of each
 crate when all of its edits were last refused, and on which commit (with a `+` if the crate had changes of its own). The
 last line is 'N refused, M not refused', and the run fails if M is not 0.
+
+out/edits has for each crate which edits were refused, so a run that was broken off goes on where it was: as long as the
+edit, the crate and those below it are the same to the octet. With --anew all are tried.
 """
 import argparse
+import hashlib
 import os
 import queue
 import re
@@ -22,16 +26,19 @@ import shutil
 import subprocess
 import sys
 import tempfile
+import threading
 import time
 from concurrent.futures import ThreadPoolExecutor
 
-from build import lanes
+from build import crates_below, lanes
+from release import sum_of_sources
 
 TOP = os.path.dirname(os.path.dirname(os.path.realpath(__file__)))
 PARTS = ("src", "specs", "proofs")
 # what a check is likely to hold at most, in bytes
 MEMORY = 4 << 30
 TRIED = os.path.join(TOP, "tools", "edits_tried")
+KEPT = os.path.join(TOP, "out", "edits")
 # the first line of a function: what stands before it, and its name
 FUNCTION = r"(?m)^( *)(?:pub(?:\([a-z]+\))? )?(?:final )?(?:const )?fn (\w+)"
 
@@ -241,6 +248,32 @@ def is_refused_alone(room, edit):
     return has_refusal(said)
 
 
+class Refused:
+    """Which edits of a crate were refused, kept in a file from one run to the next: the sums of the edit with all that
+    the crate is made of."""
+
+    def __init__(self, name, anew):
+        self.path = os.path.join(KEPT, name)
+        self.sources = sum_of_sources(TOP, crates_below(name))
+        self.lock = threading.Lock()
+        self.sums = set()
+        if not anew and os.path.exists(self.path):
+            with open(self.path, encoding="ascii") as it:
+                self.sums = set(it.read().split())
+
+    def sum_of(self, edit):
+        return hashlib.sha256(repr((self.sources, edit.pairs)).encode()).hexdigest()
+
+    def __contains__(self, edit):
+        return self.sum_of(edit) in self.sums
+
+    def add(self, edits):
+        os.makedirs(KEPT, exist_ok=True)
+        with self.lock, open(self.path, "a", encoding="ascii") as it:
+            it.writelines(f"{self.sum_of(edit)}\n" for edit in edits)
+            self.sums.update(map(self.sum_of, edits))
+
+
 class Rooms:
     """Some rooms for one crate, in which checks run side by side."""
 
@@ -269,31 +302,43 @@ class Rooms:
         return list(self.pool.map(lambda it: self.in_one(call, it), items))
 
 
-def refused_together(room, shared):
-    """Returns which edits of a batch are refused by its one check."""
+def try_together(room, shared, refused):
+    """Keeps which edits of a batch are refused by its one check."""
     batch, texts = shared
     said = room.check(texts, "--allow-holes")
-    return {edit.name for edit in batch if has_open_goal(said, edit)}
+    refused.add([edit for edit in batch if has_open_goal(said, edit)])
 
 
-def try_crate(name, size, count):
-    """Returns how many edits of a crate were refused, and the names of the others."""
-    crate = os.path.join(TOP, "crates", name)
-    edits = [Edit(crate, it) for it in sorted(os.listdir(os.path.join(crate, "more-edits"))) if it.endswith(".edit")]
-    began = time.monotonic()
-    together, alone = batches(crate, edits, size)
+def try_alone(room, edit, refused):
+    """Keeps an edit if it is refused alone, and says so at once if it isn't."""
+    if is_refused_alone(room, edit):
+        refused.add([edit])
+    else:
+        print(f"{os.path.basename(room.crate)}/{edit.name}: NOT REFUSED", flush=True)
+
+
+def try_edits(name, edits, refused, size, count):
+    """Tries some edits of a crate; returns how many checks were of several edits, and how many of one."""
+    together, alone = batches(os.path.join(TOP, "crates", name), edits, size)
     with tempfile.TemporaryDirectory(prefix="more-edits-") as folder:
         rooms = Rooms(folder, name, count)
-        refused = set().union(*rooms.each(refused_together, together))
-        alone += [edit for batch, _ in together for edit in batch if edit.name not in refused]
-        refused.update(edit.name for edit, is_refused in zip(alone, rooms.each(is_refused_alone, alone)) if is_refused)
-    left = [it.name for it in edits if it.name not in refused]
-    minutes = (time.monotonic() - began) / 60
-    print(f"{name}: {len(refused)} of {len(edits)} refused, {len(together)} batches and {len(alone)} alone, "
-          f"{minutes:.1f} min", flush=True)
-    for it in left:
-        print(f"{name}/{it}: NOT REFUSED", flush=True)
-    return len(refused), len(left)
+        rooms.each(lambda room, it: try_together(room, it, refused), together)
+        alone += [edit for batch, _ in together for edit in batch if edit not in refused]
+        rooms.each(lambda room, it: try_alone(room, it, refused), alone)
+    return len(together), len(alone)
+
+
+def try_crate(name, size, count, anew):
+    """Returns how many edits of a crate are refused, and how many are not."""
+    crate = os.path.join(TOP, "crates", name)
+    edits = [Edit(crate, it) for it in sorted(os.listdir(os.path.join(crate, "more-edits"))) if it.endswith(".edit")]
+    began, refused = time.monotonic(), Refused(name, anew)
+    left = [it for it in edits if it not in refused]
+    together, alone = try_edits(name, left, refused, size, count) if left else (0, 0)
+    lost = sum(it not in refused for it in edits)
+    print(f"{name}: {len(edits) - lost} of {len(edits)} refused, {len(edits) - len(left)} of them before, "
+          f"{together} batches and {alone} alone, {(time.monotonic() - began) / 60:.1f} min", flush=True)
+    return len(edits) - lost, lost
 
 
 def git(*words):
@@ -330,6 +375,7 @@ def main():
     parser.add_argument("--rooms", type=int, help="how many checks of a crate run at a time; if no number is given, so "
                         "many that all crates together have as many as there are lanes")
     parser.add_argument("--since", metavar="COMMIT", help="tries the crates that changed since this commit")
+    parser.add_argument("--anew", action="store_true", help="tries those too that were refused before")
     parser.add_argument("crates", metavar="CRATE", nargs="*")
     words = parser.parse_args()
     folder = os.path.join(TOP, "crates")
@@ -343,7 +389,7 @@ def main():
         names = [it for it in names if it in changed]
     rooms = words.rooms or max(1, words.lanes // max(1, len(names)))
     with ThreadPoolExecutor(words.lanes) as pool:
-        counts = list(pool.map(lambda it: try_crate(it, words.batch, rooms), names))
+        counts = list(pool.map(lambda it: try_crate(it, words.batch, rooms, words.anew), names))
     refused, left = sum(it[0] for it in counts), sum(it[1] for it in counts)
     keep_record({name: count for name, (count, lost) in zip(names, counts) if not lost})
     print(f"{refused} refused, {left} not refused")
