@@ -169,7 +169,7 @@ def written_by_peer(folder, messages):
 def test_of(rows):
     """Returns the source of tests of some rows."""
     parts = [rows[at:at + ROWS] for at in range(0, len(rows), ROWS)]
-    source = ["//! Random messages.\n\nuse crate::cbsp_link::table::expect_rows;\nuse std::test::Fail;\n"]
+    source = ["//! Random messages.\n\nuse crate::of_cbsp_link::table::expect_rows;\nuse std::test::Fail;\n"]
     for number, part in enumerate(parts):
         text = "\n".join(part)
         source.append(f'\nconst ROWS{number}: &str = "\n{text}\n";\n\n#[test]\n'
@@ -191,13 +191,13 @@ def run_rows(folder, rows):
     crate = os.path.join(folder, "crates", "cbsp_tests")
     # without the other tests: those of refused memory take a memory that `rt try` doesn't have
     for name in ("captured", "memory", "refusals"):
-        os.remove(os.path.join(crate, "src", "cbsp_link", f"{name}.rt"))
-    os.remove(os.path.join(crate, "src", "cbsp_wire.rt"))
-    shutil.rmtree(os.path.join(crate, "src", "cbsp_wire"))
+        os.remove(os.path.join(crate, "src", "of_cbsp_link", f"{name}.rt"))
+    os.remove(os.path.join(crate, "src", "of_cbsp_wire.rt"))
+    shutil.rmtree(os.path.join(crate, "src", "of_cbsp_wire"))
     shutil.rmtree(os.path.join(crate, "proofs"))
-    sources = {"lib": "//! Random messages.\n#![tactic(auto)]\n\n#[cfg(test)]\nmod cbsp_link;\n",
-               "cbsp_link": "//! Random messages.\n\nmod libosmogsm;\nmod said;\nmod table;\n",
-               "cbsp_link/libosmogsm": test_of(rows)}
+    sources = {"lib": "//! Random messages.\n#![tactic(auto)]\n\n#[cfg(test)]\nmod of_cbsp_link;\n",
+               "of_cbsp_link": "//! Random messages.\n\nmod libosmogsm;\nmod said;\nmod table;\n",
+               "of_cbsp_link/libosmogsm": test_of(rows)}
     for name, source in sources.items():
         with open(os.path.join(crate, "src", f"{name}.rt"), "w", encoding="utf-8") as it:
             it.write(source)

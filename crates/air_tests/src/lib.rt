@@ -2,6 +2,6 @@
 #![tactic(auto)]
 
 #[cfg(test)]
-mod cbch_blocks;
+mod of_cbch_blocks;
 #[cfg(test)]
-mod handset;
+mod of_handset;

@@ -2,6 +2,6 @@
 #![tactic(auto)]
 
 #[cfg(test)]
-mod cbsp_link;
+mod of_cbsp_link;
 #[cfg(test)]
-mod cbsp_wire;
+mod of_cbsp_wire;

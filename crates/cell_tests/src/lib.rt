@@ -2,8 +2,8 @@
 #![tactic(auto)]
 
 #[cfg(test)]
-mod admission;
+mod of_admission;
 #[cfg(test)]
-mod bsc_table;
+mod of_bsc_table;
 #[cfg(test)]
-mod scheduler;
+mod of_scheduler;

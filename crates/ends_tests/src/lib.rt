@@ -2,8 +2,8 @@
 #![tactic(auto)]
 
 #[cfg(test)]
-mod device_ends;
+mod of_device_ends;
 #[cfg(test)]
-mod progress;
+mod of_progress;
 #[cfg(test)]
-mod tickets;
+mod of_tickets;

@@ -2,12 +2,12 @@
 #![tactic(auto)]
 
 #[cfg(test)]
-mod book_check;
-#[cfg(test)]
-mod book_remarks;
-#[cfg(test)]
-mod book_texts;
-#[cfg(test)]
 mod octets;
 #[cfg(test)]
-mod plan;
+mod of_book_check;
+#[cfg(test)]
+mod of_book_remarks;
+#[cfg(test)]
+mod of_book_texts;
+#[cfg(test)]
+mod of_plan;

@@ -2,6 +2,6 @@
 #![tactic(auto)]
 
 #[cfg(test)]
-mod gsmtap;
+mod of_gsmtap;
 #[cfg(test)]
-mod verification;
+mod of_verification;

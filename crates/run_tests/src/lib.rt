@@ -2,6 +2,6 @@
 #![tactic(auto)]
 
 #[cfg(test)]
-mod report;
+mod of_report;
 #[cfg(test)]
-mod session_check;
+mod of_session_check;

@@ -1,0 +1,77 @@
+//! Worked messages, read and written.
+
+use crate::of_cbsp_wire::table::expect_rows;
+use std::test::Fail;
+
+/// Worked messages. Of an order to write whose content is the text `@` and carriage returns, the elements are parted.
+const WORKED: &str = "
+in_order 0100006e 0e1112 030010 0400050100010001 0502 060002 070000 1301 0c01 \
+    0101 8046a3d168341a 10*8d46a3d168341a 8d46a3d100 \
+    -> write id=4370 new=0010 old=- failures=- completed=- cells=1-1 channel=- category=2 period=2 broadcasts=0 dcs=01 \
+    contents=1:8046a3d168341a8d46a3d168341a8d46a3d168341a8d46a3d168341a8d46a3d168341a8d46a3d168341a8d46a3d168341a8d46a3\
+    d168341a8d46a3d168341a8d46a3d168341a8d46a3d168341a8d46a3d100
+in_order 0200000e 0e1112 030010 0400050100010001 \
+    -> write-done id=4370 new=0010 old=- failures=- completed=- cells=1-1 channel=-
+in_order 0400000e 0e1112 020010 0400050100010001 \
+    -> kill id=4370 new=- old=0010 failures=- completed=- cells=1-1 channel=-
+in_order 05000011 0e1112 020010 0800080100010001000000 \
+    -> kill-done id=4370 new=- old=0010 failures=- completed=1-1:0:0 cells=- channel=-
+
+# The kill with its elements in each order says the same, and is written in the order of the standard's table.
+says 0400000e 0e1112 020010 0400050100010001 \
+    -> kill id=4370 new=- old=0010 failures=- completed=- cells=1-1 channel=-
+says 0400000e 0e1112 0400050100010001 020010 \
+    -> kill id=4370 new=- old=0010 failures=- completed=- cells=1-1 channel=-
+says 0400000e 020010 0e1112 0400050100010001 \
+    -> kill id=4370 new=- old=0010 failures=- completed=- cells=1-1 channel=-
+says 0400000e 020010 0400050100010001 0e1112 \
+    -> kill id=4370 new=- old=0010 failures=- completed=- cells=1-1 channel=-
+says 0400000e 0400050100010001 0e1112 020010 \
+    -> kill id=4370 new=- old=0010 failures=- completed=- cells=1-1 channel=-
+says 0400000e 0400050100010001 020010 0e1112 \
+    -> kill id=4370 new=- old=0010 failures=- completed=- cells=1-1 channel=-
+writes 0400000e 0e1112 020010 0400050100010001 -> 18 octets, the same
+writes 0400000e 0e1112 0400050100010001 020010 -> 0400000e0e11120200100400050100010001
+writes 0400000e 020010 0e1112 0400050100010001 -> 0400000e0e11120200100400050100010001
+writes 0400000e 020010 0400050100010001 0e1112 -> 0400000e0e11120200100400050100010001
+writes 0400000e 0400050100010001 0e1112 020010 -> 0400000e0e11120200100400050100010001
+writes 0400000e 0400050100010001 020010 0e1112 -> 0400000e0e11120200100400050100010001
+
+# Two pages, with the elements from the table's last to its first and others between the contents.
+says 010000c2 0101 8046a3d168341a 10*8d46a3d168341a 8d46a3d100 1302 0152 82*2a 0c01 070000 060002 0502 \
+    0400050100010001 030010 0e1112 \
+    -> write id=4370 new=0010 old=- failures=- completed=- cells=1-1 channel=- category=2 period=2 broadcasts=0 dcs=01 \
+    contents=1:8046a3d168341a8d46a3d168341a8d46a3d168341a8d46a3d168341a8d46a3d168341a8d46a3d168341a8d46a3d168341a8d46a3\
+    d168341a8d46a3d168341a8d46a3d168341a8d46a3d168341a8d46a3d100,82:2a2a2a2a2a2a2a2a2a2a2a2a2a2a2a2a2a2a2a2a2a2a2a2a2a\
+    2a2a2a2a2a2a2a2a2a2a2a2a2a2a2a2a2a2a2a2a2a2a2a2a2a2a2a2a2a2a2a2a2a2a2a2a2a2a2a2a2a2a2a2a2a2a2a2a2a2a2a2a2a2a2a2a2a
+
+# The first octet of the order to write says which elements there are.
+octet 0 00 00 0100006e 0e1112 030010 0400050100010001 0502 060002 070000 1301 0c01 0101 \
+    8046a3d168341a 10*8d46a3d168341a 8d46a3d100 -> cause 04
+octet 0 02 02 0100006e 0e1112 030010 0400050100010001 0502 060002 070000 1301 0c01 0101 \
+    8046a3d168341a 10*8d46a3d168341a 8d46a3d100 -> cause 00
+octet 0 03 03 0100006e 0e1112 030010 0400050100010001 0502 060002 070000 1301 0c01 0101 \
+    8046a3d168341a 10*8d46a3d168341a 8d46a3d100 -> cause 05
+octet 0 04 04 0100006e 0e1112 030010 0400050100010001 0502 060002 070000 1301 0c01 0101 \
+    8046a3d168341a 10*8d46a3d168341a 8d46a3d100 -> cause 05
+octet 0 05 05 0100006e 0e1112 030010 0400050100010001 0502 060002 070000 1301 0c01 0101 \
+    8046a3d168341a 10*8d46a3d168341a 8d46a3d100 -> cause 05
+octet 0 06 06 0100006e 0e1112 030010 0400050100010001 0502 060002 070000 1301 0c01 0101 \
+    8046a3d168341a 10*8d46a3d168341a 8d46a3d100 -> cause 05
+octet 0 07 ff 0100006e 0e1112 030010 0400050100010001 0502 060002 070000 1301 0c01 0101 \
+    8046a3d168341a 10*8d46a3d168341a 8d46a3d100 -> cause 04
+# Without a message identifier, since an element 0F is of no message.
+octet 4 0f 0f 0100006e 0e1112 030010 0400050100010001 0502 060002 070000 1301 0c01 0101 \
+    8046a3d168341a 10*8d46a3d168341a 8d46a3d100 -> cause 05
+
+# Each front of the order is truncated, of 0 to 113 octets, and with one octet more it has octets behind it.
+fronts 0100006e 0e1112 030010 0400050100010001 0502 060002 070000 1301 0c01 0101 \
+    8046a3d168341a 10*8d46a3d168341a 8d46a3d100 -> 114 of 114 are truncated
+read 0100006e 0e1112 030010 0400050100010001 0502 060002 070000 1301 0c01 0101 \
+    8046a3d168341a 10*8d46a3d168341a 8d46a3d100 00 -> trailing octets
+";
+
+#[test]
+fn worked_messages_are_read_and_written(rt: HostRuntime) -> Result<(), Fail> {
+    expect_rows(&rt, rt.alloc(), WORKED, 27)
+}
