@@ -43,8 +43,8 @@ abbrev pub untimed_columns : Columns → ℕ
 untimed_columns columns.Plain = plain_columns
 untimed_columns columns.Full = 13
 
--- a report with times is the lines of its table, and the report of the same rows without times the lines of what is left
--- of that table if the columns of times are left out
+-- a report with times is the lines of its table, and the report of the same rows without times the lines of what is
+-- left of that table if the columns of times are left out
 pub record AreOfOneTimedTable (wanted : Columns) (start : Start) (headed : Bool) (rows : List Row) : Type 0 where
   pub timed : timed_part_text wanted start headed rows ≡ flat_map line (timed_table wanted start headed rows)
   pub untimed : untimed_part_text wanted headed rows

@@ -110,9 +110,9 @@ full_heading false = []
 abbrev pub full_part_text : (headed : Bool) → List Row → List ℕ
 full_part_text headed rows = full_heading headed ++ flat_map full_line rows
 
--- where slot 0 has a time on the clock, the columns behind all others have the times at which the slots of the start and
--- the end begin. A phone shows a message after the last block of the slot of `first_shown`, which is when the next slot
--- begins; there is no octet where it shows none
+-- where slot 0 has a time on the clock, the columns behind all others have the times at which the slots of the start
+-- and the end begin. A phone shows a message after the last block of the slot of `first_shown`, which is when the next
+-- slot begins; there is no octet where it shows none
 abbrev pub shown_time : Start → Option ℕ → List ℕ
 shown_time start None = []
 shown_time start (Some slot) = slot_time start (slot + 1)

@@ -69,7 +69,7 @@ pub enum Columns {
 pub struct Layout {
     /// Its columns.
     pub columns: Columns,
-    /// When slot 0 begins, if that is known. Behind all other columns are then the times at which the slots of the start
-    /// and the end begin, and behind full ones that at which the slot of the first showing ends.
+    /// When slot 0 begins, if that is known. Behind all other columns are then the times at which the slots of the
+    /// start and the end begin, and behind full ones that at which the slot of the first showing ends.
     pub start: Option<Start>,
 }

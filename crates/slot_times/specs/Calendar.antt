@@ -2,8 +2,8 @@
 use Rattle.std.specs.Prelude.{ℕ, zero, suc, ◌+◌, ◌-◌, if◌then◌else◌, nat_lt, pos}
 use Rattle.jiff_core.specs.Calendar.{days_in_month, days_in_year}
 
--- the year, and the day in it from 0, of a day that is numbered from the first of a year: as long as the day comes after
--- the year's end, it is one of the next year's or of a later one. At most so many years are passed
+-- the year, and the day in it from 0, of a day that is numbered from the first of a year: as long as the day comes
+-- after the year's end, it is one of the next year's or of a later one. At most so many years are passed
 unfoldable pub year_from : (passed year day : ℕ) → ℕ × ℕ
 year_from zero year day = (year, day)
 year_from (suc passed) year day =

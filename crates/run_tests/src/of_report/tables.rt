@@ -227,8 +227,8 @@ read
 full-part -> |1,1,4370,0010,0,1024,1,yes,0,1,1024,1,|
 ";
 
-/// Reports with times. Those of cells that begin at 2026-11-29T18:30:00Z, and at the last microsecond before a leap day,
-/// are from Python's datetime and fractions.
+/// Reports with times, from Python's datetime and fractions: of cells that begin at 2026-11-29T18:30:00Z, and at the
+/// last microsecond before a leap day.
 const TIMES: &str = "
 # no cells
 read
