@@ -5,3 +5,4 @@ pub mod FirstAiring
 pub mod EntryRows
 pub mod CellRows
 pub mod TableLaws
+mod TimedLaws

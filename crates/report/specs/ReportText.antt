@@ -1,5 +1,5 @@
 -- The text of a report, as CSV (own).
-use Rattle.std.specs.Prelude.{ℕ, ◌/◌, ◌%◌, Bool, true, false, Option, Some, None, List, [], ◌∷◌, ◌++◌, codes}
+use Rattle.std.specs.Prelude.{ℕ, ◌+◌, ◌/◌, ◌%◌, Bool, true, false, Option, Some, None, List, [], ◌∷◌, ◌++◌, codes}
 use Rattle.std.specs.Fmt.{decimal}
 use Rattle.std.specs.List.{flat_map}
 use Rattle.csv.specs.Writing.{default_writer, row_text}
@@ -8,19 +8,25 @@ use Rattle.report.specs.Cause.{cause_words}
 use Rattle.report.specs.declared.row.Columns.{Columns}
 use Rattle.report.specs.declared.row.Columns.TheVariants as columns
 use Rattle.report.specs.declared.row.Demand.{Demand}
+use Rattle.report.specs.declared.row.Layout.{Layout}
 use Rattle.report.specs.declared.row.Row.{Row}
 use Rattle.report.specs.declared.row.Showing.{Showing}
 use Rattle.report.specs.declared.row.Showing.TheVariants as shown_status
+use Rattle.slot_times.specs.SlotTime.{slot_time}
+use Rattle.slot_times.specs.declared.start.Start.{Start}
 
 -- a line of fields, as CSV quotes them, with LF at its end
 abbrev pub line : List (List ℕ) → List ℕ
 line fields = row_text default_writer fields
 
 -- the first line has the names of the columns
+abbrev pub plain_names : List (List ℕ)
+plain_names =
+    codes "lac" ∷ codes "ci" ∷ codes "id" ∷ codes "serial" ∷ codes "start" ∷ codes "end" ∷ codes "completed"
+    ∷ codes "shown" ∷ []
+
 abbrev pub header_line : List ℕ
-header_line =
-    line (codes "lac" ∷ codes "ci" ∷ codes "id" ∷ codes "serial" ∷ codes "start" ∷ codes "end" ∷ codes "completed"
-    ∷ codes "shown" ∷ [])
+header_line = line plain_names
 
 -- four lower hexadecimal digits
 abbrev pub serial_text : ℕ → List ℕ
@@ -33,10 +39,13 @@ showing_text shown_status.No = codes "no"
 showing_text (shown_status.Refused cause) = codes "refused " ++ encode_lower (cause ∷ [])
 
 -- a row's line: the serial number is hexadecimal, the other numbers are decimal
+abbrev pub plain_fields : Row → List (List ℕ)
+plain_fields r =
+    decimal r.lac ∷ decimal r.ci ∷ decimal r.id ∷ serial_text r.serial ∷ decimal r.start ∷ decimal r.end
+    ∷ decimal r.completed ∷ showing_text r.shown ∷ []
+
 abbrev pub row_line : Row → List ℕ
-row_line r =
-    line (decimal r.lac ∷ decimal r.ci ∷ decimal r.id ∷ serial_text r.serial ∷ decimal r.start ∷ decimal r.end
-    ∷ decimal r.completed ∷ showing_text r.shown ∷ [])
+row_line r = line (plain_fields r)
 
 -- the text of a report of these rows
 abbrev pub report_text : List Row → List ℕ
@@ -101,7 +110,54 @@ full_heading false = []
 abbrev pub full_part_text : (headed : Bool) → List Row → List ℕ
 full_part_text headed rows = full_heading headed ++ flat_map full_line rows
 
--- and of a part with these columns
-abbrev pub text_with : Columns → (headed : Bool) → List Row → List ℕ
-text_with columns.Plain headed rows = part_text headed rows
-text_with columns.Full headed rows = full_part_text headed rows
+-- where slot 0 has a time on the clock, the columns behind all others have the times at which the slots of the start
+-- and the end begin. A phone shows a message after the last block of the slot of `first_shown`, which is when the next
+-- slot begins; there is no octet where it shows none
+abbrev pub shown_time : Start → Option ℕ → List ℕ
+shown_time start None = []
+shown_time start (Some slot) = slot_time start (slot + 1)
+
+abbrev pub time_names : Columns → List (List ℕ)
+time_names columns.Plain = codes "start_time" ∷ codes "end_time" ∷ []
+time_names columns.Full = codes "start_time" ∷ codes "end_time" ∷ codes "first_shown_time" ∷ []
+
+abbrev pub time_fields : Columns → Start → Row → List (List ℕ)
+time_fields columns.Plain start r = slot_time start r.start ∷ slot_time start r.end ∷ []
+time_fields columns.Full start r =
+    slot_time start r.start ∷ slot_time start r.end ∷ shown_time start r.first_shown ∷ []
+
+-- the names of the columns without times, and the fields of a row
+abbrev pub untimed_names : Columns → List (List ℕ)
+untimed_names columns.Plain = plain_names
+untimed_names columns.Full = full_names
+
+abbrev pub untimed_fields : Columns → Row → List (List ℕ)
+untimed_fields columns.Plain r = plain_fields r
+untimed_fields columns.Full r = full_fields r
+
+abbrev pub timed_header_line : Columns → List ℕ
+timed_header_line wanted = line (untimed_names wanted ++ time_names wanted)
+
+abbrev pub timed_line : Columns → Start → Row → List ℕ
+timed_line wanted start r = line (untimed_fields wanted r ++ time_fields wanted start r)
+
+-- the text of a part of a report with times, headed or not
+abbrev pub timed_heading : Columns → Bool → List ℕ
+timed_heading wanted true = timed_header_line wanted
+timed_heading wanted false = []
+
+abbrev pub timed_part_text : Columns → Start → (headed : Bool) → List Row → List ℕ
+timed_part_text wanted start headed rows = timed_heading wanted headed ++ flat_map (timed_line wanted start) rows
+
+-- the text of a part of a report without times
+abbrev pub untimed_part_text : Columns → (headed : Bool) → List Row → List ℕ
+untimed_part_text columns.Plain headed rows = part_text headed rows
+untimed_part_text columns.Full headed rows = full_part_text headed rows
+
+-- the text of a part that is laid out so
+abbrev pub text_by : Columns → Option Start → (headed : Bool) → List Row → List ℕ
+text_by wanted None headed rows = untimed_part_text wanted headed rows
+text_by wanted (Some start) headed rows = timed_part_text wanted start headed rows
+
+abbrev pub text_with : Layout → (headed : Bool) → List Row → List ℕ
+text_with layout headed rows = text_by layout.columns layout.start headed rows

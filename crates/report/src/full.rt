@@ -11,7 +11,7 @@ use itoa::Buffer;
 use std::alloc::{AllocError, Global};
 
 /// The text of a number, if there is one.
-fn number_or_none<'a>(buffer: &'a mut Buffer, number: Option<u16>) -> &'a [u8]
+pub(crate) fn number_or_none<'a>(buffer: &'a mut Buffer, number: Option<u16>) -> &'a [u8]
     ensures { result.now ≡ number_or_none number }
 {
     match number {
@@ -21,7 +21,7 @@ fn number_or_none<'a>(buffer: &'a mut Buffer, number: Option<u16>) -> &'a [u8]
 }
 
 /// How many pages a write's message has, if the order is a write.
-fn demand_pages(demand: Option<Demand>) -> Option<u16>
+pub(crate) fn demand_pages(demand: Option<Demand>) -> Option<u16>
     ensures { result ≡ demand_pages demand }
 {
     match demand {
@@ -31,7 +31,7 @@ fn demand_pages(demand: Option<Demand>) -> Option<u16>
 }
 
 /// Its period.
-fn demand_period(demand: Option<Demand>) -> Option<u16>
+pub(crate) fn demand_period(demand: Option<Demand>) -> Option<u16>
     ensures { result ≡ demand_period demand }
 {
     match demand {
@@ -41,7 +41,7 @@ fn demand_period(demand: Option<Demand>) -> Option<u16>
 }
 
 /// Its share of the channel.
-fn demand_share(demand: Option<Demand>) -> Option<u16>
+pub(crate) fn demand_share(demand: Option<Demand>) -> Option<u16>
     ensures { result ≡ demand_share demand }
 {
     match demand {

@@ -1,8 +1,8 @@
 //! The report of a run: what became of each warning in each cell, as rows and as CSV.
 //!
 //! [`rows`] makes the rows of the cells' records and of what handsets read of their blocks, [`write_report`] writes
-//! them, and [`write_part`] those of a part, whose text [`text_of`] makes. [`text_with`] makes it with the columns that
-//! are wanted. `specs/Rows.antt` says which rows these are, `specs/ReportText.antt` which octets.
+//! them, and [`write_part`] those of a part, whose text [`text_of`] makes. [`text_with`] makes it with the columns and
+//! the times that are wanted. `specs/Rows.antt` says which rows these are, `specs/ReportText.antt` which octets.
 #![tactic(auto)]
 
 mod cause;
@@ -17,6 +17,7 @@ mod output;
 mod row;
 mod stops;
 mod table;
+mod timed;
 
 pub use cause::cause_words;
 pub use cells::rows;
@@ -24,4 +25,4 @@ pub use fault::ReportFault;
 pub use last_pages::first_last_pages;
 pub use laws::report_laws;
 pub use output::{text_of, text_with, write_part, write_report};
-pub use row::{Columns, Demand, Row, Showing};
+pub use row::{Columns, Demand, Layout, Row, Showing};

@@ -5,12 +5,14 @@ ghost use Rattle.std.specs.Io.KnownBytes.{Appends};
 ghost use Rattle.device_ends.specs.Moves.{AppendsFront};
 ghost use Rattle.device_ends.specs.Sink.{sink_failed, writer_of};
 ghost use Rattle.device_ends.specs.Stream.{Writes};
-ghost use Rattle.report.specs.ReportText.{full_part_text, part_text, report_text, text_with};
+ghost use Rattle.report.specs.ReportText.{full_part_text, part_text, report_text, text_with, timed_part_text};
+ghost use Rattle.report.specs.ReportText.{untimed_part_text};
 
 use crate::fault::ReportFault;
-use crate::row::{Columns, Row};
+use crate::row::{Columns, Layout, Row};
 use crate::table::Table;
 use device_ends::{Failed, Sink, write_all};
+use slot_times::Start;
 use std::alloc::{AllocError, Global};
 use std::io::Write;
 
@@ -42,23 +44,56 @@ fn full_text_of(alloc: Global, headed: bool, rows: &[Row]) -> Result<Vec<u8>, Al
     table.into_octets()
 }
 
-/// The text of a part of a report with these columns: of plain ones that of [`text_of`]; full ones have more after
-/// them, so that the text without those is the plain one ([`report_laws`](crate::report_laws)).
+/// The text of a part of a report with these columns and no times.
+fn untimed_text_of(
+    alloc: Global,
+    columns: Columns,
+    headed: bool,
+    rows: &[Row],
+) -> Result<Vec<u8>, AllocError>
+    ensures { IfOk result (λ octets. octets.items ≡ untimed_part_text columns headed rows.now) }
+{
+    match columns {
+        Columns::Plain => text_of(alloc, headed, rows),
+        Columns::Full => full_text_of(alloc, headed, rows),
+    }
+}
+
+/// The text of a part of a report with these columns and with times.
+fn timed_text_of(
+    alloc: Global,
+    columns: Columns,
+    start: Start,
+    headed: bool,
+    rows: &[Row],
+) -> Result<Vec<u8>, AllocError>
+    ensures { IfOk result (λ octets. octets.items ≡ timed_part_text columns start headed rows.now) }
+{
+    let mut table = Table::timed(alloc, columns, headed)?;
+    for row in rows {
+        table.push_timed(columns, start, row)?;
+    }
+    table.into_octets()
+}
+
+/// The text of a part of a report that is laid out so: with plain columns and no times that of [`text_of`]; full ones
+/// have more after them, and times stand behind all others, so that the text without those is the one that lacks them
+/// ([`report_laws`](crate::report_laws)).
 ///
 /// # Errors
 ///
 /// Out of memory.
 pub fn text_with(
     alloc: Global,
-    columns: Columns,
+    layout: Layout,
     headed: bool,
     rows: &[Row],
 ) -> Result<Vec<u8>, AllocError>
-    ensures { IfOk result (λ octets. octets.items ≡ text_with columns headed rows.now) }
+    ensures { IfOk result (λ octets. octets.items ≡ text_with layout headed rows.now) }
 {
-    match columns {
-        Columns::Plain => text_of(alloc, headed, rows),
-        Columns::Full => full_text_of(alloc, headed, rows),
+    match layout.start {
+        Some(start) => timed_text_of(alloc, layout.columns, start, headed, rows),
+        None => untimed_text_of(alloc, layout.columns, headed, rows),
     }
 }
 

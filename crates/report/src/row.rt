@@ -1,6 +1,7 @@
 //! A row of a report.
 
 use cbs_page::Serial;
+use slot_times::Start;
 
 /// Whether a message is shown, or why there is none to show.
 #[derive(Clone, Copy, Debug, PartialEq, Eq)]
@@ -53,7 +54,7 @@ pub struct Row {
     pub demand: Option<Demand>,
 }
 
-/// Which columns a report has.
+/// Which columns a report has, besides those of times.
 #[derive(Clone, Copy, Debug, PartialEq, Eq)]
 pub enum Columns {
     /// The eight from the cell to whether the message is shown.
@@ -61,4 +62,14 @@ pub enum Columns {
     /// After them the slot after which it is shown first, its pages, its period, its share of the channel, and the
     /// cause of a refusal in words.
     Full,
+}
+
+/// How a report is laid out.
+#[derive(Clone, Copy, Debug, PartialEq, Eq)]
+pub struct Layout {
+    /// Its columns.
+    pub columns: Columns,
+    /// When slot 0 begins, if that is known. Behind all other columns are then the times at which the slots of the
+    /// start and the end begin, and behind full ones that at which the slot of the first showing ends.
+    pub start: Option<Start>,
 }

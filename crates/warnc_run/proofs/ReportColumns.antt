@@ -3,10 +3,10 @@ use Rattle.std.proofs.Common.{◌≡◌, ◌∙◌, List, ap}
 use Rattle.bsc_table.specs.Record.{Record}
 use Rattle.book_runs.specs.LiveLaws.{OneSessionIsARun}
 use Rattle.book_runs.specs.OneRun.{RunsAreOne}
-use Rattle.report.specs.Laws.{PlainIsFullCut, full_table}
-use Rattle.report.specs.ReportText.{part_text}
+use Rattle.report.specs.Laws.{PlainIsFullCut, UntimedIsTimedCut, full_table, timed_table}
+use Rattle.report.specs.ReportText.{part_text, untimed_part_text}
 use Rattle.warnc_run.specs.Products.{is_headed, own_rows}
-use Rattle.warnc_run.specs.ReportColumns.{PlainReportIsCut}
+use Rattle.warnc_run.specs.ReportColumns.{PlainReportIsCut, UntimedReportIsCut}
 use Rattle.warnc_run.proofs.OneOutput.{records_are_one}
 
 -- one is what is left of the other
@@ -21,4 +21,18 @@ plain_is_cut runs law cut from slots input full plain is_full is_plain =
       plain_is = is_plain.written
           ∙ ap (λ (records : List Record). part_text (is_headed from) (own_rows records)) same
           ∙ of_table.plain;
+    }
+
+-- and so of one with times and one without
+pub untimed_is_cut : RunsAreOne → OneSessionIsARun → UntimedIsTimedCut → UntimedReportIsCut
+untimed_is_cut runs law cut from slots wanted start input with_times without is_timed is_untimed =
+    let of_table = cut wanted start (is_headed from) (own_rows is_timed.records) in
+    let same : is_untimed.records ≡ is_timed.records =
+    records_are_one runs law from slots input is_untimed.records is_timed.records is_untimed.run is_timed.run in
+    record {
+      table = timed_table wanted start (is_headed from) (own_rows is_timed.records);
+      with_is = is_timed.written ∙ of_table.timed;
+      without_is = is_untimed.written
+          ∙ ap (λ (records : List Record). untimed_part_text wanted (is_headed from) (own_rows records)) same
+          ∙ of_table.untimed;
     }

@@ -28,8 +28,8 @@ pub record GroupRuns : Type 0 where
 -- what is made of a group: what is made of it by itself, but a chart of all groups is one page
 abbrev pub octets_of_group : Product → (slots groups group : ℕ) → List Record → List ℕ
 octets_of_group product.Tapes slots groups group records = octets_of product.Tapes (origin.Group group) slots records
-octets_of_group (product.Report columns) slots groups group records =
-    octets_of (product.Report columns) (origin.Group group) slots records
+octets_of_group (product.Report layout) slots groups group records =
+    octets_of (product.Report layout) (origin.Group group) slots records
 octets_of_group (product.Chart view) slots groups group records =
     chart_part slots group (group + 1 == groups) view records (map reading_of_record records)
 

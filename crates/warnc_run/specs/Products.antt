@@ -1,6 +1,6 @@
 -- What is made of the octets that are read: of the run of a book, or of a group's, its tapes, the report of them, or
 -- their chart. Own.
-use Rattle.std.specs.Prelude.{◌≡◌, ◌==◌, ℕ, Bool, true, List, All, length, map}
+use Rattle.std.specs.Prelude.{◌≡◌, ◌==◌, ℕ, Bool, true, List, All, None, Option, Some, length, map}
 use Rattle.std.specs.List.{flat_map}
 use Rattle.alert_book.specs.declared.network.Origin.{Origin}
 use Rattle.alert_book.specs.declared.network.Origin.TheVariants as origin
@@ -20,7 +20,9 @@ use Rattle.handset.specs.Tape.{TapeReading}
 use Rattle.report.specs.ReportText.{text_with}
 use Rattle.report.specs.Rows.{report_rows}
 use Rattle.report.specs.declared.row.Columns.{Columns}
+use Rattle.report.specs.declared.row.Layout.{Layout}
 use Rattle.report.specs.declared.row.Row.{Row}
+use Rattle.slot_times.specs.declared.start.Start.{Start}
 use Rattle.warnc_run.specs.declared.product.Product.{Product}
 use Rattle.warnc_run.specs.declared.product.Product.TheVariants as product
 
@@ -56,7 +58,7 @@ is_headed (origin.Group group) = group == 0
 -- what is made of the records of the run of a book, or of a group by itself
 abbrev pub octets_of : Product → (from : Origin) (slots : ℕ) → List Record → List ℕ
 octets_of product.Tapes from slots records = flat_map tape_of_record records
-octets_of (product.Report columns) from slots records = text_with columns (is_headed from) (own_rows records)
+octets_of (product.Report layout) from slots records = text_with layout (is_headed from) (own_rows records)
 octets_of (product.Chart view) from slots records =
     chart_text slots view records (map reading_of_record records)
 
@@ -81,9 +83,16 @@ IsCompiledFrom from slots = IsLiveFrom from slots 1
 abbrev pub IsCompiled : (slots : ℕ) (input output : List ℕ) → Type 0
 IsCompiled slots = IsCompiledFrom origin.Book slots
 
--- what `warnc report` writes, with these columns
-abbrev pub IsReportedFrom : (from : Origin) (slots : ℕ) → Columns → (input output : List ℕ) → Type 0
-IsReportedFrom from slots columns = IsOutput (product.Report columns) from slots 1
+-- how a report with these columns is laid out without times, and with times where slot 0 begins at this one
+abbrev pub untimed : Columns → Layout
+untimed columns = record { columns = columns; start = None }
+
+abbrev pub timed : Columns → Start → Layout
+timed columns start = record { columns = columns; start = Some start }
+
+-- what `warnc report` writes, laid out so
+abbrev pub IsReportedFrom : (from : Origin) (slots : ℕ) → Layout → (input output : List ℕ) → Type 0
+IsReportedFrom from slots layout = IsOutput (product.Report layout) from slots 1
 
 -- what `warnc chart` writes: of all cells or one, the whole run or a part of it
 abbrev pub IsChartedFrom : (from : Origin) (slots : ℕ) → View → (input output : List ℕ) → Type 0

@@ -7,7 +7,7 @@ use Rattle.device_ends.specs.Stream.{Reads}
 use Rattle.device_ends.specs.declared.reading.Source.{Source}
 use Rattle.report.specs.declared.row.Columns.TheVariants as columns
 use Rattle.warnc_run.specs.Faults.{IsOfProduct, IsRunFault}
-use Rattle.warnc_run.specs.Products.{RunOf}
+use Rattle.warnc_run.specs.Products.{RunOf, untimed}
 use Rattle.warnc_run.specs.declared.fault.RunFault.{RunFault}
 use Rattle.warnc_run.specs.declared.product.Product.TheVariants as product
 
@@ -26,7 +26,8 @@ HasRecords left from slots first last records = Reads left (λ old new. HasRunBo
 -- why there are no records: a fault of the run as for a report
 abbrev pub IsRecordsFault : (from : Origin) (slots : ℕ) (first last : Option (List ℕ)) → RunFault → Type 0
 IsRecordsFault from slots first last f =
-    IsOfProduct f (product.Report columns.Plain) × IsRunFault from slots 1 (λ input output. ⊥) first last None None f
+    IsOfProduct f (product.Report (untimed columns.Plain)) × IsRunFault from slots 1 (λ input output. ⊥) first last
+        None None f
 
 -- a call has no records, by what its reader had before and after it
 abbrev pub HasNoRecords : {R : Type 0} → (left : R → Option (List ℕ)) → (from : Origin) (slots : ℕ)

@@ -82,7 +82,7 @@ StopsAtTape book slots parts old new other = IsOfTapes book slots parts other
 
 -- the octets of a text that is made of the records of a run
 abbrev pub octets_of_text : Text → (slots : ℕ) → List Record → List ℕ
-octets_of_text (text.Report columns headed) slots records = text_with columns headed (own_rows records)
+octets_of_text (text.Report layout headed) slots records = text_with layout headed (own_rows records)
 octets_of_text (text.Chart view) slots records = chart_text slots view records (map reading_of_record records)
 octets_of_text (text.ChartPart group last view) slots records =
     chart_part slots group last view records (map reading_of_record records)

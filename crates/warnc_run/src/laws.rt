@@ -2,7 +2,7 @@
 
 ghost use Rattle.warnc_run.specs.FirstShown.{FirstShownIsThePhones};
 ghost use Rattle.warnc_run.specs.OneOutput.{OutputIsOne};
-ghost use Rattle.warnc_run.specs.ReportColumns.{PlainReportIsCut};
+ghost use Rattle.warnc_run.specs.ReportColumns.{PlainReportIsCut, UntimedReportIsCut};
 ghost use Rattle.warnc_run.specs.Whole.{NetworkTapesAreOfOneRun};
 
 /// States, as its contract, that what is written of a run with one session is a function of the octets that were read
@@ -29,9 +29,11 @@ pub fn whole_laws()
 }
 
 /// States, as its contract, that the plain report of a book, or of a group, is its full report with the columns after
-/// the first eight left out. Does nothing: its body names the laws that carry it.
+/// the first eight left out, and its report without times the one with times with these left out. Does nothing: its
+/// body names the laws that carry it.
 pub fn report_column_laws()
-    ensures { PlainReportIsCut }
+    ensures columns { PlainReportIsCut }
+    ensures times { UntimedReportIsCut }
 {
     book_runs::one_run_law();
     book_runs::session_laws();

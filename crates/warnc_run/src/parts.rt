@@ -96,7 +96,7 @@ impl NetworkRun<'_> {
     {
         match self.made {
             Product::Tapes => unreachable!(),
-            Product::Report(columns) => Text::Report(columns, group == 0),
+            Product::Report(layout) => Text::Report(layout, group == 0),
             Product::Chart(view) => Text::ChartPart(group, group + 1 == self.groups, view),
         }
     }

@@ -14,7 +14,7 @@ use alert_book::Origin;
 use chart::View;
 use device_ends::{Sink, Source};
 use order_desk::Gate;
-use report::Columns;
+use report::Layout;
 use std::alloc::AllocGlobal;
 use std::io::{Read, Write};
 use std::sync::Wait;
@@ -26,8 +26,8 @@ use thiserror::Error;
 pub enum Product {
     /// The tapes of its cells.
     Tapes,
-    /// The report of what became of each order in each cell, with these columns, as CSV.
-    Report(Columns),
+    /// The report of what became of each order in each cell, laid out so, as CSV.
+    Report(Layout),
     /// The chart of what is to be drawn of it, as a page in HTML.
     Chart(View),
 }

@@ -24,7 +24,7 @@ use device_ends::{Failed, Sink, Source, write_all};
 use handset::{Reading, read_tape};
 use order_desk::{Gate, Open};
 use parallel_compile::compile_all;
-use report::{Columns, ReportFault, Row, text_with};
+use report::{Layout, ReportFault, Row, text_with};
 use std::alloc::AllocGlobal;
 use std::io::{Read, Write};
 use std::sync::Wait;
@@ -33,8 +33,8 @@ use std::thread::Threads;
 /// A text that is made of the run of a book.
 #[derive(Clone, Copy)]
 pub(crate) enum Text {
-    /// The report with these columns, with the line of the columns' names over it or without.
-    Report(Columns, bool),
+    /// The report that is laid out so, with the line of the columns' names over it or without.
+    Report(Layout, bool),
     /// The chart of what is to be drawn.
     Chart(View),
     /// The part of a group in the chart of its network: its number, whether it is the last one, and what is drawn.
@@ -78,7 +78,7 @@ fn text_of_product(made: Product, origin: Origin) -> Text
 {
     match made {
         Product::Tapes => unreachable!(),
-        Product::Report(columns) => Text::Report(columns, is_headed(origin)),
+        Product::Report(layout) => Text::Report(layout, is_headed(origin)),
         Product::Chart(view) => Text::Chart(view),
     }
 }
@@ -131,9 +131,9 @@ fn text_of_records<T: AllocGlobal + Threads + Wait + Sync>(
     ensures err { IfErr result IsOfRun }
 {
     match text {
-        Text::Report(columns, headed) => {
+        Text::Report(layout, headed) => {
             let rows = rows_by(rt, records, workers)?;
-            let octets = text_with(rt.alloc(), columns, headed, &rows)?;
+            let octets = text_with(rt.alloc(), layout, headed, &rows)?;
             Ok(octets)
         }
         Text::Chart(view) => {

@@ -5,7 +5,8 @@ use alert_book::Origin;
 use chart::View;
 use device_ends::memory::{MemoryReader, MemoryWriter};
 use device_ends::{Sink, Source, write_all};
-use report::Columns;
+use report::{Columns, Layout};
+use slot_times::Start;
 use std::alloc::Global;
 use std::io::Write;
 use std::sync::Wait;
@@ -21,6 +22,24 @@ use warnc_run::{
 const WHOLE: View = View {
     cell: None,
     part: None,
+};
+
+/// The plain report, the full one, and the full one of a run that begins at 2026-11-29T18:30:00Z.
+const PLAIN: Layout = Layout {
+    columns: Columns::Plain,
+    start: None,
+};
+
+const FULL: Layout = Layout {
+    columns: Columns::Full,
+    start: None,
+};
+
+const TIMES: Layout = Layout {
+    columns: Columns::Full,
+    start: Some(Start {
+        microseconds: 1_795_977_000_000_000,
+    }),
 };
 
 /// What is called.
@@ -42,12 +61,14 @@ impl Engine {
         match verb {
             "compile" => Engine::Compile,
             "records" => Engine::Records,
-            "report" => Engine::Product(Books::One(Origin::Book), Product::Report(Columns::Plain)),
-            "full" => Engine::Product(Books::One(Origin::Book), Product::Report(Columns::Full)),
+            "report" => Engine::Product(Books::One(Origin::Book), Product::Report(PLAIN)),
+            "full" => Engine::Product(Books::One(Origin::Book), Product::Report(FULL)),
+            "times" => Engine::Product(Books::One(Origin::Book), Product::Report(TIMES)),
             "chart" => Engine::Product(Books::One(Origin::Book), Product::Chart(WHOLE)),
             "network-tapes" => Engine::Product(Books::EachGroup, Product::Tapes),
-            "network-report" => Engine::Product(Books::EachGroup, Product::Report(Columns::Plain)),
-            "network-full" => Engine::Product(Books::EachGroup, Product::Report(Columns::Full)),
+            "network-report" => Engine::Product(Books::EachGroup, Product::Report(PLAIN)),
+            "network-full" => Engine::Product(Books::EachGroup, Product::Report(FULL)),
+            "network-times" => Engine::Product(Books::EachGroup, Product::Report(TIMES)),
             "network-chart" => Engine::Product(Books::EachGroup, Product::Chart(WHOLE)),
             _ => Engine::Live,
         }

@@ -13,8 +13,8 @@
 //! The calls:
 //!
 //! - `compile SLOTS WORKERS -> done`, or the fault; `live SLOTS SESSIONS WORKERS -> done`; `records`, `report`, `full`
-//!   (the full report), `chart`, `network-tapes`, `network-report`, `network-full` and `network-chart` with the numbers
-//!   of `compile`;
+//!   (the full report), `times` (that with times), `chart`, `network-tapes`, `network-report`, `network-full`,
+//!   `network-times` and `network-chart` with the numbers of `compile`;
 //! - `meet SLOTS SESSIONS WORKERS -> done, in both cells at once`: threads wait for each other in two cells;
 //! - `starve SLOTS SESSIONS WORKERS`: so too; then one of them takes all memory, and gives it back when the call has
 //!   ended;
@@ -136,10 +136,12 @@ fn done<T: AllocGlobal + Threads + Wait + Sync>(
         | "records"
         | "report"
         | "full"
+        | "times"
         | "chart"
         | "network-tapes"
         | "network-report"
         | "network-full"
+        | "network-times"
         | "network-chart" => called(rt, bench, verb, words),
         "all" | "aired" | "cells" | "shown" => read_back(rt.alloc(), bench, verb, words),
         _ => set(rt.alloc(), bench, verb, words),

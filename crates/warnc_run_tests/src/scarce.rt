@@ -126,6 +126,26 @@ scarce 200 network-full 2 1 -> refused; done
 all -> worked
 ";
 
+/// A full report with times, of a book and of a network of one group.
+const TIMES: &str = "
+in cell,1,1
+in write,0,a,4370,0,1,en,2,2,0,1-1,@
+# that of FULL, with start_time,end_time,first_shown_time; 2026-11-29T18:30:00.000Z, 18:30:03.766Z, 18:30:01.883Z
+worked 6c61632c63692c69642c73657269616c2c73746172742c656e642c636f6d706c657465642c73686f776e2c66697273745f73
+worked 686f776e2c70616765732c706572696f642c73686172652c63617573652c73746172745f74696d652c656e645f74696d652c
+worked 66697273745f73686f776e5f74696d650a312c312c343337302c303031302c302c322c312c7965732c302c312c322c35302c
+worked 2c323032362d31312d32395431383a33303a30302e3030305a2c323032362d31312d32395431383a33303a30332e3736365a
+worked 2c323032362d31312d32395431383a33303a30312e3838335a0a
+times 2 1 -> done
+all -> worked
+network-times 2 2 -> done
+all -> worked
+scarce 200 times 2 1 -> refused; done
+all -> worked
+scarce 200 network-times 2 1 -> refused; done
+all -> worked
+";
+
 /// The tapes, the report and the chart of a network of one group.
 const NETWORK: &str = "
 in cell,1,1
@@ -199,6 +219,11 @@ fn refused_memory_is_reported_by_charts(rt: HostRuntime) -> Result<(), Fail> {
 #[test]
 fn refused_memory_is_reported_by_full_reports(rt: HostRuntime) -> Result<(), Fail> {
     expect_rows(&rt, FULL)
+}
+
+#[test]
+fn refused_memory_is_reported_by_reports_with_times(rt: HostRuntime) -> Result<(), Fail> {
+    expect_rows(&rt, TIMES)
 }
 
 #[test]

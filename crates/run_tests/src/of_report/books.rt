@@ -12,7 +12,9 @@
 //!   writes the report and gives its first nine lines, each behind `|`.
 //! - `writer OCTETS CALLS` writes the report once more to a writer that takes so many octets a call and fails after so
 //!   many calls. It says how many octets of the report the writer took, and the faults of this and of one more call.
-//! - `full` makes the full report and gives its lines, each behind `|`; `full-part` the one without the names.
+//! - `full` makes the full report and gives its lines, each behind `|`; `full-part` the one without the names. `times
+//!   MICROSECONDS`, `full-times` and these with `-part` do the same of reports with times, where slot 0 begins so many
+//!   microseconds after 1970-01-01T00:00:00Z.
 //! - `cause NUMBER` says a cause, of two hexadecimal digits, in words.
 
 ghost use Rattle.std.specs.Prelude.{IfOk};
@@ -25,7 +27,10 @@ use cbsp_wire::{Cell, Contents};
 use device_ends::memory::{MemoryReader, MemoryWriter};
 use device_ends::{Sink, Source};
 use handset::{Handset, Reading, Refused, TapeFault, read_tape};
-use report::{Columns, ReportFault, Row as ReportRow, cause_words, rows, text_with, write_report};
+use report::{
+    Columns, Layout, ReportFault, Row as ReportRow, cause_words, rows, text_with, write_report,
+};
+use slot_times::Start;
 use std::alloc::{AllocError, Global};
 use std::fmt::Write;
 use std::process::Abort;
@@ -323,8 +328,26 @@ impl Books {
 
     /// `full` and `full-part` tell the full report, headed or not.
     fn tell_full(&mut self, headed: bool) -> Result<(), Fail> {
+        self.tell_text(Columns::Full, None, headed)
+    }
+
+    /// `times` and its like tell a report with times.
+    fn tell_times(&mut self, columns: Columns, headed: bool, start: &str) -> Result<(), Fail> {
+        match Start::new(start.parse::<u64>()?) {
+            Some(start) => self.tell_text(columns, Some(start), headed),
+            None => Ok(self.told.push_str("no start")?),
+        }
+    }
+
+    /// Tells a report that is laid out so, headed or not.
+    fn tell_text(
+        &mut self,
+        columns: Columns,
+        start: Option<Start>,
+        headed: bool,
+    ) -> Result<(), Fail> {
         let rows = self.rows()?;
-        let octets = text_with(self.alloc, Columns::Full, headed, &rows)?;
+        let octets = text_with(self.alloc, Layout { columns, start }, headed, &rows)?;
         let text = String::from_utf8_lossy(self.alloc, &octets)?;
         for line in text.split('\n') {
             write!(self.told, "|{line}")?;
@@ -371,6 +394,10 @@ impl Books {
             "report" => self.report()?,
             "full" => self.tell_full(true)?,
             "full-part" => self.tell_full(false)?,
+            "times" => self.tell_times(Columns::Plain, true, rest)?,
+            "times-part" => self.tell_times(Columns::Plain, false, rest)?,
+            "full-times" => self.tell_times(Columns::Full, true, rest)?,
+            "full-times-part" => self.tell_times(Columns::Full, false, rest)?,
             "writer" => self.write(&mut Words::of(rest))?,
             "texts" => put_texts(&mut self.told)?,
             "cause" => self

@@ -3,7 +3,8 @@
 use crate::of_report::books::{Books, expect_each};
 use crate::of_report::tables::TWO_CELLS;
 use device_ends::Sink;
-use report::{Columns, ReportFault, Row, rows, text_with, write_report};
+use report::{Columns, Layout, ReportFault, Row, rows, text_with, write_report};
+use slot_times::Start;
 use std::alloc::{AllocError, Global};
 use std::process::Abort;
 use std::test::Fail;
@@ -93,9 +94,10 @@ fn refused_reports(alloc: Global, rows: &[Row], room: &mut Room) -> Result<u16, 
     Err(Fail::new("reports are refused to the end"))
 }
 
-/// How many octets the full report of rows has, in a room of so many blocks or with all memory.
-fn full_text_of(
+/// How many octets the report of rows has that is laid out so, in a room of so many blocks or with all memory.
+fn text_of(
     alloc: Global,
+    layout: Layout,
     rows: &[Row],
     room: &mut Room,
     blocks: Option<u16>,
@@ -103,27 +105,44 @@ fn full_text_of(
     if let Some(blocks) = blocks {
         room.leave(alloc, blocks);
     }
-    let made = text_with(alloc, Columns::Full, true, rows);
+    let made = text_with(alloc, layout, true, rows);
     room.end();
     Ok(made?.len())
 }
 
-/// How often the full report of rows is refused memory. After each refusal it has its 250 octets with all memory.
-fn refused_full_reports(alloc: Global, rows: &[Row], room: &mut Room) -> Result<u16, Fail> {
+/// How often the report of rows that is laid out so is refused memory. After each refusal it has so many octets with
+/// all memory.
+fn refused_texts(
+    alloc: Global,
+    layout: Layout,
+    octets: usize,
+    rows: &[Row],
+    room: &mut Room,
+) -> Result<u16, Fail> {
     for blocks in 0..Room::MOST {
-        match full_text_of(alloc, rows, room, Some(blocks)) {
-            Ok(250) => return Ok(blocks),
+        match text_of(alloc, layout, rows, room, Some(blocks)) {
+            Ok(made) if made == octets => return Ok(blocks),
             Err(AllocError) => {}
-            Ok(_) => return Err(Fail::new("another full report")),
+            Ok(_) => return Err(Fail::new("another report")),
         }
-        if full_text_of(alloc, rows, room, None)? != 250 {
-            return Err(Fail::new("a full report with all memory"));
+        if text_of(alloc, layout, rows, room, None)? != octets {
+            return Err(Fail::new("a report with all memory"));
         }
     }
-    Err(Fail::new("full reports are refused to the end"))
+    Err(Fail::new("reports are refused to the end"))
 }
 
-/// How often the rows of two cells, the report of these, and their full report, are refused memory.
+/// How often the full report of rows is refused memory, and then that with times, or the other if that is less often.
+fn refused_full_reports(alloc: Global, rows: &[Row], room: &mut Room) -> Result<u16, Fail> {
+    let columns = Columns::Full;
+    let start = None;
+    let untimed = refused_texts(alloc, Layout { columns, start }, 250, rows, room)?;
+    let start = Start::new(1795977000000000);
+    let timed = refused_texts(alloc, Layout { columns, start }, 662, rows, room)?;
+    Ok(untimed.min(timed))
+}
+
+/// How often the rows of two cells, the report of these, and their full reports, are refused memory.
 fn refused_of_two_cells(alloc: Global, books: &mut Books) -> Result<(u16, u16, u16), Fail> {
     let _ = expect_each(books, TWO_CELLS)?;
     let mut room = Room::new(alloc)?;

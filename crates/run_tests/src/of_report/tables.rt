@@ -227,6 +227,80 @@ read
 full-part -> |1,1,4370,0010,0,1024,1,yes,0,1,1024,1,|
 ";
 
+/// Reports with times, from Python's datetime and fractions: of cells that begin at 2026-11-29T18:30:00Z, and at the
+/// last microsecond before a leap day.
+const TIMES: &str = "
+# no cells
+read
+times 0 -> |lac,ci,id,serial,start,end,completed,shown,start_time,end_time|
+full-times 0 -> \
+    |lac,ci,id,serial,start,end,completed,shown,first_shown,pages,period,share,cause,start_time,end_time,\
+    first_shown_time\
+    |
+times-part 0 -> |
+full-times-part 0 -> |
+# there is no such start
+times 4291747200000000 -> no start
+
+# the cells of the full report
+cell 1 4; write 4370 0010 - 1 2 0; play 1; write 4370 0011 0010 1 2 0 -> Started { slot: 0 }; 0..1; \
+    Replaced { slot: 1, completed: 1 }
+cell 2 4; write 4370 0010 - 1 2 0; write 4371 0020 - 1 2 0; play 1; write 4370 0011 0010 1 2 0 -> \
+    Started { slot: 0 }; Started { slot: 0 }; 0..1; Replaced { slot: 2, completed: 1 }
+read
+times 1795977000000000 -> |lac,ci,id,serial,start,end,completed,shown,start_time,end_time\
+    |1,1,4370,0010,0,1,1,yes,2026-11-29T18:30:00.000Z,2026-11-29T18:30:01.883Z\
+    |1,1,4370,0011,1,4,2,yes,2026-11-29T18:30:01.883Z,2026-11-29T18:30:07.532Z\
+    |1,2,4370,0010,0,1,1,yes,2026-11-29T18:30:00.000Z,2026-11-29T18:30:01.883Z\
+    |1,2,4371,0020,0,4,2,yes,2026-11-29T18:30:00.000Z,2026-11-29T18:30:07.532Z\
+    |1,2,4370,0011,2,4,1,yes,2026-11-29T18:30:03.766Z,2026-11-29T18:30:07.532Z|
+full-times-part 1795977000000000 -> \
+    |1,1,4370,0010,0,1,1,yes,0,1,2,50,,2026-11-29T18:30:00.000Z,2026-11-29T18:30:01.883Z,2026-11-29T18:30:01.883Z\
+    |1,1,4370,0011,1,4,2,yes,1,1,2,50,,2026-11-29T18:30:01.883Z,2026-11-29T18:30:07.532Z,2026-11-29T18:30:03.766Z\
+    |1,2,4370,0010,0,1,1,yes,0,1,2,50,,2026-11-29T18:30:00.000Z,2026-11-29T18:30:01.883Z,2026-11-29T18:30:01.883Z\
+    |1,2,4371,0020,0,4,2,yes,1,1,2,50,,2026-11-29T18:30:00.000Z,2026-11-29T18:30:07.532Z,2026-11-29T18:30:03.766Z\
+    |1,2,4370,0011,2,4,1,yes,3,1,2,50,,2026-11-29T18:30:03.766Z,2026-11-29T18:30:07.532Z,2026-11-29T18:30:07.532Z|
+times-part 1709164799999999 -> |1,1,4370,0010,0,1,1,yes,2024-02-28T23:59:59.999Z,2024-02-29T00:00:01.883Z\
+    |1,1,4370,0011,1,4,2,yes,2024-02-29T00:00:01.883Z,2024-02-29T00:00:07.532Z\
+    |1,2,4370,0010,0,1,1,yes,2024-02-28T23:59:59.999Z,2024-02-29T00:00:01.883Z\
+    |1,2,4371,0020,0,4,2,yes,2024-02-28T23:59:59.999Z,2024-02-29T00:00:07.532Z\
+    |1,2,4370,0011,2,4,1,yes,2024-02-29T00:00:03.766Z,2024-02-29T00:00:07.532Z|
+forget
+
+# a message that is never shown, and one whose start is past the end, which then has its time, too
+cell 1 2; write 4370 0001 - 2 4 0; write 4370 0002 - 2 4 0; play 1; write 4370 0003 0001 2 4 0 -> \
+    Started { slot: 0 }; Started { slot: 0 }; 0..1; Replaced { slot: 4, completed: 0 }
+read
+full-times 1795977000000000 -> \
+    |lac,ci,id,serial,start,end,completed,shown,first_shown,pages,period,share,cause,start_time,end_time,\
+    first_shown_time\
+    |1,1,4370,0001,0,1,0,no,,2,4,50,,2026-11-29T18:30:00.000Z,2026-11-29T18:30:01.883Z,\
+    |1,1,4370,0002,0,2,0,no,,2,4,50,,2026-11-29T18:30:00.000Z,2026-11-29T18:30:03.766Z,\
+    |1,1,4370,0003,4,2,0,no,,2,4,50,,2026-11-29T18:30:07.532Z,2026-11-29T18:30:03.766Z,|
+times-part 1795977000000000 -> |1,1,4370,0001,0,1,0,no,2026-11-29T18:30:00.000Z,2026-11-29T18:30:01.883Z\
+    |1,1,4370,0002,0,2,0,no,2026-11-29T18:30:00.000Z,2026-11-29T18:30:03.766Z\
+    |1,1,4370,0003,4,2,0,no,2026-11-29T18:30:07.532Z,2026-11-29T18:30:03.766Z|
+forget
+
+# what was refused begins and ends at the slot of the answer
+cell 1 3; play 2; kill 4370 0010 -> 0..2; cause 02
+read
+full-times-part 1795977000000000 -> \
+    |1,1,4370,0010,2,2,0,refused 02,,,,,message reference not identified,2026-11-29T18:30:03.766Z,\
+    2026-11-29T18:30:03.766Z,\
+    |
+times-part 1795977000000000 -> |1,1,4370,0010,2,2,0,refused 02,2026-11-29T18:30:03.766Z,2026-11-29T18:30:03.766Z|
+forget
+
+# the longest run
+cell 1 65535; write 4370 0010 - 1 1024 0 -> Started { slot: 0 }
+read
+full-times-part 4291747199999999 -> \
+    |1,1,4370,0010,0,65535,64,yes,0,1,1024,1,,2105-12-31T23:59:59.999Z,2106-01-02T10:16:47.446Z,\
+    2106-01-01T00:00:01.883Z\
+    |
+";
+
 /// A full log, and the most slots.
 const LONG: &str = "
 cell 1 65535; fill 2048 60 -> 60 started, 4036 cause 02
@@ -273,6 +347,11 @@ fn rows_say_what_became_of_each_order_of_a_cell(rt: HostRuntime) -> Result<(), F
 #[test]
 fn full_reports_have_more_columns(rt: HostRuntime) -> Result<(), Fail> {
     expect_rows(&rt, rt.alloc(), FULL, 27)
+}
+
+#[test]
+fn reports_have_times(rt: HostRuntime) -> Result<(), Fail> {
+    expect_rows(&rt, rt.alloc(), TIMES, 26)
 }
 
 #[test]

@@ -4,6 +4,7 @@ use Rattle.std.proofs.KnownBytes.{Keeps-refl}
 use Rattle.std.proofs.lemmas.Result.{IfErr-weaker, IfOk-weaker}
 use Rattle.report.specs.declared.row.Columns.TheVariants as columns
 use Rattle.warnc_run.specs.Faults.{HasReadFrom}
+use Rattle.warnc_run.specs.Products.{untimed}
 use Rattle.warnc_run.specs.declared.product.Product.TheVariants as product
 use Rattle.warnc_run.proofs.Written.{fault_of_reading, fault_of_run, of_any_product, of_no_product, run_of_book}
 use Rattle.warnc_run.proofs.Written.{where_it_is}
@@ -36,7 +37,8 @@ returns-clause-err g c =
     } in
     IfErr-weaker c.records_after.result _ _
     (λ fault of_book.
-    let other = of_any_product c.in_ok-book.book c.args.slots 1 (product.Report columns.Plain) fault of_book in (
+    let other = of_any_product c.in_ok-book.book c.args.slots 1 (product.Report (untimed columns.Plain)) fault of_book
+        in (
       other.0,
       fault_of_run c.args.origin c.args.slots 1 (λ input output. ⊥) _ _ None None c.in_ok-book.book fault whole refl
           other.1 (Keeps-refl None),
@@ -47,7 +49,8 @@ pub returns-in_err-book-clause-err : goal.returns-in_err-book-clause-err
 returns-in_err-book-clause-err g c =
     let is : c.from_residual.result ≡ Err c.in_err-book.field-0.0 = search (rules, c.from_residual.ensures) in
     where_it_is _ c.from_residual.result c.in_err-book.field-0.0 is (
-      of_no_product c.args.origin _ _ (product.Report columns.Plain) c.in_err-book.field-0.0 c.in_err-book.ensures.err,
+      of_no_product c.args.origin _ _ (product.Report (untimed columns.Plain)) c.in_err-book.field-0.0
+          c.in_err-book.ensures.err,
       fault_of_reading c.args.origin c.args.slots 1 (λ input output. ⊥) _ _ None None c.in_err-book.field-0.0
           c.in_err-book.ensures.err (Keeps-refl None),
     )

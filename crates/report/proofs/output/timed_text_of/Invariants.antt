@@ -1,0 +1,7 @@
+use Rattle.std.proofs.Common.{take}
+use Rattle.report.specs.ReportText.{timed_part_text}
+use Rattle.report.specs.TextSteps.{IsTable}
+use Rattle.report.proofs.output.timed_text_of.Given as goal
+
+abbrev pub invariant-loop-row : goal.invariant-loop-row
+invariant-loop-row l = IsTable l.table (timed_part_text l.columns l.start l.headed (take l.row-index l.rows))

@@ -1,0 +1,2 @@
+mod CalendarLaws
+mod Worked
