@@ -38,8 +38,8 @@ use Rattle.chart.specs.View.{bar_from, bar_width, is_drawn, stretch_of, width_of
 use Rattle.chart.specs.declared.view.Part.{Part}
 use Rattle.chart.specs.declared.view.Stretch.{Stretch}
 use Rattle.chart.specs.declared.view.View.{View}
-use Rattle.chart.specs.Message.{are_many, category_words, drawn_marks, first_mark, pace_text, period_of, text_asked}
-use Rattle.chart.specs.Message.{text_shown}
+use Rattle.chart.specs.Message.{category_words, drawn_marks, first_mark, marks_of, number_instead, pace_text}
+use Rattle.chart.specs.Message.{period_of, text_asked, text_shown}
 
 -- the name of what a row is of: its identifier, and its serial number in hexadecimal
 unfoldable pub name_text : Row → List ℕ
@@ -57,9 +57,9 @@ picture_size s = lines.PICTURE.now ++ decimal s.from ++ lines.ORIGIN.now ++ deci
 unfoldable pub picture_front : Stretch → Row → List ℕ
 picture_front s row = picture_size s ++ lines.TITLE.now ++ name_text row ++ meaning_text row.id
 
--- a period in words
+-- a period in slots
 unfoldable pub slots_text : (period : ℕ) → List ℕ
-slots_text period = lines.EVERY.now ++ decimal period ++ lines.SLOTS.now
+slots_text period = lines.EVERY.now ++ decimal period
 
 abbrev pub every_text : (period : ℕ) → List ℕ
 every_text period = if period == 1 then lines.EVERY_SLOT.now else slots_text period
@@ -77,66 +77,70 @@ abbrev pub first_text : (first : Option ℕ) → List ℕ
 first_text None = lines.NOT_SHOWN.now
 first_text (Some slot) = shown_after slot
 
--- what its title says: these, with the number of its whole broadcasts between them, and all of its text
-unfoldable pub message_title : Row → (text : List ℕ) → List ℕ
-message_title row text =
-    standing_text row ++ lines.WHOLE.now ++ decimal row.completed ++ first_text row.first_shown ++ lines.ALL_TEXT.now
-    ++ escaped text
+-- what its title says: these, with the number of its whole broadcasts in all of the run between them
+unfoldable pub message_title : Row → List ℕ
+message_title row =
+    standing_text row ++ lines.WHOLE.now ++ decimal row.completed ++ first_text row.first_shown
 
 -- its bar, from its start to its end, in slots, as far as these are drawn; none where it never started. Its class says
--- how often it is broadcast, and whether its broadcasts are too many for marks
-abbrev pub many_class : Stretch → (whole : ℕ) → List ℕ
-many_class s whole = if are_many s whole then lines.MANY.now else []
-
-unfoldable pub bar_front : Stretch → Row → List ℕ
-bar_front s row = lines.BAR.now ++ pace_text row ++ many_class s row.completed ++ lines.BAR_START.now
+-- how often it is broadcast
+unfoldable pub bar_front : Row → List ℕ
+bar_front row = lines.BAR.now ++ pace_text row ++ lines.BAR_START.now
 
 unfoldable pub bar : Stretch → Row → List ℕ
 bar s row =
-    bar_front s row ++ decimal (bar_from s row) ++ lines.WIDTH.now ++ decimal (bar_width s row) ++ lines.BAR_END.now
+    bar_front row ++ decimal (bar_from s row) ++ lines.WIDTH.now ++ decimal (bar_width s row) ++ lines.BAR_END.now
 
--- what is said of it: its name, its category, how many broadcasts were whole, where they are too many for marks, that
--- no phone shows it, where none does, and its text
+-- what is said of it: its name, its category, how many broadcasts are whole at the slots that are drawn, where that
+-- stands in place of marks, that no phone shows it, where none does, and its text
 unfoldable pub message_name : Row → Option Accepted → List ℕ
 message_name row found =
     lines.LINE.now ++ name_text row ++ lines.NAME_END.now ++ category_words found ++ lines.CATEGORY_END.now
 
-unfoldable pub number_text : (whole : ℕ) → List ℕ
-number_text whole = lines.NUMBER.now ++ decimal whole ++ lines.NUMBER_END.now
+abbrev pub number_words : (whole : ℕ) → List ℕ
+number_words whole = if whole == 1 then lines.NUMBER_OF_ONE_END.now else lines.NUMBER_END.now
 
-abbrev pub many_text : Stretch → (whole : ℕ) → List ℕ
-many_text s whole = if are_many s whole then number_text whole else []
+unfoldable pub number_text : (whole : ℕ) → List ℕ
+number_text whole = lines.NUMBER.now ++ decimal whole ++ number_words whole
+
+abbrev pub number_if : (number : Option ℕ) → List ℕ
+number_if None = []
+number_if (Some whole) = number_text whole
 
 abbrev pub unseen_text : Showing → List ℕ
 unseen_text shown_status.Yes = []
 unseen_text shown_status.No = lines.UNSEEN.now
 unseen_text (shown_status.Refused number) = []
 
-unfoldable pub message_front : Stretch → Row → Option Accepted → (text : List ℕ) → List ℕ
-message_front s row found text =
-    message_name row found ++ many_text s row.completed ++ unseen_text row.shown ++ lines.TEXT.now ++ escaped text
+unfoldable pub message_front : Row → Option Accepted → (number : Option ℕ) → (text : List ℕ) → List ℕ
+message_front row found number text =
+    message_name row found ++ number_if number ++ unseen_text row.shown ++ lines.TEXT.now ++ escaped text
     ++ lines.TEXT_END.now
 
 -- the end of its line, with the mark where a phone shows it first
 unfoldable pub message_end : Stretch → (first : Option ℕ) → List ℕ
-message_end s first = lines.MARKS_END.now ++ first_mark s first ++ lines.LINE_END.now
+message_end s first = lines.SHOWN_MARK.now ++ first_mark s first ++ lines.LINE_END.now
 
 -- the line of an accepted message: what is said of it, and its picture, a bar with a mark for each whole broadcast, or
--- without marks where those are too many
+-- without marks where their number is said
+abbrev pub line_with : Stretch → Row → Option Accepted → (text : List ℕ) → (number : Option ℕ) → (marks : List ℕ)
+    → List ℕ
+line_with s row found text number marks =
+    message_front row found number text ++ picture_front s row ++ message_title row ++ bar s row
+    ++ drawn_marks number marks ++ message_end s row.first_shown
+
 abbrev pub message_line : Record → Stretch → Row → Option Accepted → (text : List ℕ) → List ℕ
 message_line r s row found text =
-    message_front s row found text ++ picture_front s row ++ message_title row text ++ bar s row
-    ++ drawn_marks s row.completed r.slots r.air found ++ message_end s row.first_shown
+    line_with s row found text (number_instead s r.slots r.air found) (marks_of s r.slots r.air found)
 
--- what the title says of a refused order: when, and why
-unfoldable pub refusal_title : Row → (number : ℕ) → List ℕ
-refusal_title row number = lines.REFUSED_AT.now ++ slot_text row.start ++ lines.COLON.now ++ cause_text number
+-- what the title says of a refused order: when
+unfoldable pub refusal_title : Row → List ℕ
+refusal_title row = lines.REFUSED_AT.now ++ slot_text row.start
 
 -- its picture: a mark at the slot of the answer
-unfoldable pub refusal_picture : Stretch → Row → (number : ℕ) → List ℕ
-refusal_picture s row number =
-    picture_front s row ++ refusal_title row number ++ lines.REFUSAL.now ++ decimal row.start
-    ++ lines.REFUSAL_END.now
+unfoldable pub refusal_picture : Stretch → Row → List ℕ
+refusal_picture s row =
+    picture_front s row ++ refusal_title row ++ lines.REFUSAL.now ++ decimal row.start ++ lines.REFUSAL_END.now
 
 -- what is said of a refused order: its name, and the cause
 unfoldable pub refusal_front : Row → (number : ℕ) → List ℕ
@@ -145,7 +149,7 @@ refusal_front row number =
 
 -- the line of a refused order
 abbrev pub refusal_line : Stretch → Row → (number : ℕ) → List ℕ
-refusal_line s row number = refusal_front row number ++ refusal_picture s row number
+refusal_line s row number = refusal_front row number ++ refusal_picture s row
 
 -- the line of a row. A message that phones show has the text that they show, another one the text that it was to show
 abbrev pub line_by : Record → Stretch → List ShownMessage → Row → Showing → List ℕ

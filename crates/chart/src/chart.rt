@@ -53,22 +53,22 @@ nav i{color:var(--faint);font-size:.85em;font-style:normal}
 .line bdi,.cause{flex:1;min-width:0;overflow:hidden;text-overflow:ellipsis}
 .line:hover p,.line p:active{white-space:normal}
 .line i,.line small{color:var(--faint);font-size:1em}
+details{contain-intrinsic-size:auto 40em;content-visibility:auto}
 svg{background:var(--lane);display:block;height:1.2em;width:100%}
-path{vector-effect:non-scaling-stroke}
+path{stroke:var(--first);stroke-width:4px;vector-effect:non-scaling-stroke}
+rect{height:10px}
 .loads{border-top:2px solid var(--refusal);height:4em}
 nav .loads{border-top-width:1px;height:1.4em}
-.load{fill:var(--load)}
+.load{fill:var(--load);stroke:none}
 .f1{background:var(--f1);fill:var(--f1)}
 .f2{background:var(--f2);fill:var(--f2)}
 .f3{background:var(--f3);fill:var(--f3)}
 .f4{background:var(--f4);fill:var(--f4)}
 .f5{background:var(--f5);fill:var(--f5)}
-.f1.many,.f2.many{fill:var(--f3)}
-.whole{stroke:var(--mark)}
+.whole{stroke:var(--mark);stroke-width:1px}
 .f5~.whole{stroke:var(--pale)}
-.shown{stroke:var(--first);stroke-width:4px}
 .pace b{display:inline-block;height:.8em;margin:0 .3em 0 .6em;width:1.6em}
-.refusal{stroke:var(--refusal);stroke-width:4px}
+.refusal{stroke:var(--refusal)}
 .line .axis{color:var(--faint);display:block;font-size:.85em;height:3.2em;overflow:visible;position:relative}
 .axis span{left:var(--at);padding-top:.3em;position:absolute;text-align:center;transform:translateX(calc(-1*var(--at)))}
 .axis span::before{border-left:1px solid;content:"";height:.4em;left:var(--at);position:absolute;top:0}
@@ -111,15 +111,16 @@ pub const PART: &str = " Drawn from slot ";
 pub const PART_TO: &str = " to slot ";
 
 /// What comes after it.
-pub const PART_END: &str = ", with all marks.";
+pub const PART_END: &str = ".";
 
 /// What the reader of the page is told then.
 pub const INTRODUCTION: &str = r#"</p>
 <p class="pace">A message is sent every <b class="f5"></b>15 s <b class="f4"></b>30 s <b class="f3"></b>minute
 <b class="f2"></b>2 minutes <b class="f1"></b>or less often</p>
 <p>A bar is a message from its start to its end, with a mark wherever a broadcast of it is whole, or with their number
-if there are over 400. At the short thick mark a phone shows it first. A red mark is a refused order. Below is the load
-that the cell has reserved: at the red edge it is full.</p>
+if there are over 400, or if its period is less than 4 px of a page that is 1,280 px wide. At the short thick mark a
+phone shows it first. A red mark is a refused order. Below is the load that the cell has reserved: at the red edge it is
+full.</p>
 "#;
 
 /// The end of the page.
@@ -406,7 +407,7 @@ pub fn part_octets(
 /// Writes the chart of a run of `slots` slots: a page in HTML that stands alone, with a section for each cell, or for
 /// the wanted one alone: by its record and what a handset read of its blocks a line for each row of its report, in
 /// order, and the loads that it had reserved at each slot. Of a part of the run those rows have a line that touch it,
-/// bars and loads are cut to it, and a message has all of its marks. Nothing is written before all of it is made.
+/// bars, marks and loads are cut to it. Nothing is written before all of it is made.
 ///
 /// # Errors
 ///

@@ -7,9 +7,9 @@ ghost use Rattle.chart.specs.Message.{text_asked, text_shown};
 ghost use Rattle.chart.specs.Kept.{accepted_kept};
 ghost use Rattle.std.specs.Option.{option_map};
 ghost use Rattle.handset.specs.Keeping.{messages_shown};
-ghost use Rattle.chart.specs.ChartText.{bar, bar_front, first_text, line_of, many_class, many_text, message_end};
-ghost use Rattle.chart.specs.ChartText.{message_front, message_line, message_name, message_title, name_text};
-ghost use Rattle.chart.specs.ChartText.{number_text, picture_front, picture_size, refusal_front, refusal_line};
+ghost use Rattle.chart.specs.ChartText.{bar, bar_front, first_text, line_of, message_end, message_front, message_line};
+ghost use Rattle.chart.specs.ChartText.{message_name, message_title, name_text, number_if, number_text, number_words};
+ghost use Rattle.chart.specs.ChartText.{picture_front, picture_size, refusal_front, refusal_line};
 ghost use Rattle.chart.specs.ChartText.{refusal_picture};
 ghost use Rattle.chart.specs.ChartText.{every_text, refusal_title, shown_after, slots_text, standing_text, unseen_text};
 
@@ -17,7 +17,7 @@ use crate::cause::push_cause;
 use crate::identifier::push_meaning;
 use crate::kept::{KeptMessage, named};
 use crate::message::{
-    are_many, category_words, pace, period_of, push_drawn_marks, push_first_mark, text_asked,
+    category_words, number_instead, pace, period_of, push_drawn_marks, push_first_mark, text_asked,
     text_shown,
 };
 use crate::page::Page;
@@ -40,11 +40,14 @@ pub const NAME_END: &str = "</b> <i>";
 /// What comes after its category.
 pub const CATEGORY_END: &str = "</i> ";
 
-/// What comes before the number of its whole broadcasts, where they are too many for marks.
+/// What comes before the number of its whole broadcasts, where that stands in place of marks.
 pub const NUMBER: &str = "<small>";
 
 /// What comes after that number.
 pub const NUMBER_END: &str = " broadcasts</small> ";
+
+/// What comes after it if it is one.
+pub const NUMBER_OF_ONE_END: &str = " broadcast</small> ";
 
 /// What is said of one that no phone shows.
 pub const UNSEEN: &str = "<small>not shown:</small> ";
@@ -68,61 +71,49 @@ pub const PICTURE: &str = "<svg viewBox=\"";
 pub const ORIGIN: &str = " 0 ";
 
 /// What comes before its title.
-pub const TITLE: &str = " 10\" preserveAspectRatio=\"none\" role=\"img\"><title>";
+pub const TITLE: &str = " 10\" preserveAspectRatio=\"none\"><title>";
 
 /// What comes before a message's start.
-pub const FROM: &str = ": from slot ";
+pub const FROM: &str = ": slots ";
 
 /// What comes before its end.
-pub const TO: &str = " to slot ";
+pub const TO: &str = " to ";
 
 /// What comes before its period.
 pub const EVERY: &str = ", every ";
-
-/// What comes after its period.
-pub const SLOTS: &str = " slots";
 
 /// What stands in place of a period of one slot.
 pub const EVERY_SLOT: &str = ", every slot";
 
 /// What comes before the number of its whole broadcasts.
-pub const WHOLE: &str = ", whole broadcasts: ";
+pub const WHOLE: &str = ", broadcasts: ";
 
 /// What comes before the slot after which a phone shows it first.
-pub const SHOWN: &str = ", first shown after slot ";
+pub const SHOWN: &str = ", first shown after ";
 
 /// What stands there if none shows it.
 pub const NOT_SHOWN: &str = ", not shown";
 
-/// What comes before all of its text.
-pub const ALL_TEXT: &str = "\n";
-
-/// The front of the bar, up to its classes.
-pub const BAR: &str = "</title>\n<rect class=\"bar";
-
-/// Its class where the broadcasts are too many for marks.
-pub const MANY: &str = " many";
+/// The front of the bar, up to its class.
+pub const BAR: &str = "</title>\n<rect class=\"";
 
 /// What comes before its start.
-pub const BAR_START: &str = "\" height=\"10\" x=\"";
+pub const BAR_START: &str = "\" x=\"";
 
 /// What comes before its width.
 pub const WIDTH: &str = "\" width=\"";
 
-/// What comes after the bar, up to the marks.
-pub const BAR_END: &str = "\"/>\n<path class=\"whole\" d=\"";
+/// What comes after the bar.
+pub const BAR_END: &str = "\"/>\n";
 
-/// What comes after the marks, up to the one where a phone shows the message first.
-pub const MARKS_END: &str = "\"/>\n<path class=\"shown\" d=\"";
+/// What comes before the mark where a phone shows the message first.
+pub const SHOWN_MARK: &str = "<path d=\"";
 
 /// The end of a line.
 pub const LINE_END: &str = "\"/></svg></div>\n";
 
 /// What comes before the slot of a refusal.
 pub const REFUSED_AT: &str = ": refused at slot ";
-
-/// What comes before its cause.
-pub const COLON: &str = ": ";
 
 /// The front of its mark, up to the slot.
 pub const REFUSAL: &str = "</title>\n<path class=\"refusal\" d=\"M";
@@ -168,8 +159,7 @@ fn push_slots(page: &mut Page, period: u16) -> Result<(), AllocError>
     ensures { OnOk result (page.new ≡ page.old ++ slots_text period) }
 {
     page.markup(EVERY)?;
-    page.number(u64::from(period))?;
-    page.markup(SLOTS)
+    page.number(u64::from(period))
 }
 
 /// Appends a period in words.
@@ -215,35 +205,24 @@ fn push_shown_after(page: &mut Page, slot: u16) -> Result<(), AllocError>
     push_time_in_brackets(page, u32::from(slot) + 1)
 }
 
-/// Appends what the title says of an accepted message after its name. The text comes last, since browsers cut long
-/// titles.
+/// Appends what the title says of an accepted message after its name.
 #[tactic(auto, unfolding(crate::specs::ChartText::message_title))]
-fn push_message_title(page: &mut Page, row: &Row, all_text: &str) -> Result<(), AllocError>
-    ensures { OnOk result (page.new ≡ page.old ++ message_title row.now all_text.now) }
+fn push_message_title(page: &mut Page, row: &Row) -> Result<(), AllocError>
+    ensures { OnOk result (page.new ≡ page.old ++ message_title row.now) }
 {
     push_standing(page, row)?;
     page.markup(WHOLE)?;
     page.number(u64::from(row.completed))?;
-    push_first(page, row.first_shown)?;
-    page.markup(ALL_TEXT)?;
-    page.text(all_text)
-}
-
-/// The class of a bar of which this many broadcasts are whole, where they are too many for marks.
-fn many_class(stretch: Stretch, whole: u16) -> &'static str
-    ensures { result.now ≡ many_class stretch whole }
-{
-    if are_many(stretch, whole) { MANY } else { "" }
+    push_first(page, row.first_shown)
 }
 
 /// Appends the front of the bar of an accepted message, up to its start.
 #[tactic(auto, unfolding(crate::specs::ChartText::bar_front))]
-fn push_bar_front(page: &mut Page, stretch: Stretch, row: &Row) -> Result<(), AllocError>
-    ensures { OnOk result (page.new ≡ page.old ++ bar_front stretch row.now) }
+fn push_bar_front(page: &mut Page, row: &Row) -> Result<(), AllocError>
+    ensures { OnOk result (page.new ≡ page.old ++ bar_front row.now) }
 {
     page.markup(BAR)?;
     page.markup(pace(row))?;
-    page.markup(many_class(stretch, row.completed))?;
     page.markup(BAR_START)
 }
 
@@ -252,7 +231,7 @@ fn push_bar_front(page: &mut Page, stretch: Stretch, row: &Row) -> Result<(), Al
 fn push_bar(page: &mut Page, stretch: Stretch, row: &Row) -> Result<(), AllocError>
     ensures { OnOk result (page.new ≡ page.old ++ bar stretch row.now) }
 {
-    push_bar_front(page, stretch, row)?;
+    push_bar_front(page, row)?;
     page.number(u64::from(stretch.bar_from(row)))?;
     page.markup(WIDTH)?;
     page.number(u64::from(stretch.bar_width(row)))?;
@@ -275,24 +254,34 @@ fn push_message_name(
     page.markup(CATEGORY_END)
 }
 
+/// What comes after a number of whole broadcasts.
+fn number_words(whole: usize) -> &'static str
+    ensures { result.now ≡ number_words whole }
+{
+    if whole == 1 {
+        NUMBER_OF_ONE_END
+    } else {
+        NUMBER_END
+    }
+}
+
 /// Appends the number of a message's whole broadcasts in words.
 #[tactic(auto, unfolding(crate::specs::ChartText::number_text))]
-fn push_number(page: &mut Page, whole: u16) -> Result<(), AllocError>
+fn push_number(page: &mut Page, whole: usize) -> Result<(), AllocError>
     ensures { OnOk result (page.new ≡ page.old ++ number_text whole) }
 {
     page.markup(NUMBER)?;
-    page.number(u64::from(whole))?;
-    page.markup(NUMBER_END)
+    page.number(whole as u64)?;
+    page.markup(number_words(whole))
 }
 
-/// Appends it, where they are too many for marks.
-fn push_many(page: &mut Page, stretch: Stretch, whole: u16) -> Result<(), AllocError>
-    ensures { OnOk result (page.new ≡ page.old ++ many_text stretch whole) }
+/// Appends it, where it stands in place of marks.
+fn push_number_if(page: &mut Page, number: Option<usize>) -> Result<(), AllocError>
+    ensures { OnOk result (page.new ≡ page.old ++ number_if number) }
 {
-    if are_many(stretch, whole) {
-        push_number(page, whole)
-    } else {
-        Ok(())
+    match number {
+        None => Ok(()),
+        Some(whole) => push_number(page, whole),
     }
 }
 
@@ -310,16 +299,16 @@ fn unseen_text(shown: Showing) -> &'static str
 #[tactic(auto, unfolding(crate::specs::ChartText::message_front))]
 fn push_message_front(
     page: &mut Page,
-    stretch: Stretch,
     row: &Row,
     found: Option<KeptMessage>,
+    number: Option<usize>,
     text: &str,
 ) -> Result<(), AllocError>
     ensures { OnOk result (page.new ≡ page.old
-        ++ message_front stretch row.now (option_map accepted_kept found) text.now) }
+        ++ message_front row.now (option_map accepted_kept found) number text.now) }
 {
     push_message_name(page, row, found)?;
-    push_many(page, stretch, row.completed)?;
+    push_number_if(page, number)?;
     page.markup(unseen_text(row.shown))?;
     page.markup(TEXT)?;
     page.text(text)?;
@@ -331,7 +320,7 @@ fn push_message_front(
 fn push_message_end(page: &mut Page, stretch: Stretch, first: Option<u16>) -> Result<(), AllocError>
     ensures { OnOk result (page.new ≡ page.old ++ message_end stretch first) }
 {
-    page.markup(MARKS_END)?;
+    page.markup(SHOWN_MARK)?;
     push_first_mark(page, stretch, first)?;
     page.markup(LINE_END)
 }
@@ -350,27 +339,20 @@ fn push_refusal_front(page: &mut Page, row: &Row, cause: u8) -> Result<(), Alloc
 
 /// Appends what the title says of a refused order after its name.
 #[tactic(auto, unfolding(crate::specs::ChartText::refusal_title))]
-fn push_refusal_title(page: &mut Page, row: &Row, cause: u8) -> Result<(), AllocError>
-    ensures { OnOk result (page.new ≡ page.old ++ refusal_title row.now cause) }
+fn push_refusal_title(page: &mut Page, row: &Row) -> Result<(), AllocError>
+    ensures { OnOk result (page.new ≡ page.old ++ refusal_title row.now) }
 {
     page.markup(REFUSED_AT)?;
-    push_slot(page, row.start)?;
-    page.markup(COLON)?;
-    push_cause(page, cause)
+    push_slot(page, row.start)
 }
 
 /// Appends the picture of a refused order.
 #[tactic(auto, unfolding(crate::specs::ChartText::refusal_picture))]
-fn push_refusal_picture(
-    page: &mut Page,
-    stretch: Stretch,
-    row: &Row,
-    cause: u8,
-) -> Result<(), AllocError>
-    ensures { OnOk result (page.new ≡ page.old ++ refusal_picture stretch row.now cause) }
+fn push_refusal_picture(page: &mut Page, stretch: Stretch, row: &Row) -> Result<(), AllocError>
+    ensures { OnOk result (page.new ≡ page.old ++ refusal_picture stretch row.now) }
 {
     push_picture_front(page, stretch, row)?;
-    push_refusal_title(page, row, cause)?;
+    push_refusal_title(page, row)?;
     page.markup(REFUSAL)?;
     page.number(u64::from(row.start))?;
     page.markup(REFUSAL_END)
@@ -430,11 +412,12 @@ impl<'a> CellContext<'a> {
             (accepted_named row.now.id row.now.serial self.now.run.now.log) text.now) }
     {
         let found = self.named(row);
-        push_message_front(page, self.stretch, row, found, text)?;
+        let number = number_instead(self.stretch, self.run.air(), found);
+        push_message_front(page, row, found, number, text)?;
         push_picture_front(page, self.stretch, row)?;
-        push_message_title(page, row, text)?;
+        push_message_title(page, row)?;
         push_bar(page, self.stretch, row)?;
-        push_drawn_marks(page, self.stretch, row.completed, self.run.air(), found)?;
+        push_drawn_marks(page, self.stretch, self.run.air(), found, number)?;
         push_message_end(page, self.stretch, row.first_shown)
     }
 
@@ -444,7 +427,7 @@ impl<'a> CellContext<'a> {
             ++ refusal_line self.now.stretch row.now cause) }
     {
         push_refusal_front(page, row, cause)?;
-        push_refusal_picture(page, self.stretch, row, cause)
+        push_refusal_picture(page, self.stretch, row)
     }
 
     /// Appends the line of a row.

@@ -20,7 +20,7 @@ pub struct Part {
 pub struct View {
     /// The one cell that is drawn, or all.
     pub cell: Option<Cell>,
-    /// The part that is drawn, with all of its marks, or the whole run.
+    /// The part that is drawn, or the whole run.
     pub part: Option<Part>,
 }
 
