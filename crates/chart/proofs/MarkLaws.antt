@@ -2,7 +2,7 @@
 -- its reservation.
 use Rattle.std.proofs.Common.{◌≡◌, ◌<◌, ◌≤◌, ◌+◌, ◌-◌, ◌==◌, ◌∙◌, ℕ, suc, zero, Bool, true, false, List}
 use Rattle.std.proofs.Common.{Option, None, Some, All, ap, ap₂, cond, drop, get_or}
-use Rattle.std.proofs.Common.{if◌then◌else◌, length, min, nat_le, nat_lt}
+use Rattle.std.proofs.Common.{length, min}
 use Rattle.std.proofs.Common.{refl, sym, take}
 use native.Mathlib.Omega.{arith}
 use Rattle.std.specs.List.{Contains, count_by, range_with_len, slice_get}
@@ -24,7 +24,7 @@ use Rattle.bsc_table.specs.Legal.{IsLegal}
 use Rattle.bsc_table.specs.Record.{Accepted, Record, accepted_in, messages_in}
 use Rattle.bsc_table.specs.Written.{AcceptedHaveLoads, AcceptedRise}
 use Rattle.chart.proofs.CountLaws.{counted_up_to, counted_within}
-use Rattle.chart.specs.Laws.{are_drawn, AreDrawn, MarksAreCompleted, MarksOfPartsAreCompleted}
+use Rattle.chart.specs.Laws.{AreDrawn, MarksAreCompleted, MarksOfPartsAreCompleted}
 use Rattle.chart.specs.Message.{end_within, is_marked, number_if_crowded, number_of_marks}
 use Rattle.chart.specs.View.{stretch_of}
 use Rattle.chart.specs.declared.view.Part.{Part}

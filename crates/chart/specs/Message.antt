@@ -23,7 +23,10 @@ use Rattle.report.specs.declared.row.Demand.{Demand}
 use Rattle.report.specs.declared.row.Row.{Row}
 use Rattle.chart.specs.declared.view.Stretch.{Stretch}
 use Rattle.chart.specs.View.{holds, width_of}
-use Rattle.chart.specs.declared.message.TheConstants.{HIGH, NORMAL, BACKGROUND, MARK, MARK_END, MARKS, MARKS_END}
+use Rattle.chart.specs.declared.word.Language.{Language}
+use Rattle.chart.specs.declared.word.Word.TheVariants as words
+use Rattle.chart.specs.Words.{word_in}
+use Rattle.chart.specs.declared.message.TheConstants.{MARK, MARK_END, MARKS, MARKS_END}
 use Rattle.chart.specs.declared.message.TheConstants.{FIRST_END, LEAST_GAP, MOST_MARKS, PAGE_WIDTH}
 use Rattle.chart.specs.declared.message.TheConstants.{EVERY_15_S, EVERY_30_S, EVERY_MINUTE, EVERY_2_MINUTES, RARER}
 
@@ -48,14 +51,14 @@ text_asked log None = []
 text_asked log (Some a) = option_map_or (λ e. text_asked_by e.command) (slice_get log a.message.entry) []
 
 -- the category in words
-abbrev pub rank_words : Rank → List ℕ
-rank_words ranks.High = HIGH.now
-rank_words ranks.Normal = NORMAL.now
-rank_words ranks.Background = BACKGROUND.now
+abbrev pub rank_words : Language → Rank → List ℕ
+rank_words l ranks.High = word_in l words.High
+rank_words l ranks.Normal = word_in l words.Normal
+rank_words l ranks.Background = word_in l words.Background
 
-abbrev pub category_words : Option Accepted → List ℕ
-category_words None = []
-category_words (Some a) = rank_words a.message.rank
+abbrev pub category_words : Language → Option Accepted → List ℕ
+category_words l None = []
+category_words l (Some a) = rank_words l a.message.rank
 
 -- the first slot after a message's reservation, or after the run
 abbrev pub end_within : (slots : ℕ) → ScheduledMessage → ℕ

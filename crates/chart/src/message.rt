@@ -1,37 +1,31 @@
 //! What is drawn of an accepted message beside its row.
 
-ghost use Rattle.std.specs.Prelude.{◌≡◌, ◌++◌, ◌<◌, IfOk, IfSome, OnOk, Some, false, length, slice_get};
+ghost use Rattle.std.specs.Prelude.{◌≡◌, ◌++◌, ◌<◌, IfOk, IfSome, OnOk, Some, false, length};
 ghost use Rattle.std.specs.Prelude.{encode_utf8_all, string_bytes};
 ghost use Rattle.std.specs.Option.{option_map, option_map_or};
 ghost use Rattle.cbs_page.specs.Coding.{alphabet_of};
 ghost use Rattle.cbs_page.specs.Text.{text_in};
 ghost use Rattle.scheduler.specs.Pages.{airs_page};
 ghost use Rattle.bsc_table.specs.Book.{air_pairs, aired_pair};
+ghost use Rattle.bsc_table.specs.Record.{rank_of};
 ghost use Rattle.handset.specs.Keeping.{messages_shown};
 ghost use Rattle.chart.specs.Kept.{accepted_kept};
 ghost use Rattle.chart.specs.Message.{are_apart, category_words, drawn_marks, first_mark, first_mark_after, has_marks};
 ghost use Rattle.chart.specs.Message.{is_every, is_marked, mark_at, marks_of, marks_path, number_instead};
-ghost use Rattle.chart.specs.Message.{number_of_marks, pace_text, period_of, text_asked, text_asked_by};
+ghost use Rattle.chart.specs.Message.{number_of_marks, pace_text, period_of, rank_words, text_asked, text_asked_by};
 ghost use Rattle.chart.specs.Message.{text_of_contents, text_shown};
+ghost use Rattle.chart.specs.Words.{word_in};
 
 use crate::kept::KeptMessage;
 use crate::load::end_within;
 use crate::page::Page;
 use crate::view::Stretch;
+use crate::word::{Language, Word, word_in};
 use bsc_table::{Aired, Category, Command, Entry};
 use cbs_page::{Content, Dcs, PageView, Serial, push_page_text};
 use handset::Shown;
 use report::{Demand, Row};
 use std::alloc::{AllocError, Global};
-
-/// The high category.
-pub const HIGH: &str = "high";
-
-/// The normal category.
-pub const NORMAL: &str = "normal";
-
-/// Background.
-pub const BACKGROUND: &str = "background";
 
 /// What comes before the slot of a mark.
 pub const MARK: &str = "M";
@@ -73,16 +67,23 @@ pub const EVERY_2_MINUTES: &str = "f2";
 pub const RARER: &str = "f1";
 
 /// The category of a message in words; nothing of none.
-pub(crate) fn category_words(found: Option<KeptMessage>) -> &'static str
-    ensures { result.now ≡ category_words (option_map accepted_kept found) }
+pub(crate) fn category_words(language: Language, found: Option<KeptMessage>) -> &'static str
+    ensures { result.now ≡ category_words language (option_map accepted_kept found) }
 {
     match found {
         None => "",
-        Some(kept) => match kept.category {
-            Category::High => HIGH,
-            Category::Normal => NORMAL,
-            Category::Background => BACKGROUND,
-        },
+        Some(kept) => word_in(language, category_word(kept.category)),
+    }
+}
+
+/// The word of a category.
+fn category_word(category: Category) -> Word
+    ensures { (language : Language) → word_in language result ≡ rank_words language (rank_of category) }
+{
+    match category {
+        Category::High => Word::High,
+        Category::Normal => Word::Normal,
+        Category::Background => Word::Background,
     }
 }
 
@@ -156,7 +157,7 @@ pub(crate) fn text_asked(
     }
 }
 
-/// Whether a slot airs the last page of a message.
+/// Whether what a slot airs is the last page of a message.
 fn is_last_page(aired: Option<Aired>, kept: &KeptMessage) -> bool
     ensures { result ≡ option_map_or (airs_page kept.now.entry kept.now.pages) (Some (aired_pair aired)) false }
 {
@@ -166,7 +167,7 @@ fn is_last_page(aired: Option<Aired>, kept: &KeptMessage) -> bool
     }
 }
 
-/// Whether the slot at this place airs the last page of a message.
+/// Whether a slot airs the last page of a message.
 fn is_marked(air: &[Option<Aired>], kept: &KeptMessage, slot: usize) -> bool
     requires { slot < length air.now }
     ensures { result ≡ is_marked (air_pairs air.now) (accepted_kept kept.now).message slot }
