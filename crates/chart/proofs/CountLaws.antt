@@ -88,7 +88,8 @@ counted_up_to q from to ordered =
     let moved = ap (λ (n : ℕ). count_by q (range_with_len n (to - from))) start in
     omega (arith, whole, two, moved)
 
--- what was counted before a slot with what is counted from it on is what was counted up to it with what is counted after
+-- what was counted before a slot with what is counted from it on is what was counted up to it with what is counted
+-- after
 pub counted_on : (q : ℕ → Bool) (slot end count more whole : ℕ)
     → slot < end
     → more ≡ cond (q slot) 1 0

@@ -24,8 +24,8 @@ use Rattle.chart.specs.declared.view.Stretch.{Stretch}
 abbrev pub are_drawn : (period whole width : ℕ) → Bool
 are_drawn period whole width = nat_le whole 400 && nat_le (4 * width) (period * 1280)
 
--- of an accepted message with so many whole broadcasts at the slots that are drawn a mark is drawn for each of these, or
--- their number is said
+-- of an accepted message with so many whole broadcasts at the slots that are drawn a mark is drawn for each of these,
+-- or their number is said
 pub record AreDrawn (r : Record) (s : Stretch) (a : Accepted) (whole : ℕ) : Type 0 where
   pub marks : number_of_marks s r.slots r.air a.message ≡ whole
   pub number : number_instead s r.slots r.air (Some a)

@@ -364,8 +364,8 @@ fn push_refusal_picture(
     page.markup(REFUSAL_END)
 }
 
-/// What the lines of a cell have in common: the language, the slots that are drawn, its record, what a handset shows of its blocks,
-/// and the messages that its log accepted.
+/// What the lines of a cell have in common: the language, the slots that are drawn, its record, what a handset
+/// shows of its blocks, and the messages that its log accepted.
 #[derive(Clone, Copy)]
 pub(crate) struct CellContext<'a> {
     pub(crate) alloc: Global,
@@ -392,7 +392,8 @@ impl<'a> CellContext<'a> {
     /// Appends the line of an accepted message that phones show.
     fn push_seen(&self, page: &mut Page, row: &Row) -> Result<(), AllocError>
         requires { IsContext self.now }
-        ensures { OnOk result (page.new ≡ page.old ++ message_line self.now.language self.now.run.now self.now.stretch row.now
+        ensures { OnOk result (page.new ≡ page.old
+            ++ message_line self.now.language self.now.run.now self.now.stretch row.now
             (accepted_named row.now.id row.now.serial self.now.run.now.log)
             (text_shown (messages_shown self.now.shown.now) row.now.id row.now.serial)) }
     {
@@ -403,7 +404,8 @@ impl<'a> CellContext<'a> {
     /// Appends the line of one that none shows.
     fn push_unseen(&self, page: &mut Page, row: &Row) -> Result<(), AllocError>
         requires { IsContext self.now }
-        ensures { OnOk result (page.new ≡ page.old ++ message_line self.now.language self.now.run.now self.now.stretch row.now
+        ensures { OnOk result (page.new ≡ page.old
+            ++ message_line self.now.language self.now.run.now self.now.stretch row.now
             (accepted_named row.now.id row.now.serial self.now.run.now.log)
             (text_asked self.now.run.now.log
             (accepted_named row.now.id row.now.serial self.now.run.now.log))) }
@@ -415,7 +417,8 @@ impl<'a> CellContext<'a> {
     /// Appends the line of an accepted message with this text.
     fn push_message(&self, page: &mut Page, row: &Row, text: &str) -> Result<(), AllocError>
         requires { IsContext self.now }
-        ensures { OnOk result (page.new ≡ page.old ++ message_line self.now.language self.now.run.now self.now.stretch row.now
+        ensures { OnOk result (page.new ≡ page.old
+            ++ message_line self.now.language self.now.run.now self.now.stretch row.now
             (accepted_named row.now.id row.now.serial self.now.run.now.log) text.now) }
     {
         let found = self.named(row);

@@ -201,7 +201,8 @@ fn push_each_section(
     language: Language,
     all: &[Panel],
 ) -> Result<(), AllocError>
-    ensures { OnOk result (page.new ≡ page.old ++ flat_map (section_at language all.now) (range_with_len 0 (length all.now))) }
+    ensures { OnOk result (page.new ≡ page.old
+        ++ flat_map (section_at language all.now) (range_with_len 0 (length all.now))) }
 {
     for place in 0..all.len() {
         push_section(alloc, page, language, all, place)?;
@@ -274,7 +275,8 @@ fn push_each_strip(
     language: Language,
     all: &[Panel],
 ) -> Result<(), AllocError>
-    ensures { OnOk result (page.new ≡ page.old ++ flat_map (strip_at language all.now) (range_with_len 0 (length all.now))) }
+    ensures { OnOk result (page.new ≡ page.old
+        ++ flat_map (strip_at language all.now) (range_with_len 0 (length all.now))) }
 {
     for place in 0..all.len() {
         push_strip(alloc, page, language, all, place)?;
