@@ -37,11 +37,11 @@ function between(text, front, end) {
 }
 
 // Returns a message or a refused order: a line of the full report, and the chart's line of it. A phone shows a message
-// after a slot, and so does a mark stand; one that is sent very often has no marks.
+// after a slot, and so does a mark stand; one whose marks would be too close has none.
 function messageOf([, , id, serial, start, end, whole, , first, , period, , cause], box) {
     return {
         id: +id, serial, start: +start, end: +end, whole: +whole, period: +period, cause,
-        first: first === "" ? -1 : +first + 1, level: between(box, 'class="bar ', '"').slice(0, 2),
+        first: first === "" ? -1 : +first + 1, level: between(box, '<rect class="', '"'),
         category: between(box, "<i>", "</i>"), text: plain(between(box, "<bdi>", "</bdi>")),
         marks: between(box, '<path class="whole" d="', '"'),
     };

@@ -12,8 +12,10 @@ No two sections may have the same contents, and the overview has to have a strip
 heading has. In the chart of a network each group has to hold its own cells. Chromium, where it is installed, opens each
 page: it has to find the same bars, and no element that the program didn't write, whatever the texts say; and at three
 widths nothing may be wider than the window. The chart of a part of the run, by `--from` and `--to`, has to have the
-bars, marks and loads of the whole one that are in it. What titles say that identifiers mean has to be what Wireshark
-says, where it is installed.
+bars, marks and loads of the run that are in it, which are put together of parts so short that they have all marks. A
+message has marks, or their number, by the rule of docs/formats.md. The page in German has to have the same elements and
+numbers, and none of the English words. What titles say that identifiers mean has to be what Wireshark says, where it is
+installed.
 """
 import csv
 import fractions
@@ -39,8 +41,15 @@ STEPS = (10, 30, 60, 120, 300, 600, 1800, 3600, 7200, 14400, 21600)
 FULL = 1008
 ELEMENTS = set("html head meta title style body h1 h2 p nav a details summary div b i small bdi svg rect path"
                " span br".split())
-# the most marks of a message
-MOST_MARKS = 400
+# the most marks of a message, and how far apart they have to stand at least, in pixels of a page of this width
+MOST_MARKS, LEAST_GAP, PAGE_WIDTH = 400, 4, 1280
+# a part of so many slots has all marks: even those after each slot are far enough apart
+ALL_MARKED = PAGE_WIDTH // LEAST_GAP
+# words of the page in English that a page in German doesn't have
+ENGLISH = ("slot ", "slots", "Warnings", "message", "broadcast", "shown", "refused", "Cell", "Reserved", "load",
+           "every", " to ", " and ", "more", "high", "background", "Level", "Drawn", "Group", "language", "exceeded")
+# parts of the sentences that explain the page, which have their numbers in other forms in another language
+SENTENCES = ("1.883", "1,883", " px ", "inute", " s ")
 # what the identifiers mean in the words of the page for browsers
 WORDS = os.path.join("browser", "words.js")
 ETWS = ("earthquake", "tsunami", "earthquake and tsunami", "test", "other")
@@ -112,7 +121,7 @@ class Page(html.parser.HTMLParser):
             self.cells[-1]["lines"][-1]["bar"] = (int(values["x"]), int(values["width"]))
             self.cells[-1]["lines"][-1]["kind"] = kind
         if tag == "path":
-            (self.strips if "nav" in self.inside else self.cells[-1]["lines"])[-1][kind] = values["d"]
+            (self.strips if "nav" in self.inside else self.cells[-1]["lines"])[-1][kind or "shown"] = values["d"]
         if tag not in ("meta", "br", "img"):
             self.inside.append(tag)
 
@@ -243,18 +252,18 @@ def wrong_meanings():
             yield f"identifier {number} means {meanings().get(number)}, but by Wireshark {table.get(number)}"
 
 
-def title_of(row, text):
+def title_of(row):
     """Returns the title of a row's picture."""
     meaning = meanings().get(int(row["id"]))
     name = f"{row['id']} {row['serial']}" + (f" ({meaning})" if meaning else "")
     start, end = int(row["start"]), int(row["end"])
     if row["shown"].startswith("refused"):
-        return f"{name}: refused at slot {start} ({time_of(start)}): {row['cause']} ({row['shown'][-2:]})"
+        return f"{name}: refused at slot {start} ({time_of(start)})"
     first = row["first_shown"]
-    outcome = f"first shown after slot {first} ({time_of(int(first) + 1)})" if first else "not shown"
-    every = "slot" if row["period"] == "1" else f"{row['period']} slots"
-    return (f"{name}: from slot {start} ({time_of(start)}) to slot {end} ({time_of(end)}), every {every}, "
-            f"whole broadcasts: {row['completed']}, {outcome}\n{text}")
+    outcome = f"first shown after {first} ({time_of(int(first) + 1)})" if first else "not shown"
+    every = "slot" if row["period"] == "1" else row["period"]
+    return (f"{name}: slots {start} ({time_of(start)}) to {end} ({time_of(end)}), every {every}, "
+            f"broadcasts: {row['completed']}, {outcome}")
 
 
 def texts_asked(book):
@@ -272,35 +281,46 @@ def texts_asked(book):
     return texts
 
 
-def expected(rows, shown, asked):
-    """Returns by cell what the lines of its rows have to be: a title, and a bar, its marks and its text, or a
-    refusal."""
+def has_marks(period, whole, slots):
+    """Returns whether so many whole broadcasts of a message of this period have marks in a chart of so many slots."""
+    return whole <= MOST_MARKS and LEAST_GAP * slots <= period * PAGE_WIDTH
+
+
+def expected(rows, shown, asked, slots):
+    """Returns by cell what the lines of its rows have to be: a title, and a bar, its marks or their number, and its
+    text, or a refusal."""
     cells = {}
     for row in rows:
         cell = f"Cell {row['lac']}-{row['ci']}"
         start, end = int(row["start"]), int(row["end"])
         name = row["id"], row["serial"]
         text = shown.get((row["lac"], row["ci"], *name)) if row["shown"] == "yes" else asked.get(name)
-        title = title_of(row, text)
+        title = title_of(row)
         if row["shown"].startswith("refused"):
             line = (title, "refusal", start, f"refused: {row['cause']} ({row['shown'][-2:]})")
         else:
             first = int(row["first_shown"]) + 1 if row["first_shown"] else None
-            line = (title, (start, max(0, end - start)), pace_of(row), int(row["completed"]), first, text,
-                    row["shown"] == "yes")
+            whole = int(row["completed"])
+            line = (title, (start, max(0, end - start)), pace_of(row),
+                    (has_marks(int(row["period"]), whole, slots), whole), first, text, row["shown"] == "yes")
         cells.setdefault(cell, []).append(line)
     return cells
 
 
+def marks_in(line):
+    """Returns the slots of a message's marks."""
+    return [int(it) for it in re.findall(r"M(\d+) 0v10", line["whole"])]
+
+
 def broadcasts_of(line):
-    """Returns how many whole broadcasts a message's line has: by its marks, or by the number that it says."""
-    marks = len(re.findall(r"M(\d+) 0v10", line["whole"]))
+    """Returns whether a message's line has marks, and how many whole broadcasts it has by these, or by the number that
+    it says."""
     number = line["number"].removesuffix(UNSEEN)
-    said = re.fullmatch(r"(\d+) broadcasts", number)
-    if not line["kind"].endswith(" many") and not number and marks <= MOST_MARKS:
-        return marks
-    is_many = line["kind"].endswith(" many") and said and not line["whole"] and int(said[1]) > MOST_MARKS
-    return int(said[1]) if is_many else None
+    said = re.fullmatch(r"(\d+) broadcasts?", number)
+    if "whole" in line and not number:
+        return True, len(marks_in(line))
+    is_right = said and "whole" not in line and number.endswith("s") == (said[1] != "1")
+    return False, int(said[1]) if is_right else None
 
 
 def first_mark_of(line):
@@ -316,9 +336,8 @@ def found(page):
         lines = []
         for line in cell["lines"]:
             if "bar" in line:
-                pace = line["kind"].removeprefix("bar ").removesuffix(" many")
-                lines.append((line["title"], line["bar"], pace, broadcasts_of(line), first_mark_of(line), line["text"],
-                              not line["number"].endswith(UNSEEN)))
+                lines.append((line["title"], line["bar"], line["kind"], broadcasts_of(line), first_mark_of(line),
+                              line["text"], not line["number"].endswith(UNSEEN)))
             elif "refusal" in line:
                 slot = re.fullmatch(r"M(\d+) 0v10", line["refusal"])[1]
                 lines.append((line["title"], "refusal", int(slot), line["cause"]))
@@ -423,7 +442,8 @@ def differences(program, browser, book, options, slots=SLOTS_BY_HAND):
     for each in [["--group", str(it)] for it in range(len(groups))] or [options]:
         shown.update(shown_of(program, given, [*each, *length]))
     chart = run(program, ["chart", *options, *length], given)
-    wanted = expected(rows, shown, texts_asked(book))
+    wanted = expected(rows, shown, texts_asked(book), slots)
+    yield from wrong_german(chart.decode(), run(program, ["chart", "--lang", "de", *options, *length], given).decode())
     pages = [("the chart", Page(chart.decode()))]
     if browser:
         with tempfile.TemporaryDirectory() as folder:
@@ -456,18 +476,79 @@ def heights_of(line, last):
             for slot in range(begin, end)}
 
 
-def cut(line, first, last):
-    """Returns what a line of the whole chart comes to in a part: its title, and its bar and marks, or its refusal."""
+class Skeleton(html.parser.HTMLParser):
+    """A page's tags with their attributes, but for those in words, and the numbers of its texts."""
+
+    def __init__(self, text):
+        super().__init__()
+        self.parts, self.words = [], []
+        self.feed(text)
+
+    def handle_starttag(self, tag, attributes):
+        self.parts.append((tag, [it for it in attributes if it[0] not in ("lang", "aria-label")]))
+        self.words += [value for name, value in attributes if name == "aria-label"]
+        self.tag = tag
+
+    def handle_endtag(self, tag):
+        self.parts.append(tag)
+        self.tag = ""
+
+    def handle_data(self, text):
+        # texts are in a language of their own
+        if self.tag not in ("style", "bdi"):
+            self.words.append(text)
+
+
+def wrong_german(english, german):
+    """Yields in what a page in German differs from that in English but in its words."""
+    ours, theirs = Skeleton(english), Skeleton(german)
+    if ours.parts != theirs.parts or not german.startswith('<!DOCTYPE html>\n<html lang="de">'):
+        yield "the page in German has other elements than that in English"
+    numbers = [[re.findall(r"\d+", it) for it in page.words if not any(part in it for part in SENTENCES)]
+               for page in (ours, theirs)]
+    if numbers[0] != numbers[1]:
+        yield "the page in German has other numbers than that in English"
+    left = sorted({word for word in ENGLISH for it in theirs.words if word in it})
+    if left:
+        yield f"the page in German has the English words {left}"
+
+
+def cut(line, marks, first, last):
+    """Returns what a line of the run with these marks comes to in the chart of a part: its title, and its bar and its
+    marks, or their number, or its refusal."""
     if "refusal" in line:
         return line["title"], line["refusal"]
     begin, end = line["bar"][0], sum(line["bar"])
-    marks = [int(it) for it in re.findall(r"M(\d+) 0v10", line["whole"])]
-    begin = max(begin, first)
-    return line["title"], (begin, max(0, min(end, last) - begin)), [it for it in marks if first < it <= last]
+    inside = [it for it in marks if first < it <= last]
+    begin, every = max(begin, first), re.search(r", every (slot|\d+),", line["title"])[1]
+    is_marked = has_marks(1 if every == "slot" else int(every), len(inside), last - first)
+    return line["title"], (begin, max(0, min(end, last) - begin)), inside if is_marked else len(inside)
+
+
+def drawn(line):
+    """Returns the same of a line of a chart."""
+    if "refusal" in line:
+        return line["title"], line["refusal"]
+    is_marked, number = broadcasts_of(line)
+    marks = marks_in(line) if is_marked else number
+    return line["title"], line["bar"], marks
 
 
 def lines_by_cell(page):
     return {name: cell["lines"] for cell in page.cells for name in names_of(cell["name"])}
+
+
+def all_marks(program, words, book, slots):
+    """Returns the marks of each message of a run, by cell and title, of charts of parts that have all marks."""
+    marks = {}
+    for first in range(0, slots, ALL_MARKED):
+        part = ["--from", str(first), "--to", str(min(first + ALL_MARKED, slots))]
+        page = Page(run(program, [*words, *part], book.encode()).decode())
+        for name, lines in lines_by_cell(page).items():
+            for line in lines:
+                if "bar" in line:
+                    marks.setdefault((name, line["title"]), []).extend(marks_in(line))
+    return marks
 
 
 def wrong_part(program, book, chance, slots=SLOTS_BY_HAND):
@@ -477,6 +558,7 @@ def wrong_part(program, book, chance, slots=SLOTS_BY_HAND):
     words = ["chart", "--slots", str(slots)]
     whole = lines_by_cell(Page(run(program, words, book.encode()).decode()))
     part = lines_by_cell(Page(run(program, [*words, "--from", str(first), "--to", str(last)], book.encode()).decode()))
+    marks = all_marks(program, words, book, slots)
     spans = {}
     for row in rows_of(program, ["report", "--full", "--slots", str(slots)], book.encode()):
         spans.setdefault(f"Cell {row['lac']}-{row['ci']}", []).append((int(row["start"]), int(row["end"])))
@@ -484,10 +566,11 @@ def wrong_part(program, book, chance, slots=SLOTS_BY_HAND):
         yield f"slots {first} to {last}: the cells {list(part)}, of the whole run {list(whole)}"
     for name in part:
         *lines, loads, _ = whole[name]
-        *drawn, drawn_loads, _ = part[name]
-        wanted = [cut(line, first, last) for line, (start, end) in zip(lines, spans.get(name, []), strict=True)
+        *drawn_lines, drawn_loads, _ = part[name]
+        wanted = [cut(line, marks.get((name, line["title"]), []), first, last)
+                  for line, (start, end) in zip(lines, spans.get(name, []), strict=True)
                   if (first <= start <= last if start == end else min(start, end) < last and first < max(start, end))]
-        found_lines = [cut(line, -1, slots + 1) for line in drawn]
+        found_lines = [drawn(line) for line in drawn_lines]
         if found_lines != wanted:
             yield f"slots {first} to {last}: {name} has {found_lines}, of the whole run {wanted}"
         heights = heights_of(loads["load"], slots)
@@ -532,6 +615,7 @@ def main(words):
                                    SLOTS_LONG if number % 4 == 3 else SLOTS_BY_HAND)]
     wrong += wrong_meanings()
     wrong += [it for book, options in books if not options for it in wrong_part(program, book, chance)]
+    wrong += [it for book, options in books[::4] if not options for it in wrong_part(program, book, chance, SLOTS_LONG)]
     print("\n".join(wrong) or f"{len(books)} charts are as their reports{', in the browser too' if browser else ''}")
     return 1 if wrong else 0
 

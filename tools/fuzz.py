@@ -1246,6 +1246,8 @@ def book_options(chance, command, book):
         options["--sessions"] = threads_word(chance)
     if command == "chart" and chance.random() < 0.3:
         options["--cell"] = cell_word(chance)
+    if command == "chart" and chance.random() < 0.3:
+        options["--lang"] = chance.choice(("en", "de"))
     if command == "report" and chance.random() < 0.3:
         options["--full"] = None
     return options

@@ -87,3 +87,21 @@ counted_up_to q from to ordered =
     let start : 0 + from ≡ from = omega arith in
     let moved = ap (λ (n : ℕ). count_by q (range_with_len n (to - from))) start in
     omega (arith, whole, two, moved)
+
+-- what was counted before a slot with what is counted from it on is what was counted up to it with what is counted
+-- after
+pub counted_on : (q : ℕ → Bool) (slot end count more whole : ℕ)
+    → slot < end
+    → more ≡ cond (q slot) 1 0
+    → count + count_by q (range_with_len slot (end - slot)) ≡ whole
+    → count + more + count_by q (range_with_len (slot + 1) (end - (slot + 1))) ≡ whole
+counted_on q slot end count more whole within here so_far =
+    let next : end - slot ≡ suc (end - (slot + 1)) = omega (arith, within) in
+    let moved = ap (λ (n : ℕ). count_by q (range_with_len slot n)) next in
+    let front = sum_by-cons (λ i. cond (q i) 1 0) slot (range_with_len (slot + 1) (end - (slot + 1))) in
+    omega (arith, here, so_far, moved, front)
+
+-- one slot counts at most once
+pub counts_once : (b : Bool) (more : ℕ) → more ≡ cond b 1 0 → more ≤ 1
+counts_once true more is = omega (arith, is)
+counts_once false more is = omega (arith, is)

@@ -2,7 +2,7 @@
 -- its reservation.
 use Rattle.std.proofs.Common.{◌≡◌, ◌<◌, ◌≤◌, ◌+◌, ◌-◌, ◌==◌, ◌∙◌, ℕ, suc, zero, Bool, true, false, List}
 use Rattle.std.proofs.Common.{Option, None, Some, All, ap, ap₂, cond, drop, get_or}
-use Rattle.std.proofs.Common.{if◌then◌else◌, length, min, nat_le, nat_lt}
+use Rattle.std.proofs.Common.{length, min}
 use Rattle.std.proofs.Common.{refl, sym, take}
 use native.Mathlib.Omega.{arith}
 use Rattle.std.specs.List.{Contains, count_by, range_with_len, slice_get}
@@ -24,8 +24,8 @@ use Rattle.bsc_table.specs.Legal.{IsLegal}
 use Rattle.bsc_table.specs.Record.{Accepted, Record, accepted_in, messages_in}
 use Rattle.bsc_table.specs.Written.{AcceptedHaveLoads, AcceptedRise}
 use Rattle.chart.proofs.CountLaws.{counted_up_to, counted_within}
-use Rattle.chart.specs.Laws.{number_of_marks, MarksAreCompleted, MarksOfPartsAreCompleted}
-use Rattle.chart.specs.Message.{end_within, is_marked}
+use Rattle.chart.specs.Laws.{AreDrawn, MarksAreCompleted, MarksOfPartsAreCompleted}
+use Rattle.chart.specs.Message.{end_within, is_marked, number_if_crowded, number_of_marks}
 use Rattle.chart.specs.View.{stretch_of}
 use Rattle.chart.specs.declared.view.Part.{Part}
 use Rattle.chart.specs.declared.view.Stretch.{Stretch}
@@ -157,17 +157,25 @@ each_in_part laws r m part is =
     ∙ ap₂ (λ (a b : ℕ). a - b) (up_to laws r m s.to is within)
     (up_to laws r m s.from is (omega (arith, ordered, within)))
 
+-- with as many marks as whole broadcasts, these are drawn or their number is said
+drawn : (r : Record) (s : Stretch) (a : Accepted) (whole : ℕ) → number_of_marks s r.slots r.air a.message ≡ whole
+    → AreDrawn r s a whole
+drawn r s a whole is = record {
+  marks = is;
+  number = ap (λ (n : ℕ). number_if_crowded s a.message.period n) is;
+}
+
 -- a message has a mark for each of its whole broadcasts, where they are drawn
 pub marks_are_completed : Laws → MarksAreCompleted
-marks_are_completed laws r shown legal played k d within =
-    drawn (completed (get_or (accepted_in r.log) k d).message r.air r.slots) _
-    (each_has_a_mark laws r (get_or (accepted_in r.log) k d).message (known laws r legal played k d within))
-  where
-    drawn : (whole number : ℕ) → number ≡ whole
-        → (if nat_lt 400 whole then 0 else number) ≡ (if nat_le whole 400 then whole else 0)
-    drawn whole number is = grind (arith, is)
+marks_are_completed laws r legal played k d within =
+    let a : Accepted = get_or (accepted_in r.log) k d in
+    drawn r (stretch_of None r.slots) a (completed a.message r.air r.slots)
+    (each_has_a_mark laws r a.message (known laws r legal played k d within))
 
 -- and in a part of the run one for each that was completed in it
 pub marks_of_parts_are_completed : Laws → MarksOfPartsAreCompleted
-marks_of_parts_are_completed laws r shown part legal played k d within =
-    each_in_part laws r (get_or (accepted_in r.log) k d).message part (known laws r legal played k d within)
+marks_of_parts_are_completed laws r part legal played k d within =
+    let a : Accepted = get_or (accepted_in r.log) k d in
+    let s : Stretch = stretch_of (Some part) r.slots in
+    drawn r s a (completed a.message r.air s.to - completed a.message r.air s.from)
+    (each_in_part laws r a.message part (known laws r legal played k d within))

@@ -10,8 +10,10 @@ use Rattle.report.specs.declared.row.Showing.{Showing}
 use Rattle.report.specs.declared.row.Showing.TheVariants as shown_status
 use Rattle.bsc_table.specs.Record.{Record}
 use Rattle.chart.specs.declared.facts.Facts.{Facts}
-use Rattle.chart.specs.declared.facts.TheConstants as texts
 use Rattle.chart.specs.declared.fullest.Fullest.{Fullest}
+use Rattle.chart.specs.declared.word.Language.{Language}
+use Rattle.chart.specs.declared.word.Word.TheVariants as words
+use Rattle.chart.specs.Words.{word_in}
 use Rattle.chart.specs.Load.{all_loads}
 use Rattle.chart.specs.Time.{time_text}
 
@@ -51,12 +53,11 @@ abbrev pub fullest_in : Record → Fullest
 fullest_in r = record { share = hundredths (most_of (all_loads r)); slot = fullest_slot (all_loads r) }
 
 -- how full a cell gets, and when
-unfoldable pub fullest_text : Facts → List ℕ
-fullest_text facts =
-    decimal (hundredths facts.most) ++ texts.SHARE_END.now ++ time_text facts.slot
+unfoldable pub fullest_text : Language → Facts → List ℕ
+fullest_text l facts = decimal (hundredths facts.most) ++ word_in l words.ShareAt ++ time_text facts.slot
 
 -- what counts of it in words
-unfoldable pub facts_text : Facts → List ℕ
-facts_text facts =
-    texts.MESSAGES.now ++ decimal facts.messages ++ texts.REFUSED.now ++ decimal facts.refused ++ texts.FULLEST.now
-    ++ fullest_text facts
+unfoldable pub facts_text : Language → Facts → List ℕ
+facts_text l facts =
+    word_in l words.Messages ++ decimal facts.messages ++ word_in l words.Refused ++ decimal facts.refused
+    ++ word_in l words.Fullest ++ fullest_text l facts

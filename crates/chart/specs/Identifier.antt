@@ -1,10 +1,14 @@
 -- What a message identifier means (3GPP TS 23.041, clause 9.4.1.2.2), with the levels of EU-Alert (ETSI TS 102 900).
 use Rattle.std.specs.Prelude.{ℕ, ◌-◌, ◌==◌, ◌&&◌, not, nat_le, Bool, if◌then◌else◌, List, [], ◌∷◌, ◌++◌, codes}
 use Rattle.chart.specs.declared.identifier.TheConstants as texts
+use Rattle.chart.specs.declared.word.Language.{Language}
+use Rattle.chart.specs.declared.word.Language.TheVariants as languages
+use Rattle.chart.specs.declared.word.Word.TheVariants as words
+use Rattle.chart.specs.Words.{big_ue, oe, ue, word_in}
 
--- the warnings that have an identifier each; nothing of another number
-abbrev pub kind_words : ℕ → List ℕ
-kind_words id =
+-- the warnings that have an identifier each, in English; nothing of another number
+abbrev pub english_kind : ℕ → List ℕ
+english_kind id =
     if id == 4352 then codes "ETWS: earthquake"
     else if id == 4353 then codes "ETWS: tsunami"
     else if id == 4354 then codes "ETWS: earthquake and tsunami"
@@ -27,6 +31,35 @@ kind_words id =
     else if id == 4398 then codes "Test: state or local"
     else []
 
+-- the same in German
+abbrev pub german_kind : ℕ → List ℕ
+german_kind id =
+    if id == 4352 then codes "ETWS: Erdbeben"
+    else if id == 4353 then codes "ETWS: Tsunami"
+    else if id == 4354 then codes "ETWS: Erdbeben und Tsunami"
+    else if id == 4355 then codes "ETWS: Test"
+    else if id == 4356 then codes "ETWS: anderes"
+    else if id == 4370 then codes "EU-Alert Stufe 1: h" ++ oe ++ codes "chste Stufe"
+    else if id == 4371 then codes "Stufe 2: extrem, unmittelbar, beobachtet"
+    else if id == 4372 then codes "Stufe 2: extrem, unmittelbar, wahrscheinlich"
+    else if id == 4373 then codes "Stufe 3: extrem, erwartet, beobachtet"
+    else if id == 4374 then codes "Stufe 3: extrem, erwartet, wahrscheinlich"
+    else if id == 4375 then codes "Stufe 3: schwer, unmittelbar, beobachtet"
+    else if id == 4376 then codes "Stufe 3: schwer, unmittelbar, wahrscheinlich"
+    else if id == 4377 then codes "Stufe 3: schwer, erwartet, beobachtet"
+    else if id == 4378 then codes "Stufe 3: schwer, erwartet, wahrscheinlich"
+    else if id == 4379 then codes "Kindesentf" ++ ue ++ codes "hrung: EU-Amber"
+    else if id == 4380 then codes "Test: monatlich"
+    else if id == 4381 then big_ue ++ codes "bung"
+    else if id == 4382 then codes "Eigener Gebrauch des Betreibers"
+    else if id == 4396 then codes "Stufe 4: " ++ oe ++ codes "ffentliche Sicherheit, EU-Info"
+    else if id == 4398 then codes "Test: Land oder Ort"
+    else []
+
+abbrev pub kind_in : Language → ℕ → List ℕ
+kind_in languages.English id = english_kind id
+kind_in languages.German id = german_kind id
+
 -- the identifier of the same warning in the first language: those of an additional language are 13 higher, but of
 -- public safety and of state and local tests 1 higher
 abbrev pub kind_of : ℕ → ℕ
@@ -39,20 +72,20 @@ kind_of id =
 abbrev pub is_additional : ℕ → Bool
 is_additional id = not (kind_of id == id)
 
-abbrev pub language_words : (additional : Bool) → List ℕ
-language_words additional = if additional then texts.ADDITIONAL.now else []
+abbrev pub language_words : Language → (additional : Bool) → List ℕ
+language_words l additional = if additional then word_in l words.Additional else []
 
 -- what an identifier means, in words
-unfoldable pub identifier_meaning : ℕ → List ℕ
-identifier_meaning id = kind_words (kind_of id) ++ language_words (is_additional id)
+unfoldable pub identifier_meaning : Language → ℕ → List ℕ
+identifier_meaning l id = kind_in l (kind_of id) ++ language_words l (is_additional id)
 
 -- the same in brackets; nothing of an identifier that means nothing
-unfoldable pub bracketed : (id : ℕ) → List ℕ
-bracketed id = texts.MEANING.now ++ identifier_meaning id ++ texts.MEANING_END.now
+unfoldable pub bracketed : Language → (id : ℕ) → List ℕ
+bracketed l id = texts.MEANING.now ++ identifier_meaning l id ++ texts.MEANING_END.now
 
-abbrev pub meaning_by : (words : List ℕ) → (id : ℕ) → List ℕ
-meaning_by [] id = []
-meaning_by (octet ∷ words) id = bracketed id
+abbrev pub meaning_by : Language → (kind : List ℕ) → (id : ℕ) → List ℕ
+meaning_by l [] id = []
+meaning_by l (octet ∷ kind) id = bracketed l id
 
-unfoldable pub meaning_text : (id : ℕ) → List ℕ
-meaning_text id = meaning_by (kind_words (kind_of id)) id
+unfoldable pub meaning_text : Language → (id : ℕ) → List ℕ
+meaning_text l id = meaning_by l (kind_in l (kind_of id)) id

@@ -1,18 +1,14 @@
 -- What the marks, the loads, the fullest slots, the sections and the axis of a chart promise (own).
-use Rattle.std.specs.Prelude.{◌≡◌, ◌↔◌, ℕ, ◌+◌, ◌-◌, ◌*◌, ◌<◌, ◌≤◌, true, All, List, count_by, if◌then◌else◌, nat_le}
+use Rattle.std.specs.Prelude.{◌≡◌, ◌↔◌, ◌&&◌, ℕ, ◌+◌, ◌-◌, ◌*◌, ◌<◌, ◌≤◌, Bool, true, All, if◌then◌else◌, nat_le}
 use Rattle.std.specs.Prelude.{None, Some}
 use Rattle.admission.specs.declared.measure.TheConstants.{SCALE}
-use Rattle.scheduler.specs.Air.{Air}
 use Rattle.scheduler.specs.Completed.{completed}
-use Rattle.scheduler.specs.Message.{ScheduledMessage}
 use Rattle.bsc_table.specs.Claim.{claimed_at}
 use Rattle.bsc_table.specs.Legal.{IsLegal}
-use Rattle.bsc_table.specs.Record.{Record, accepted_in, claims_in}
-use Rattle.handset.specs.Reception.{ShownMessage}
-use Rattle.report.specs.Rows.{message_row}
+use Rattle.bsc_table.specs.Record.{Accepted, Record, accepted_in, claims_in}
 use Rattle.chart.specs.Facts.{fullest_in, hundredths}
 use Rattle.chart.specs.Load.{height_of}
-use Rattle.chart.specs.Message.{are_many, is_marked, marked_slots}
+use Rattle.chart.specs.Message.{number_instead, number_of_marks}
 use Rattle.chart.specs.Panels.{is_like}
 use Rattle.chart.specs.declared.fullest.Fullest.{Fullest}
 use Rattle.chart.specs.declared.panel.Panel.{Panel}
@@ -23,32 +19,32 @@ use Rattle.chart.specs.View.{stretch_of}
 use Rattle.chart.specs.declared.view.Part.{Part}
 use Rattle.chart.specs.declared.view.Stretch.{Stretch}
 
--- how many marks a message has at the slots that are drawn
-abbrev pub number_of_marks : Stretch → (slots : ℕ) → Air → ScheduledMessage → ℕ
-number_of_marks s slots air m = count_by (is_marked air m) (marked_slots s slots m)
+-- whether marks are drawn of a message of this period of which so many broadcasts are whole in so many slots: at most
+-- 400 are, and a period is at least 4 px wide where the slots are 1,280 px wide
+abbrev pub are_drawn : (period whole width : ℕ) → Bool
+are_drawn period whole width = nat_le whole 400 && nat_le (4 * width) (period * 1280)
 
--- how many are drawn of a message of which this many broadcasts are whole
-abbrev pub number_drawn : Stretch → (whole slots : ℕ) → Air → ScheduledMessage → ℕ
-number_drawn s whole slots air m = if are_many s whole then 0 else number_of_marks s slots air m
+-- of an accepted message with so many whole broadcasts at the slots that are drawn a mark is drawn for each of these,
+-- or their number is said
+pub record AreDrawn (r : Record) (s : Stretch) (a : Accepted) (whole : ℕ) : Type 0 where
+  pub marks : number_of_marks s r.slots r.air a.message ≡ whole
+  pub number : number_instead s r.slots r.air (Some a)
+      ≡ (if are_drawn a.message.period whole (s.to - s.from) then None else Some whole)
 
--- an accepted message has as many marks as broadcasts of it were completed, if these are at most 400, and else none
+-- in the whole run these are as many as were completed
 abbrev pub MarksAreCompleted : Type 0
-MarksAreCompleted = (r : Record) (shown : List ShownMessage)
+MarksAreCompleted = (r : Record)
     → IsLegal r
     → r.clock ≡ r.slots
-    → All (λ a. let whole = completed a.message r.air r.slots in
-    (number_drawn (stretch_of None r.slots) (message_row r shown a).completed r.slots r.air a.message
-    ≡ (if nat_le whole 400 then whole else 0)))
-    (accepted_in r.log)
+    → All (λ a. AreDrawn r (stretch_of None r.slots) a (completed a.message r.air r.slots)) (accepted_in r.log)
 
--- in a part of the run it has as many as were completed in it, however many these are
+-- and in a part of it as many as were completed in that
 abbrev pub MarksOfPartsAreCompleted : Type 0
-MarksOfPartsAreCompleted = (r : Record) (shown : List ShownMessage) (part : Part)
+MarksOfPartsAreCompleted = (r : Record) (part : Part)
     → IsLegal r
     → r.clock ≡ r.slots
     → All (λ a. let s = stretch_of (Some part) r.slots in
-    (number_drawn s (message_row r shown a).completed r.slots r.air a.message
-    ≡ completed a.message r.air s.to - completed a.message r.air s.from)) (accepted_in r.log)
+    AreDrawn r s a (completed a.message r.air s.to - completed a.message r.air s.from)) (accepted_in r.log)
 
 -- a full cell is as high as the picture in steps, is drawn at its top, an empty one at its bottom, and more never lower
 -- than less

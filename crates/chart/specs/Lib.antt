@@ -1,4 +1,6 @@
 pub mod Escape
+pub mod Words
+pub mod Causes
 pub mod View
 pub mod Load
 pub mod Message

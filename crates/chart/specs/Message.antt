@@ -1,7 +1,7 @@
 -- What is drawn of an accepted message beside its row (own).
-use Rattle.std.specs.Prelude.{ℕ, ◌+◌, ◌-◌, ◌==◌, ◌&&◌, not, if◌then◌else◌, max, min, Option}
+use Rattle.std.specs.Prelude.{ℕ, ◌+◌, ◌-◌, ◌==◌, ◌&&◌, if◌then◌else◌, max, min, Option}
 use Rattle.std.specs.Prelude.{Some, None, List, [], ◌++◌, find}
-use Rattle.std.specs.Prelude.{Bool, false, ◌*◌, encode_utf8_all, nat_le, nat_lt, slice_get}
+use Rattle.std.specs.Prelude.{Bool, false, ◌*◌, count_by, encode_utf8_all, nat_le, nat_lt, slice_get}
 use Rattle.std.specs.Fmt.{decimal}
 use Rattle.std.specs.List.{flat_map, range_with_len}
 use Rattle.std.specs.Option.{option_map_or, unwrap_or}
@@ -22,9 +22,12 @@ use Rattle.handset.specs.Reception.{ShownMessage}
 use Rattle.report.specs.declared.row.Demand.{Demand}
 use Rattle.report.specs.declared.row.Row.{Row}
 use Rattle.chart.specs.declared.view.Stretch.{Stretch}
-use Rattle.chart.specs.View.{holds}
-use Rattle.chart.specs.declared.message.TheConstants.{HIGH, NORMAL, BACKGROUND, MARK, MARK_END, MOST_MARKS}
-use Rattle.chart.specs.declared.message.TheConstants.{FIRST_END}
+use Rattle.chart.specs.View.{holds, width_of}
+use Rattle.chart.specs.declared.word.Language.{Language}
+use Rattle.chart.specs.declared.word.Word.TheVariants as words
+use Rattle.chart.specs.Words.{word_in}
+use Rattle.chart.specs.declared.message.TheConstants.{MARK, MARK_END, MARKS, MARKS_END}
+use Rattle.chart.specs.declared.message.TheConstants.{FIRST_END, LEAST_GAP, MOST_MARKS, PAGE_WIDTH}
 use Rattle.chart.specs.declared.message.TheConstants.{EVERY_15_S, EVERY_30_S, EVERY_MINUTE, EVERY_2_MINUTES, RARER}
 
 -- the text that a handset shows of a message of this identifier and serial number, if it shows one
@@ -48,14 +51,14 @@ text_asked log None = []
 text_asked log (Some a) = option_map_or (λ e. text_asked_by e.command) (slice_get log a.message.entry) []
 
 -- the category in words
-abbrev pub rank_words : Rank → List ℕ
-rank_words ranks.High = HIGH.now
-rank_words ranks.Normal = NORMAL.now
-rank_words ranks.Background = BACKGROUND.now
+abbrev pub rank_words : Language → Rank → List ℕ
+rank_words l ranks.High = word_in l words.High
+rank_words l ranks.Normal = word_in l words.Normal
+rank_words l ranks.Background = word_in l words.Background
 
-abbrev pub category_words : Option Accepted → List ℕ
-category_words None = []
-category_words (Some a) = rank_words a.message.rank
+abbrev pub category_words : Language → Option Accepted → List ℕ
+category_words l None = []
+category_words l (Some a) = rank_words l a.message.rank
 
 -- the first slot after a message's reservation, or after the run
 abbrev pub end_within : (slots : ℕ) → ScheduledMessage → ℕ
@@ -83,13 +86,35 @@ abbrev pub marks_of : Stretch → (slots : ℕ) → Air → Option Accepted → 
 marks_of s slots air None = []
 marks_of s slots air (Some a) = flat_map (mark_at air a.message) (marked_slots s slots a.message)
 
--- whether a message has so many whole broadcasts in a whole run that one couldn't see a mark for each
-abbrev pub are_many : Stretch → (whole : ℕ) → Bool
-are_many s whole = not s.is_part && nat_lt MOST_MARKS whole
+-- how many marks a message has at the slots that are drawn, which is how many of its broadcasts are whole there
+abbrev pub number_of_marks : Stretch → (slots : ℕ) → Air → ScheduledMessage → ℕ
+number_of_marks s slots air m = count_by (is_marked air m) (marked_slots s slots m)
 
--- the marks that are drawn of a message of which this many broadcasts are whole: all, or none
-abbrev pub drawn_marks : Stretch → (whole slots : ℕ) → Air → Option Accepted → List ℕ
-drawn_marks s whole slots air found = if are_many s whole then [] else marks_of s slots air found
+-- whether marks of broadcasts that follow each other by this period, in slots, are at least 4 px apart where the slots
+-- that are drawn take a page of 1,280 px
+abbrev pub are_apart : Stretch → (period : ℕ) → Bool
+are_apart s period = nat_le (LEAST_GAP * width_of s) (period * PAGE_WIDTH)
+
+-- whether a message of this period has its marks drawn: at most 400 broadcasts of it are whole at the slots that are
+-- drawn, and the marks are apart
+abbrev pub has_marks : Stretch → (period whole : ℕ) → Bool
+has_marks s period whole = nat_le whole MOST_MARKS && are_apart s period
+
+-- the number of its whole broadcasts that stands in place of marks, where it hasn't
+abbrev pub number_if_crowded : Stretch → (period whole : ℕ) → Option ℕ
+number_if_crowded s period whole = if has_marks s period whole then None else Some whole
+
+abbrev pub number_instead : Stretch → (slots : ℕ) → Air → Option Accepted → Option ℕ
+number_instead s slots air None = None
+number_instead s slots air (Some a) = number_if_crowded s a.message.period (number_of_marks s slots air a.message)
+
+-- the marks that are drawn of a message: all, or none where their number stands in their place
+unfoldable pub marks_path : (marks : List ℕ) → List ℕ
+marks_path marks = MARKS.now ++ marks ++ MARKS_END.now
+
+abbrev pub drawn_marks : (number : Option ℕ) → (marks : List ℕ) → List ℕ
+drawn_marks None marks = marks_path marks
+drawn_marks (Some number) marks = []
 
 -- the mark where a phone shows a message first: at the end of the slot after whose blocks it does
 unfoldable pub first_mark_after : (slot : ℕ) → List ℕ

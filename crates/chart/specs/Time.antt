@@ -6,6 +6,9 @@ use Rattle.std.specs.List.{flat_map, range_with_len}
 use Rattle.chart.specs.View.{width_of}
 use Rattle.chart.specs.declared.view.Stretch.{Stretch}
 use Rattle.chart.specs.declared.time.TheConstants as times
+use Rattle.chart.specs.declared.word.Language.{Language}
+use Rattle.chart.specs.declared.word.Word.TheVariants as words
+use Rattle.chart.specs.Words.{word_in}
 
 -- a number below 100 in two digits
 unfoldable pub two_digits : ℕ → List ℕ
@@ -74,5 +77,6 @@ unfoldable pub ticks : Stretch → List ℕ
 ticks s =
     flat_map (tick_within s (step_in s)) (range_with_len (first_number s.from (step_in s)) times.MOST_TICKS)
 
-unfoldable pub axis : Stretch → List ℕ
-axis s = times.AXIS.now ++ ticks s ++ times.AXIS_END.now
+unfoldable pub axis : Language → Stretch → List ℕ
+axis l s =
+    times.AXIS.now ++ word_in l words.Axis ++ times.AXIS_NAMED.now ++ ticks s ++ times.AXIS_END.now

@@ -9,7 +9,7 @@ ghost use Rattle.chart.specs.LineSteps.{IsContext};
 ghost use Rattle.chart.specs.Load.{AreLoadsFrom};
 ghost use Rattle.chart.specs.View.{is_drawn, width_of};
 
-use crate::facts::{Facts, REFUSED, facts_of, push_facts, push_fullest};
+use crate::facts::{Facts, facts_of, push_facts, push_fullest};
 use crate::kept::accepted_in;
 use crate::line::CellContext;
 use crate::load::{loads_of, loads_within, push_loads, push_shape};
@@ -17,6 +17,7 @@ use crate::page::Page;
 use crate::panel::Panel;
 use crate::time::push_axis;
 use crate::view::{Part, Stretch, stretch_of};
+use crate::word::{Language, Word};
 use bsc_table::CellRecord;
 use handset::Reading;
 use report::{ReportFault, Row, rows};
@@ -40,13 +41,13 @@ pub const STRIP_END: &str = "</i></a>\n";
 
 /// Appends what a strip says after its loads.
 #[tactic(auto, unfolding(crate::specs::ChartText::strip_facts))]
-fn push_strip_facts(page: &mut Page, facts: Facts) -> Result<(), AllocError>
+fn push_strip_facts(page: &mut Page, language: Language, facts: Facts) -> Result<(), AllocError>
     requires { facts.most ≤ SCALE }
-    ensures { OnOk result (page.new ≡ page.old ++ strip_facts facts) }
+    ensures { OnOk result (page.new ≡ page.old ++ strip_facts language facts) }
 {
     page.markup(STRIP_FACTS)?;
-    push_fullest(page, facts)?;
-    page.markup(REFUSED)?;
+    push_fullest(page, language, facts)?;
+    page.word(language, Word::Refused)?;
     page.number(facts.refused as u64)?;
     page.markup(STRIP_END)
 }
@@ -54,6 +55,7 @@ fn push_strip_facts(page: &mut Page, facts: Facts) -> Result<(), AllocError>
 /// What a strip has after its name.
 fn strip_of(
     alloc: Global,
+    language: Language,
     stretch: Stretch,
     loads: &[u64],
     facts: Facts,
@@ -62,11 +64,11 @@ fn strip_of(
     requires ordered { stretch.from ≤ stretch.to }
     requires most { facts.most ≤ SCALE }
     ensures { IfOk result (λ strip. (r : Record) → AreLoadsFrom stretch.from (claims_in r.log) loads.now
-        → strip ≡ strip_text r stretch facts) }
+        → strip ≡ strip_text language r stretch facts) }
 {
     let mut strip = Page::new(alloc);
-    push_shape(&mut strip, stretch, loads)?;
-    push_strip_facts(&mut strip, facts)?;
+    push_shape(&mut strip, language, stretch, loads)?;
+    push_strip_facts(&mut strip, language, facts)?;
     Ok(strip)
 }
 
@@ -85,17 +87,18 @@ fn contents_of(
     requires most { facts.most ≤ SCALE }
     ensures { IfOk result (λ contents. rows.now
         ≡ rows_in context.now.run.now context.now.stretch (messages_shown context.now.shown.now)
-        → contents ≡ contents_text context.now.run.now context.now.stretch (messages_shown context.now.shown.now)
-        facts) }
+        → contents ≡ contents_text context.now.language context.now.run.now context.now.stretch
+        (messages_shown context.now.shown.now) facts) }
 {
+    let language = context.language;
     let stretch = context.stretch;
     let mut contents = Page::new(alloc);
     contents.markup(NAME_END)?;
-    push_facts(&mut contents, facts)?;
+    push_facts(&mut contents, language, facts)?;
     contents.markup(FACTS_END)?;
     context.push_lines(&mut contents, rows)?;
-    push_loads(&mut contents, stretch, loads)?;
-    push_axis(&mut contents, stretch)?;
+    push_loads(&mut contents, language, stretch, loads)?;
+    push_axis(&mut contents, language, stretch)?;
     contents.markup(CELL_END)?;
     Ok(contents)
 }
@@ -110,12 +113,13 @@ fn keep_drawn(rows: &mut Vec<Row>, stretch: Stretch)
 /// What is drawn of a cell.
 pub(crate) fn panel_of(
     alloc: Global,
+    language: Language,
     part: Option<Part>,
     run: &CellRecord,
     reading: &Reading,
 ) -> Result<Panel, ReportFault>
     ensures panel { IfOk result (λ panel. panel
-        ≡ panel_of part run.now (messages_shown reading.now.shown.items)) }
+        ≡ panel_of language part run.now (messages_shown reading.now.shown.items)) }
     ensures cells { IfErr result (λ fault. fault ≡ ReportFault.Cells → run.now.cell ≢ reading.now.cell) }
     ensures faults { IfErr result (λ fault. fault ≢ ReportFault.WriteFailed) }
 {
@@ -134,12 +138,13 @@ pub(crate) fn panel_of(
     let facts = facts_of(&rows, stretch.from, loads);
     let context = CellContext {
         alloc,
+        language,
         stretch,
         run,
         shown: &reading.shown,
         messages: &messages,
     };
-    let strip = strip_of(alloc, stretch, loads, facts)?;
+    let strip = strip_of(alloc, language, stretch, loads, facts)?;
     let contents = contents_of(alloc, &context, &rows, loads, facts)?;
     Ok(Panel {
         cell: run.cell(),

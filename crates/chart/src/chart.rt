@@ -7,7 +7,7 @@ ghost use Rattle.handset.specs.Tape.{readings_of};
 ghost use Rattle.report.specs.Rows.{AreOfOneCells};
 ghost use Rattle.chart.specs.ChartText.{chart_front, chart_part, chart_text, folded, foot_if, front_if_first};
 ghost use Rattle.chart.specs.ChartText.{group_front, head, introduction, is_wanted, part_text, run_text, stretch_text};
-ghost use Rattle.chart.specs.ChartText.{panel_if, panels_of, sections_of, slots_words, WritesChart, WritesFront};
+ghost use Rattle.chart.specs.ChartText.{panel_if, panels_of, sections_of, slots_word, WritesChart, WritesFront};
 
 use crate::cell::panel_of;
 use crate::page::Page;
@@ -15,6 +15,7 @@ use crate::panel::Panel;
 use crate::section::push_all;
 use crate::time::{push_slot, push_time};
 use crate::view::{Part, Stretch, View, stretch_of};
+use crate::word::{Language, Word};
 use bsc_table::CellRecord;
 use cbsp_wire::Cell;
 use device_ends::{Failed, Sink, write_all};
@@ -23,14 +24,19 @@ use report::ReportFault;
 use std::alloc::{AllocError, Global};
 use std::io::Write;
 
-/// The front of the page, up to the number of slots.
-pub const HEAD: &str = r#"<!DOCTYPE html>
-<html lang="en">
+/// The front of the page, up to the code of its language.
+pub const HEAD: &str = "<!DOCTYPE html>\n<html lang=\"";
+
+/// What comes after that, up to the title.
+pub const HEAD_LANGUAGE_END: &str = r#"">
 <head>
 <meta charset="utf-8">
 <meta http-equiv="Content-Security-Policy" content="default-src 'none'; style-src 'unsafe-inline'">
 <meta name="viewport" content="width=device-width, initial-scale=1">
-<title>Warnings by cell</title>
+<title>"#;
+
+/// What comes after the title, up to the heading.
+pub const HEAD_TITLE_END: &str = r#"</title>
 <style>
 :root{color-scheme:light dark;--ground:#fff;--text:#1a1a1a;--faint:#666;--lane:#eef1f4}
 :root{--f1:#6288b5;--f2:#456f9f;--f3:#2a5588;--f4:#143c6a;--f5:#061d38;--load:#5e7688;--refusal:#b3261e}
@@ -53,22 +59,22 @@ nav i{color:var(--faint);font-size:.85em;font-style:normal}
 .line bdi,.cause{flex:1;min-width:0;overflow:hidden;text-overflow:ellipsis}
 .line:hover p,.line p:active{white-space:normal}
 .line i,.line small{color:var(--faint);font-size:1em}
+details{contain-intrinsic-size:auto 40em;content-visibility:auto}
 svg{background:var(--lane);display:block;height:1.2em;width:100%}
-path{vector-effect:non-scaling-stroke}
+path{stroke:var(--first);stroke-width:4px;vector-effect:non-scaling-stroke}
+rect{height:10px}
 .loads{border-top:2px solid var(--refusal);height:4em}
 nav .loads{border-top-width:1px;height:1.4em}
-.load{fill:var(--load)}
+.load{fill:var(--load);stroke:none}
 .f1{background:var(--f1);fill:var(--f1)}
 .f2{background:var(--f2);fill:var(--f2)}
 .f3{background:var(--f3);fill:var(--f3)}
 .f4{background:var(--f4);fill:var(--f4)}
 .f5{background:var(--f5);fill:var(--f5)}
-.f1.many,.f2.many{fill:var(--f3)}
-.whole{stroke:var(--mark)}
+.whole{stroke:var(--mark);stroke-width:1px}
 .f5~.whole{stroke:var(--pale)}
-.shown{stroke:var(--first);stroke-width:4px}
 .pace b{display:inline-block;height:.8em;margin:0 .3em 0 .6em;width:1.6em}
-.refusal{stroke:var(--refusal);stroke-width:4px}
+.refusal{stroke:var(--refusal)}
 .line .axis{color:var(--faint);display:block;font-size:.85em;height:3.2em;overflow:visible;position:relative}
 .axis span{left:var(--at);padding-top:.3em;position:absolute;text-align:center;transform:translateX(calc(-1*var(--at)))}
 .axis span::before{border-left:1px solid;content:"";height:.4em;left:var(--at);position:absolute;top:0}
@@ -92,43 +98,24 @@ svg{border:1px solid var(--faint);print-color-adjust:exact;-webkit-print-color-a
 </style>
 </head>
 <body>
-<h1>Warnings by cell</h1>
-<p>A run of "#;
+<h1>"#;
 
-/// What comes after the number of slots.
-pub const SLOTS: &str = " slots of 1.883 s, ";
-
-/// What comes after it if it is one.
-pub const SLOT: &str = " slot of 1.883 s, ";
+/// What comes after the heading, up to the number of slots.
+pub const HEADING_END: &str = "</h1>\n<p>";
 
 /// What comes after their time.
 pub const RUN_END: &str = " (h:mm:ss).";
 
-/// What comes before the first slot of the part that is drawn.
-pub const PART: &str = " Drawn from slot ";
-
-/// What comes before the slot after its last one.
-pub const PART_TO: &str = " to slot ";
-
 /// What comes after it.
-pub const PART_END: &str = ", with all marks.";
-
-/// What the reader of the page is told then.
-pub const INTRODUCTION: &str = r#"</p>
-<p class="pace">A message is sent every <b class="f5"></b>15 s <b class="f4"></b>30 s <b class="f3"></b>minute
-<b class="f2"></b>2 minutes <b class="f1"></b>or less often</p>
-<p>A bar is a message from its start to its end, with a mark wherever a broadcast of it is whole, or with their number
-if there are over 400. At the short thick mark a phone shows it first. A red mark is a refused order. Below is the load
-that the cell has reserved: at the red edge it is full.</p>
-"#;
+pub const PART_END: &str = ".";
 
 /// The end of the page.
 pub const FOOT: &str = "</body>\n</html>\n";
 
-/// The front of a group of a network, up to its number.
-pub const GROUP: &str = "<details>\n<summary><h2>Group ";
+/// The front of a group of a network, up to its name.
+pub const GROUP: &str = "<details>\n<summary><h2>";
 
-/// What comes after a group's number.
+/// What comes after its number.
 pub const GROUP_NAME_END: &str = "</h2></summary>\n";
 
 /// The end of a group.
@@ -158,7 +145,7 @@ fn add_if_wanted(
     ensures faults { IfErr result (λ fault. fault ≢ ReportFault.WriteFailed) }
 {
     if is_wanted(view.cell, run.cell()) {
-        let panel = match panel_of(alloc, view.part, run, reading) {
+        let panel = match panel_of(alloc, view.language, view.part, run, reading) {
             Ok(panel) => panel,
             Err(fault) => return Err(fault),
         };
@@ -210,62 +197,69 @@ fn push_sections(
     ensures faults { IfErr result (λ fault. fault ≢ ReportFault.WriteFailed) }
 {
     let panels = panels_of(alloc, view, records, readings)?;
-    push_all(alloc, page, &panels)?;
+    push_all(alloc, page, view.language, &panels)?;
     Ok(())
 }
 
 /// Appends the head of the page.
 #[tactic(auto, unfolding(crate::specs::ChartText::head))]
-fn push_head(page: &mut Page) -> Result<(), AllocError>
-    ensures { OnOk result (page.new ≡ page.old ++ head) }
+fn push_head(page: &mut Page, language: Language) -> Result<(), AllocError>
+    ensures { OnOk result (page.new ≡ page.old ++ head language) }
 {
-    page.markup(HEAD)
+    page.markup(HEAD)?;
+    page.word(language, Word::Code)?;
+    page.markup(HEAD_LANGUAGE_END)?;
+    page.word(language, Word::Title)?;
+    page.markup(HEAD_TITLE_END)?;
+    page.word(language, Word::Title)?;
+    page.markup(HEADING_END)
 }
 
 /// Appends what the reader of the page is told first.
 #[tactic(auto, unfolding(crate::specs::ChartText::introduction))]
-fn push_introduction(page: &mut Page) -> Result<(), AllocError>
-    ensures { OnOk result (page.new ≡ page.old ++ introduction) }
+fn push_introduction(page: &mut Page, language: Language) -> Result<(), AllocError>
+    ensures { OnOk result (page.new ≡ page.old ++ introduction language) }
 {
-    page.markup(INTRODUCTION)
+    page.word(language, Word::Introduction)
 }
 
 /// What comes after so many slots.
-fn slots_words(slots: u16) -> &'static str
-    ensures { result.now ≡ slots_words slots }
+fn slots_word(slots: u16) -> Word
+    ensures { result ≡ slots_word slots }
 {
-    if slots == 1 { SLOT } else { SLOTS }
+    if slots == 1 { Word::Slot } else { Word::Slots }
 }
 
 /// Appends how long the runs are.
 #[tactic(auto, unfolding(crate::specs::ChartText::run_text))]
-fn push_run(page: &mut Page, slots: u16) -> Result<(), AllocError>
-    ensures { OnOk result (page.new ≡ page.old ++ run_text slots) }
+fn push_run(page: &mut Page, language: Language, slots: u16) -> Result<(), AllocError>
+    ensures { OnOk result (page.new ≡ page.old ++ run_text language slots) }
 {
+    page.word(language, Word::Run)?;
     page.number(u64::from(slots))?;
-    page.markup(slots_words(slots))?;
+    page.word(language, slots_word(slots))?;
     push_time(page, u32::from(slots))?;
     page.markup(RUN_END)
 }
 
 /// Appends which slots are drawn.
 #[tactic(auto, unfolding(crate::specs::ChartText::stretch_text))]
-fn push_stretch(page: &mut Page, stretch: Stretch) -> Result<(), AllocError>
-    ensures { OnOk result (page.new ≡ page.old ++ stretch_text stretch) }
+fn push_stretch(page: &mut Page, language: Language, stretch: Stretch) -> Result<(), AllocError>
+    ensures { OnOk result (page.new ≡ page.old ++ stretch_text language stretch) }
 {
-    page.markup(PART)?;
+    page.word(language, Word::Part)?;
     push_slot(page, u32::from(stretch.from))?;
-    page.markup(PART_TO)?;
+    page.word(language, Word::PartTo)?;
     push_slot(page, u32::from(stretch.to))?;
     page.markup(PART_END)
 }
 
 /// Appends which part is drawn, if it isn't all.
-fn push_part(page: &mut Page, stretch: Stretch) -> Result<(), AllocError>
-    ensures { OnOk result (page.new ≡ page.old ++ part_text stretch) }
+fn push_part(page: &mut Page, language: Language, stretch: Stretch) -> Result<(), AllocError>
+    ensures { OnOk result (page.new ≡ page.old ++ part_text language stretch) }
 {
     if stretch.is_part {
-        push_stretch(page, stretch)
+        push_stretch(page, language, stretch)
     } else {
         Ok(())
     }
@@ -273,13 +267,18 @@ fn push_part(page: &mut Page, stretch: Stretch) -> Result<(), AllocError>
 
 /// Appends the front of the page.
 #[tactic(auto, unfolding(crate::specs::ChartText::chart_front))]
-fn push_front(page: &mut Page, slots: u16, part: Option<Part>) -> Result<(), AllocError>
-    ensures { OnOk result (page.new ≡ page.old ++ chart_front slots part) }
+fn push_front(
+    page: &mut Page,
+    language: Language,
+    slots: u16,
+    part: Option<Part>,
+) -> Result<(), AllocError>
+    ensures { OnOk result (page.new ≡ page.old ++ chart_front language slots part) }
 {
-    push_head(page)?;
-    push_run(page, slots)?;
-    push_part(page, stretch_of(part, slots))?;
-    push_introduction(page)
+    push_head(page, language)?;
+    push_run(page, language, slots)?;
+    push_part(page, language, stretch_of(part, slots))?;
+    push_introduction(page, language)
 }
 
 /// The page of a chart.
@@ -298,7 +297,7 @@ fn page_of(
         return Err(ReportFault::Cells);
     }
     let mut page = Page::new(alloc);
-    push_front(&mut page, slots, view.part)?;
+    push_front(&mut page, view.language, slots, view.part)?;
     push_sections(alloc, &mut page, view, records, readings)?;
     page.markup(FOOT)?;
     Ok(page)
@@ -327,23 +326,29 @@ pub fn chart_octets(
 }
 
 /// Appends the sections of a group under its number, if there are any.
-fn push_folded(page: &mut Page, group: u16, sections: &Page) -> Result<(), AllocError>
-    ensures { OnOk result (page.new ≡ page.old ++ folded group sections.now) }
+fn push_folded(
+    page: &mut Page,
+    language: Language,
+    group: u16,
+    sections: &Page,
+) -> Result<(), AllocError>
+    ensures { OnOk result (page.new ≡ page.old ++ folded language group sections.now) }
 {
     if sections.octets().is_empty() {
         return Ok(());
     }
-    push_group(page, group)?;
+    push_group(page, language, group)?;
     page.page(sections)?;
     page.markup(GROUP_FOOT)
 }
 
 /// Appends the front of a group.
 #[tactic(auto, unfolding(crate::specs::ChartText::group_front))]
-fn push_group(page: &mut Page, group: u16) -> Result<(), AllocError>
-    ensures { OnOk result (page.new ≡ page.old ++ group_front group) }
+fn push_group(page: &mut Page, language: Language, group: u16) -> Result<(), AllocError>
+    ensures { OnOk result (page.new ≡ page.old ++ group_front language group) }
 {
     page.markup(GROUP)?;
+    page.word(language, Word::Group)?;
     page.number(u64::from(group))?;
     page.markup(GROUP_NAME_END)
 }
@@ -351,14 +356,15 @@ fn push_group(page: &mut Page, group: u16) -> Result<(), AllocError>
 /// Appends the front of the page, if the group is the first.
 fn push_front_if_first(
     page: &mut Page,
+    language: Language,
     slots: u16,
     group: u16,
     part: Option<Part>,
 ) -> Result<(), AllocError>
-    ensures { OnOk result (page.new ≡ page.old ++ front_if_first slots group part) }
+    ensures { OnOk result (page.new ≡ page.old ++ front_if_first language slots group part) }
 {
     if group == 0 {
-        push_front(page, slots, part)?;
+        push_front(page, language, slots, part)?;
     }
     Ok(())
 }
@@ -397,8 +403,8 @@ pub fn part_octets(
     let mut sections = Page::new(alloc);
     push_sections(alloc, &mut sections, view, records, readings)?;
     let mut page = Page::new(alloc);
-    push_front_if_first(&mut page, slots, group, view.part)?;
-    push_folded(&mut page, group, &sections)?;
+    push_front_if_first(&mut page, view.language, slots, group, view.part)?;
+    push_folded(&mut page, view.language, group, &sections)?;
     push_foot_if(&mut page, is_last)?;
     Ok(page.into_octets())
 }
@@ -406,7 +412,7 @@ pub fn part_octets(
 /// Writes the chart of a run of `slots` slots: a page in HTML that stands alone, with a section for each cell, or for
 /// the wanted one alone: by its record and what a handset read of its blocks a line for each row of its report, in
 /// order, and the loads that it had reserved at each slot. Of a part of the run those rows have a line that touch it,
-/// bars and loads are cut to it, and a message has all of its marks. Nothing is written before all of it is made.
+/// bars, marks and loads are cut to it. Nothing is written before all of it is made.
 ///
 /// # Errors
 ///

@@ -8,21 +8,10 @@ ghost use Rattle.chart.specs.Facts.{facts_of, facts_text, fullest_text, hundredt
 
 use crate::page::Page;
 use crate::time::push_time;
+use crate::word::{Language, Word};
 use admission::SCALE;
 use report::{Row, Showing};
 use std::alloc::AllocError;
-
-/// What comes before the number of messages.
-pub const MESSAGES: &str = "messages: ";
-
-/// What comes before the number of refused orders.
-pub const REFUSED: &str = ", refused: ";
-
-/// What comes before how full the cell gets.
-pub const FULLEST: &str = ", fullest: ";
-
-/// Between the share of the cell and when it is taken.
-pub const SHARE_END: &str = " % at ";
 
 /// What counts of a cell.
 #[derive(Clone, Copy, Debug, PartialEq, Eq)]
@@ -110,25 +99,33 @@ pub(crate) fn hundredths(load: u64) -> u64
 
 /// Appends how full a cell gets, and when.
 #[tactic(auto, unfolding(crate::specs::Facts::fullest_text))]
-pub(crate) fn push_fullest(page: &mut Page, facts: Facts) -> Result<(), AllocError>
+pub(crate) fn push_fullest(
+    page: &mut Page,
+    language: Language,
+    facts: Facts,
+) -> Result<(), AllocError>
     requires { facts.most ≤ SCALE }
-    ensures { OnOk result (page.new ≡ page.old ++ fullest_text facts) }
+    ensures { OnOk result (page.new ≡ page.old ++ fullest_text language facts) }
 {
     page.number(hundredths(facts.most))?;
-    page.markup(SHARE_END)?;
+    page.word(language, Word::ShareAt)?;
     push_time(page, u32::from(facts.slot))
 }
 
 /// Appends what counts of a cell.
 #[tactic(auto, unfolding(crate::specs::Facts::facts_text))]
-pub(crate) fn push_facts(page: &mut Page, facts: Facts) -> Result<(), AllocError>
+pub(crate) fn push_facts(
+    page: &mut Page,
+    language: Language,
+    facts: Facts,
+) -> Result<(), AllocError>
     requires { facts.most ≤ SCALE }
-    ensures { OnOk result (page.new ≡ page.old ++ facts_text facts) }
+    ensures { OnOk result (page.new ≡ page.old ++ facts_text language facts) }
 {
-    page.markup(MESSAGES)?;
+    page.word(language, Word::Messages)?;
     page.number(facts.messages as u64)?;
-    page.markup(REFUSED)?;
+    page.word(language, Word::Refused)?;
     page.number(facts.refused as u64)?;
-    page.markup(FULLEST)?;
-    push_fullest(page, facts)
+    page.word(language, Word::Fullest)?;
+    push_fullest(page, language, facts)
 }

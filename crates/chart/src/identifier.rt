@@ -1,14 +1,14 @@
 //! What message identifiers mean.
 
 ghost use Rattle.std.specs.Prelude.{◌≡◌, ◌++◌, OnOk};
-ghost use Rattle.chart.specs.Identifier.{bracketed, identifier_meaning, is_additional, kind_of, kind_words};
+ghost use Rattle.chart.specs.Identifier.{bracketed, identifier_meaning, is_additional, kind_in, kind_of};
 ghost use Rattle.chart.specs.Identifier.{language_words, meaning_text};
 
+use crate::english::english_kind;
+use crate::german::german_kind;
 use crate::page::Page;
+use crate::word::{Language, Word, word_in};
 use std::alloc::AllocError;
-
-/// What is said after the words of an identifier of an additional language.
-pub const ADDITIONAL: &str = ", in an additional language";
 
 /// What comes before the words.
 pub const MEANING: &str = " (";
@@ -16,33 +16,13 @@ pub const MEANING: &str = " (";
 /// What comes after them.
 pub const MEANING_END: &str = ")";
 
-/// The warning that an identifier of the first language means (3GPP TS 23.041, clause 9.4.1.2.2), with its level of
-/// EU-Alert (ETSI TS 102 900); nothing of another number.
-fn kind_words(id: u16) -> &'static str
-    ensures { result.now ≡ kind_words id }
+/// The warning that an identifier of the first language means, in words; nothing of another number.
+fn kind_in(language: Language, id: u16) -> &'static str
+    ensures { result.now ≡ kind_in language id }
 {
-    match id {
-        4352 => "ETWS: earthquake",
-        4353 => "ETWS: tsunami",
-        4354 => "ETWS: earthquake and tsunami",
-        4355 => "ETWS: test",
-        4356 => "ETWS: other",
-        4370 => "EU-Alert level 1: presidential",
-        4371 => "Level 2: extreme, immediate, observed",
-        4372 => "Level 2: extreme, immediate, likely",
-        4373 => "Level 3: extreme, expected, observed",
-        4374 => "Level 3: extreme, expected, likely",
-        4375 => "Level 3: severe, immediate, observed",
-        4376 => "Level 3: severe, immediate, likely",
-        4377 => "Level 3: severe, expected, observed",
-        4378 => "Level 3: severe, expected, likely",
-        4379 => "Child abduction: EU-Amber",
-        4380 => "Test: monthly",
-        4381 => "Exercise",
-        4382 => "Operator's own use",
-        4396 => "Level 4: public safety, EU-Info",
-        4398 => "Test: state or local",
-        _ => "",
+    match language {
+        Language::English => english_kind(id),
+        Language::German => german_kind(id),
     }
 }
 
@@ -66,38 +46,42 @@ fn is_additional(id: u16) -> bool
 }
 
 /// What is said of an additional language.
-fn language_words(is_additional: bool) -> &'static str
-    ensures { result.now ≡ language_words is_additional }
+fn language_words(language: Language, is_additional: bool) -> &'static str
+    ensures { result.now ≡ language_words language is_additional }
 {
-    if is_additional { ADDITIONAL } else { "" }
+    if is_additional {
+        word_in(language, Word::Additional)
+    } else {
+        ""
+    }
 }
 
 /// Appends what an identifier means.
 #[tactic(auto, unfolding(crate::specs::Identifier::identifier_meaning))]
-fn push_identifier_meaning(page: &mut Page, id: u16) -> Result<(), AllocError>
-    ensures { OnOk result (page.new ≡ page.old ++ identifier_meaning id) }
+fn push_identifier_meaning(page: &mut Page, language: Language, id: u16) -> Result<(), AllocError>
+    ensures { OnOk result (page.new ≡ page.old ++ identifier_meaning language id) }
 {
-    page.markup(kind_words(kind_of(id)))?;
-    page.markup(language_words(is_additional(id)))
+    page.markup(kind_in(language, kind_of(id)))?;
+    page.markup(language_words(language, is_additional(id)))
 }
 
 /// Appends the same in brackets.
 #[tactic(auto, unfolding(crate::specs::Identifier::bracketed))]
-fn push_bracketed(page: &mut Page, id: u16) -> Result<(), AllocError>
-    ensures { OnOk result (page.new ≡ page.old ++ bracketed id) }
+fn push_bracketed(page: &mut Page, language: Language, id: u16) -> Result<(), AllocError>
+    ensures { OnOk result (page.new ≡ page.old ++ bracketed language id) }
 {
     page.markup(MEANING)?;
-    push_identifier_meaning(page, id)?;
+    push_identifier_meaning(page, language, id)?;
     page.markup(MEANING_END)
 }
 
 /// Appends what an identifier means in brackets, if it means something.
 #[tactic(auto, unfolding(crate::specs::Identifier::meaning_text))]
-pub(crate) fn push_meaning(page: &mut Page, id: u16) -> Result<(), AllocError>
-    ensures { OnOk result (page.new ≡ page.old ++ meaning_text id) }
+pub(crate) fn push_meaning(page: &mut Page, language: Language, id: u16) -> Result<(), AllocError>
+    ensures { OnOk result (page.new ≡ page.old ++ meaning_text language id) }
 {
-    if kind_words(kind_of(id)).is_empty() {
+    if kind_in(language, kind_of(id)).is_empty() {
         return Ok(());
     }
-    push_bracketed(page, id)
+    push_bracketed(page, language, id)
 }

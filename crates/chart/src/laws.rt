@@ -11,10 +11,11 @@ pub fn chart_laws()
     // No text begins or ends a tag, or the value of an attribute.
     ensures escaped { EscapedIsPlain }
 
-    // A message has as many marks as broadcasts of it were completed, and none if these are over 400.
+    // A message has as many marks as broadcasts of it were completed, or their number in place of marks, exactly if
+    // these are over 400 or its period is less than 4 px of 1,280.
     ensures marks { MarksAreCompleted }
 
-    // In a part of the run it has as many as broadcasts of it were completed in that.
+    // In a part of the run the same goes for those that were completed in that.
     ensures parts { MarksOfPartsAreCompleted }
 
     // The picture of the loads is as high as a full cell, and in proportion.

@@ -5,14 +5,16 @@
 //! [`fullest_of`] says how full a cell gets, for other tables.
 //! `specs/ChartText.antt` says which octets: of each cell the lines are those of the rows of its report, in order, and
 //! every text of a message goes through `specs/Escape.antt`. Cells that look the same have one section
-//! (`specs/Panels.antt`).
+//! (`specs/Panels.antt`). All words are in tables, one for each language (`specs/Words.antt`).
 #![tactic(auto)]
 
 pub mod cause;
 pub mod cell;
 pub mod chart;
+pub mod english;
 pub mod facts;
 pub mod fullest;
+pub mod german;
 pub mod identifier;
 mod kept;
 mod laws;
@@ -24,8 +26,10 @@ pub mod panel;
 pub mod section;
 pub mod time;
 pub mod view;
+pub mod word;
 
 pub use chart::{chart_octets, part_octets, write_chart};
 pub use fullest::{Fullest, fullest_of};
 pub use laws::chart_laws;
 pub use view::{Part, View};
+pub use word::Language;

@@ -7,9 +7,10 @@ ghost use Rattle.chart.specs.Message.{text_asked, text_shown};
 ghost use Rattle.chart.specs.Kept.{accepted_kept};
 ghost use Rattle.std.specs.Option.{option_map};
 ghost use Rattle.handset.specs.Keeping.{messages_shown};
-ghost use Rattle.chart.specs.ChartText.{bar, bar_front, first_text, line_of, many_class, many_text, message_end};
-ghost use Rattle.chart.specs.ChartText.{message_front, message_line, message_name, message_title, name_text};
-ghost use Rattle.chart.specs.ChartText.{number_text, picture_front, picture_size, refusal_front, refusal_line};
+ghost use Rattle.chart.specs.ChartText.{bar, bar_front, first_text, line_of, message_end, message_front, message_line};
+ghost use Rattle.chart.specs.ChartText.{message_name, message_title, name_text, not_shown_text, number_if, number_text};
+ghost use Rattle.chart.specs.ChartText.{number_word};
+ghost use Rattle.chart.specs.ChartText.{picture_front, picture_size, refusal_front, refusal_line};
 ghost use Rattle.chart.specs.ChartText.{refusal_picture};
 ghost use Rattle.chart.specs.ChartText.{every_text, refusal_title, shown_after, slots_text, standing_text, unseen_text};
 
@@ -17,12 +18,13 @@ use crate::cause::push_cause;
 use crate::identifier::push_meaning;
 use crate::kept::{KeptMessage, named};
 use crate::message::{
-    are_many, category_words, pace, period_of, push_drawn_marks, push_first_mark, text_asked,
+    category_words, number_instead, pace, period_of, push_drawn_marks, push_first_mark, text_asked,
     text_shown,
 };
 use crate::page::Page;
 use crate::time::{push_slot, push_time_in_brackets};
 use crate::view::Stretch;
+use crate::word::{Language, Word};
 use bsc_table::CellRecord;
 use handset::Shown;
 use report::{Row, Showing};
@@ -40,14 +42,11 @@ pub const NAME_END: &str = "</b> <i>";
 /// What comes after its category.
 pub const CATEGORY_END: &str = "</i> ";
 
-/// What comes before the number of its whole broadcasts, where they are too many for marks.
-pub const NUMBER: &str = "<small>";
+/// What comes before what is said in small.
+pub const SMALL: &str = "<small>";
 
-/// What comes after that number.
-pub const NUMBER_END: &str = " broadcasts</small> ";
-
-/// What is said of one that no phone shows.
-pub const UNSEEN: &str = "<small>not shown:</small> ";
+/// What comes after it.
+pub const SMALL_END: &str = "</small> ";
 
 /// What comes before its text.
 pub const TEXT: &str = "<bdi>";
@@ -56,7 +55,7 @@ pub const TEXT: &str = "<bdi>";
 pub const TEXT_END: &str = "</bdi></p>\n";
 
 /// What comes after the name of a refused order.
-pub const REFUSED: &str = "</b> <span class=\"cause\">refused: ";
+pub const CAUSE: &str = "</b> <span class=\"cause\">";
 
 /// What comes after its cause.
 pub const CAUSE_END: &str = "</span></p>\n";
@@ -68,61 +67,25 @@ pub const PICTURE: &str = "<svg viewBox=\"";
 pub const ORIGIN: &str = " 0 ";
 
 /// What comes before its title.
-pub const TITLE: &str = " 10\" preserveAspectRatio=\"none\" role=\"img\"><title>";
+pub const TITLE: &str = " 10\" preserveAspectRatio=\"none\"><title>";
 
-/// What comes before a message's start.
-pub const FROM: &str = ": from slot ";
-
-/// What comes before its end.
-pub const TO: &str = " to slot ";
-
-/// What comes before its period.
-pub const EVERY: &str = ", every ";
-
-/// What comes after its period.
-pub const SLOTS: &str = " slots";
-
-/// What stands in place of a period of one slot.
-pub const EVERY_SLOT: &str = ", every slot";
-
-/// What comes before the number of its whole broadcasts.
-pub const WHOLE: &str = ", whole broadcasts: ";
-
-/// What comes before the slot after which a phone shows it first.
-pub const SHOWN: &str = ", first shown after slot ";
-
-/// What stands there if none shows it.
-pub const NOT_SHOWN: &str = ", not shown";
-
-/// What comes before all of its text.
-pub const ALL_TEXT: &str = "\n";
-
-/// The front of the bar, up to its classes.
-pub const BAR: &str = "</title>\n<rect class=\"bar";
-
-/// Its class where the broadcasts are too many for marks.
-pub const MANY: &str = " many";
+/// The front of the bar, up to its class.
+pub const BAR: &str = "</title>\n<rect class=\"";
 
 /// What comes before its start.
-pub const BAR_START: &str = "\" height=\"10\" x=\"";
+pub const BAR_START: &str = "\" x=\"";
 
 /// What comes before its width.
 pub const WIDTH: &str = "\" width=\"";
 
-/// What comes after the bar, up to the marks.
-pub const BAR_END: &str = "\"/>\n<path class=\"whole\" d=\"";
+/// What comes after the bar.
+pub const BAR_END: &str = "\"/>\n";
 
-/// What comes after the marks, up to the one where a phone shows the message first.
-pub const MARKS_END: &str = "\"/>\n<path class=\"shown\" d=\"";
+/// What comes before the mark where a phone shows the message first.
+pub const SHOWN_MARK: &str = "<path d=\"";
 
 /// The end of a line.
 pub const LINE_END: &str = "\"/></svg></div>\n";
-
-/// What comes before the slot of a refusal.
-pub const REFUSED_AT: &str = ": refused at slot ";
-
-/// What comes before its cause.
-pub const COLON: &str = ": ";
 
 /// The front of its mark, up to the slot.
 pub const REFUSAL: &str = "</title>\n<path class=\"refusal\" d=\"M";
@@ -153,97 +116,90 @@ fn push_picture_size(page: &mut Page, stretch: Stretch) -> Result<(), AllocError
 
 /// Appends the front of a row's picture, up to its name in the title and what its identifier means.
 #[tactic(auto, unfolding(crate::specs::ChartText::picture_front))]
-fn push_picture_front(page: &mut Page, stretch: Stretch, row: &Row) -> Result<(), AllocError>
-    ensures { OnOk result (page.new ≡ page.old ++ picture_front stretch row.now) }
+fn push_picture_front(
+    page: &mut Page,
+    language: Language,
+    stretch: Stretch,
+    row: &Row,
+) -> Result<(), AllocError>
+    ensures { OnOk result (page.new ≡ page.old ++ picture_front language stretch row.now) }
 {
     push_picture_size(page, stretch)?;
     page.markup(TITLE)?;
     push_name(page, row)?;
-    push_meaning(page, row.id)
+    push_meaning(page, language, row.id)
 }
 
 /// Appends a period in slots.
 #[tactic(auto, unfolding(crate::specs::ChartText::slots_text))]
-fn push_slots(page: &mut Page, period: u16) -> Result<(), AllocError>
-    ensures { OnOk result (page.new ≡ page.old ++ slots_text period) }
+fn push_slots(page: &mut Page, language: Language, period: u16) -> Result<(), AllocError>
+    ensures { OnOk result (page.new ≡ page.old ++ slots_text language period) }
 {
-    page.markup(EVERY)?;
-    page.number(u64::from(period))?;
-    page.markup(SLOTS)
+    page.word(language, Word::Every)?;
+    page.number(u64::from(period))
 }
 
 /// Appends a period in words.
-fn push_every(page: &mut Page, period: u16) -> Result<(), AllocError>
-    ensures { OnOk result (page.new ≡ page.old ++ every_text period) }
+fn push_every(page: &mut Page, language: Language, period: u16) -> Result<(), AllocError>
+    ensures { OnOk result (page.new ≡ page.old ++ every_text language period) }
 {
     if period == 1 {
-        page.markup(EVERY_SLOT)
+        page.word(language, Word::EverySlot)
     } else {
-        push_slots(page, period)
+        push_slots(page, language, period)
     }
 }
 
 /// Appends from when to when an accepted message stands, and how often it is to be sent.
 #[tactic(auto, unfolding(crate::specs::ChartText::standing_text))]
-fn push_standing(page: &mut Page, row: &Row) -> Result<(), AllocError>
-    ensures { OnOk result (page.new ≡ page.old ++ standing_text row.now) }
+fn push_standing(page: &mut Page, language: Language, row: &Row) -> Result<(), AllocError>
+    ensures { OnOk result (page.new ≡ page.old ++ standing_text language row.now) }
 {
-    page.markup(FROM)?;
+    page.word(language, Word::From)?;
     push_slot(page, row.start)?;
-    page.markup(TO)?;
+    page.word(language, Word::To)?;
     push_slot(page, u32::from(row.end))?;
-    push_every(page, period_of(row.demand))
+    push_every(page, language, period_of(row.demand))
 }
 
 /// Appends after which slot a phone shows a message first, or that none does.
-fn push_first(page: &mut Page, first: Option<u16>) -> Result<(), AllocError>
-    ensures { OnOk result (page.new ≡ page.old ++ first_text first) }
+fn push_first(page: &mut Page, language: Language, first: Option<u16>) -> Result<(), AllocError>
+    ensures { OnOk result (page.new ≡ page.old ++ first_text language first) }
 {
     match first {
-        None => page.markup(NOT_SHOWN),
-        Some(slot) => push_shown_after(page, slot),
+        None => page.word(language, Word::NotShown),
+        Some(slot) => push_shown_after(page, language, slot),
     }
 }
 
 /// Appends the slot after which a phone shows a message first, and when it is over.
 #[tactic(auto, unfolding(crate::specs::ChartText::shown_after))]
-fn push_shown_after(page: &mut Page, slot: u16) -> Result<(), AllocError>
-    ensures { OnOk result (page.new ≡ page.old ++ shown_after slot) }
+fn push_shown_after(page: &mut Page, language: Language, slot: u16) -> Result<(), AllocError>
+    ensures { OnOk result (page.new ≡ page.old ++ shown_after language slot) }
 {
-    page.markup(SHOWN)?;
+    page.word(language, Word::Shown)?;
     page.number(u64::from(slot))?;
     push_time_in_brackets(page, u32::from(slot) + 1)
 }
 
-/// Appends what the title says of an accepted message after its name. The text comes last, since browsers cut long
-/// titles.
+/// Appends what the title says of an accepted message after its name.
 #[tactic(auto, unfolding(crate::specs::ChartText::message_title))]
-fn push_message_title(page: &mut Page, row: &Row, all_text: &str) -> Result<(), AllocError>
-    ensures { OnOk result (page.new ≡ page.old ++ message_title row.now all_text.now) }
+fn push_message_title(page: &mut Page, language: Language, row: &Row) -> Result<(), AllocError>
+    ensures { OnOk result (page.new ≡ page.old ++ message_title language row.now) }
 {
-    push_standing(page, row)?;
-    page.markup(WHOLE)?;
+    push_standing(page, language, row)?;
+    page.word(language, Word::Whole)?;
     page.number(u64::from(row.completed))?;
-    push_first(page, row.first_shown)?;
-    page.markup(ALL_TEXT)?;
-    page.text(all_text)
-}
-
-/// The class of a bar of which this many broadcasts are whole, where they are too many for marks.
-fn many_class(stretch: Stretch, whole: u16) -> &'static str
-    ensures { result.now ≡ many_class stretch whole }
-{
-    if are_many(stretch, whole) { MANY } else { "" }
+    push_first(page, language, row.first_shown)
 }
 
 /// Appends the front of the bar of an accepted message, up to its start.
 #[tactic(auto, unfolding(crate::specs::ChartText::bar_front))]
-fn push_bar_front(page: &mut Page, stretch: Stretch, row: &Row) -> Result<(), AllocError>
-    ensures { OnOk result (page.new ≡ page.old ++ bar_front stretch row.now) }
+fn push_bar_front(page: &mut Page, row: &Row) -> Result<(), AllocError>
+    ensures { OnOk result (page.new ≡ page.old ++ bar_front row.now) }
 {
     page.markup(BAR)?;
     page.markup(pace(row))?;
-    page.markup(many_class(stretch, row.completed))?;
     page.markup(BAR_START)
 }
 
@@ -252,7 +208,7 @@ fn push_bar_front(page: &mut Page, stretch: Stretch, row: &Row) -> Result<(), Al
 fn push_bar(page: &mut Page, stretch: Stretch, row: &Row) -> Result<(), AllocError>
     ensures { OnOk result (page.new ≡ page.old ++ bar stretch row.now) }
 {
-    push_bar_front(page, stretch, row)?;
+    push_bar_front(page, row)?;
     page.number(u64::from(stretch.bar_from(row)))?;
     page.markup(WIDTH)?;
     page.number(u64::from(stretch.bar_width(row)))?;
@@ -263,46 +219,73 @@ fn push_bar(page: &mut Page, stretch: Stretch, row: &Row) -> Result<(), AllocErr
 #[tactic(auto, unfolding(crate::specs::ChartText::message_name))]
 fn push_message_name(
     page: &mut Page,
+    language: Language,
     row: &Row,
     found: Option<KeptMessage>,
 ) -> Result<(), AllocError>
-    ensures { OnOk result (page.new ≡ page.old ++ message_name row.now (option_map accepted_kept found)) }
+    ensures { OnOk result (page.new
+        ≡ page.old ++ message_name language row.now (option_map accepted_kept found)) }
 {
     page.markup(LINE)?;
     push_name(page, row)?;
     page.markup(NAME_END)?;
-    page.markup(category_words(found))?;
+    page.markup(category_words(language, found))?;
     page.markup(CATEGORY_END)
+}
+
+/// What comes after a number of whole broadcasts.
+fn number_word(whole: usize) -> Word
+    ensures { result ≡ number_word whole }
+{
+    if whole == 1 {
+        Word::Broadcast
+    } else {
+        Word::Broadcasts
+    }
 }
 
 /// Appends the number of a message's whole broadcasts in words.
 #[tactic(auto, unfolding(crate::specs::ChartText::number_text))]
-fn push_number(page: &mut Page, whole: u16) -> Result<(), AllocError>
-    ensures { OnOk result (page.new ≡ page.old ++ number_text whole) }
+fn push_number(page: &mut Page, language: Language, whole: usize) -> Result<(), AllocError>
+    ensures { OnOk result (page.new ≡ page.old ++ number_text language whole) }
 {
-    page.markup(NUMBER)?;
-    page.number(u64::from(whole))?;
-    page.markup(NUMBER_END)
+    page.markup(SMALL)?;
+    page.number(whole as u64)?;
+    page.word(language, number_word(whole))?;
+    page.markup(SMALL_END)
 }
 
-/// Appends it, where they are too many for marks.
-fn push_many(page: &mut Page, stretch: Stretch, whole: u16) -> Result<(), AllocError>
-    ensures { OnOk result (page.new ≡ page.old ++ many_text stretch whole) }
+/// Appends it, where it stands in place of marks.
+fn push_number_if(
+    page: &mut Page,
+    language: Language,
+    number: Option<usize>,
+) -> Result<(), AllocError>
+    ensures { OnOk result (page.new ≡ page.old ++ number_if language number) }
 {
-    if are_many(stretch, whole) {
-        push_number(page, whole)
-    } else {
-        Ok(())
+    match number {
+        None => Ok(()),
+        Some(whole) => push_number(page, language, whole),
     }
 }
 
-/// What is said of an accepted message that no phone shows.
-fn unseen_text(shown: Showing) -> &'static str
-    ensures { result.now ≡ unseen_text shown }
+/// Appends that no phone shows a message.
+#[tactic(auto, unfolding(crate::specs::ChartText::not_shown_text))]
+fn push_not_shown(page: &mut Page, language: Language) -> Result<(), AllocError>
+    ensures { OnOk result (page.new ≡ page.old ++ not_shown_text language) }
+{
+    page.markup(SMALL)?;
+    page.word(language, Word::Unseen)?;
+    page.markup(SMALL_END)
+}
+
+/// Appends it of an accepted message that none shows.
+fn push_unseen(page: &mut Page, language: Language, shown: Showing) -> Result<(), AllocError>
+    ensures { OnOk result (page.new ≡ page.old ++ unseen_text language shown) }
 {
     match shown {
-        Showing::No => UNSEEN,
-        Showing::Yes | Showing::Refused(_) => "",
+        Showing::No => push_not_shown(page, language),
+        Showing::Yes | Showing::Refused(_) => Ok(()),
     }
 }
 
@@ -310,17 +293,18 @@ fn unseen_text(shown: Showing) -> &'static str
 #[tactic(auto, unfolding(crate::specs::ChartText::message_front))]
 fn push_message_front(
     page: &mut Page,
-    stretch: Stretch,
+    language: Language,
     row: &Row,
     found: Option<KeptMessage>,
+    number: Option<usize>,
     text: &str,
 ) -> Result<(), AllocError>
     ensures { OnOk result (page.new ≡ page.old
-        ++ message_front stretch row.now (option_map accepted_kept found) text.now) }
+        ++ message_front language row.now (option_map accepted_kept found) number text.now) }
 {
-    push_message_name(page, row, found)?;
-    push_many(page, stretch, row.completed)?;
-    page.markup(unseen_text(row.shown))?;
+    push_message_name(page, language, row, found)?;
+    push_number_if(page, language, number)?;
+    push_unseen(page, language, row.shown)?;
     page.markup(TEXT)?;
     page.text(text)?;
     page.markup(TEXT_END)
@@ -331,56 +315,61 @@ fn push_message_front(
 fn push_message_end(page: &mut Page, stretch: Stretch, first: Option<u16>) -> Result<(), AllocError>
     ensures { OnOk result (page.new ≡ page.old ++ message_end stretch first) }
 {
-    page.markup(MARKS_END)?;
+    page.markup(SHOWN_MARK)?;
     push_first_mark(page, stretch, first)?;
     page.markup(LINE_END)
 }
 
 /// Appends what is said of a refused order.
 #[tactic(auto, unfolding(crate::specs::ChartText::refusal_front))]
-fn push_refusal_front(page: &mut Page, row: &Row, cause: u8) -> Result<(), AllocError>
-    ensures { OnOk result (page.new ≡ page.old ++ refusal_front row.now cause) }
+fn push_refusal_front(
+    page: &mut Page,
+    language: Language,
+    row: &Row,
+    cause: u8,
+) -> Result<(), AllocError>
+    ensures { OnOk result (page.new ≡ page.old ++ refusal_front language row.now cause) }
 {
     page.markup(LINE)?;
     push_name(page, row)?;
-    page.markup(REFUSED)?;
-    push_cause(page, cause)?;
+    page.markup(CAUSE)?;
+    page.word(language, Word::RefusedBecause)?;
+    push_cause(page, language, cause)?;
     page.markup(CAUSE_END)
 }
 
 /// Appends what the title says of a refused order after its name.
 #[tactic(auto, unfolding(crate::specs::ChartText::refusal_title))]
-fn push_refusal_title(page: &mut Page, row: &Row, cause: u8) -> Result<(), AllocError>
-    ensures { OnOk result (page.new ≡ page.old ++ refusal_title row.now cause) }
+fn push_refusal_title(page: &mut Page, language: Language, row: &Row) -> Result<(), AllocError>
+    ensures { OnOk result (page.new ≡ page.old ++ refusal_title language row.now) }
 {
-    page.markup(REFUSED_AT)?;
-    push_slot(page, row.start)?;
-    page.markup(COLON)?;
-    push_cause(page, cause)
+    page.word(language, Word::RefusedAt)?;
+    push_slot(page, row.start)
 }
 
 /// Appends the picture of a refused order.
 #[tactic(auto, unfolding(crate::specs::ChartText::refusal_picture))]
 fn push_refusal_picture(
     page: &mut Page,
+    language: Language,
     stretch: Stretch,
     row: &Row,
-    cause: u8,
 ) -> Result<(), AllocError>
-    ensures { OnOk result (page.new ≡ page.old ++ refusal_picture stretch row.now cause) }
+    ensures { OnOk result (page.new ≡ page.old ++ refusal_picture language stretch row.now) }
 {
-    push_picture_front(page, stretch, row)?;
-    push_refusal_title(page, row, cause)?;
+    push_picture_front(page, language, stretch, row)?;
+    push_refusal_title(page, language, row)?;
     page.markup(REFUSAL)?;
     page.number(u64::from(row.start))?;
     page.markup(REFUSAL_END)
 }
 
-/// What the lines of a cell have in common: the slots that are drawn, its record, what a handset shows of its blocks,
-/// and the messages that its log accepted.
+/// What the lines of a cell have in common: the language, the slots that are drawn, its record, what a handset
+/// shows of its blocks, and the messages that its log accepted.
 #[derive(Clone, Copy)]
 pub(crate) struct CellContext<'a> {
     pub(crate) alloc: Global,
+    pub(crate) language: Language,
     pub(crate) stretch: Stretch,
     pub(crate) run: &'a CellRecord,
     pub(crate) shown: &'a [Shown],
@@ -403,7 +392,8 @@ impl<'a> CellContext<'a> {
     /// Appends the line of an accepted message that phones show.
     fn push_seen(&self, page: &mut Page, row: &Row) -> Result<(), AllocError>
         requires { IsContext self.now }
-        ensures { OnOk result (page.new ≡ page.old ++ message_line self.now.run.now self.now.stretch row.now
+        ensures { OnOk result (page.new ≡ page.old
+            ++ message_line self.now.language self.now.run.now self.now.stretch row.now
             (accepted_named row.now.id row.now.serial self.now.run.now.log)
             (text_shown (messages_shown self.now.shown.now) row.now.id row.now.serial)) }
     {
@@ -414,7 +404,8 @@ impl<'a> CellContext<'a> {
     /// Appends the line of one that none shows.
     fn push_unseen(&self, page: &mut Page, row: &Row) -> Result<(), AllocError>
         requires { IsContext self.now }
-        ensures { OnOk result (page.new ≡ page.old ++ message_line self.now.run.now self.now.stretch row.now
+        ensures { OnOk result (page.new ≡ page.old
+            ++ message_line self.now.language self.now.run.now self.now.stretch row.now
             (accepted_named row.now.id row.now.serial self.now.run.now.log)
             (text_asked self.now.run.now.log
             (accepted_named row.now.id row.now.serial self.now.run.now.log))) }
@@ -426,32 +417,35 @@ impl<'a> CellContext<'a> {
     /// Appends the line of an accepted message with this text.
     fn push_message(&self, page: &mut Page, row: &Row, text: &str) -> Result<(), AllocError>
         requires { IsContext self.now }
-        ensures { OnOk result (page.new ≡ page.old ++ message_line self.now.run.now self.now.stretch row.now
+        ensures { OnOk result (page.new ≡ page.old
+            ++ message_line self.now.language self.now.run.now self.now.stretch row.now
             (accepted_named row.now.id row.now.serial self.now.run.now.log) text.now) }
     {
         let found = self.named(row);
-        push_message_front(page, self.stretch, row, found, text)?;
-        push_picture_front(page, self.stretch, row)?;
-        push_message_title(page, row, text)?;
+        let number = number_instead(self.stretch, self.run.air(), found);
+        push_message_front(page, self.language, row, found, number, text)?;
+        push_picture_front(page, self.language, self.stretch, row)?;
+        push_message_title(page, self.language, row)?;
         push_bar(page, self.stretch, row)?;
-        push_drawn_marks(page, self.stretch, row.completed, self.run.air(), found)?;
+        push_drawn_marks(page, self.stretch, self.run.air(), found, number)?;
         push_message_end(page, self.stretch, row.first_shown)
     }
 
     /// Appends the line of a refused order.
     fn push_refusal(&self, page: &mut Page, row: &Row, cause: u8) -> Result<(), AllocError>
         ensures { OnOk result (page.new ≡ page.old
-            ++ refusal_line self.now.stretch row.now cause) }
+            ++ refusal_line self.now.language self.now.stretch row.now cause) }
     {
-        push_refusal_front(page, row, cause)?;
-        push_refusal_picture(page, self.stretch, row, cause)
+        push_refusal_front(page, self.language, row, cause)?;
+        push_refusal_picture(page, self.language, self.stretch, row)
     }
 
     /// Appends the line of a row.
     fn push_line(&self, page: &mut Page, row: &Row) -> Result<(), AllocError>
         requires { IsContext self.now }
         ensures { OnOk result (page.new ≡ page.old
-            ++ line_of self.now.run.now self.now.stretch (messages_shown self.now.shown.now) row.now) }
+            ++ line_of self.now.language self.now.run.now self.now.stretch (messages_shown self.now.shown.now)
+            row.now) }
     {
         match row.shown {
             Showing::Yes => self.push_seen(page, row),
@@ -464,7 +458,8 @@ impl<'a> CellContext<'a> {
     pub(crate) fn push_lines(&self, page: &mut Page, rows: &[Row]) -> Result<(), AllocError>
         requires { IsContext self.now }
         ensures { OnOk result (page.new ≡ page.old
-            ++ flat_map (line_of self.now.run.now self.now.stretch (messages_shown self.now.shown.now)) rows.now) }
+            ++ flat_map (line_of self.now.language self.now.run.now self.now.stretch
+            (messages_shown self.now.shown.now)) rows.now) }
     {
         for row in rows {
             self.push_line(page, row)?;

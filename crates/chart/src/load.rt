@@ -8,7 +8,8 @@ ghost use Rattle.admission.specs.declared.measure.TheConstants.{SCALE};
 ghost use Rattle.bsc_table.specs.Claim.{Claim, claim_at, claimed_at};
 ghost use Rattle.bsc_table.specs.Record.{Record, claim_of, claims_in, claims_of};
 ghost use Rattle.bsc_table.specs.Room.{ClaimsFit};
-ghost use Rattle.chart.specs.ChartText.{load_end, load_front, load_picture, load_shape, load_width};
+ghost use Rattle.chart.specs.ChartText.{load_end, load_front, load_picture, load_shape, load_title};
+ghost use Rattle.chart.specs.ChartText.{load_width};
 ghost use Rattle.chart.specs.Kept.{accepted_kept, all_kept, load_within, HavePeriods};
 ghost use Rattle.chart.specs.Load.{height_of, step_at, step_text, AreLoads, AreLoadsFrom};
 ghost use Rattle.chart.specs.View.{width_of};
@@ -18,6 +19,7 @@ ghost use Rattle.chart.specs.Message.{end_within};
 use crate::kept::KeptMessage;
 use crate::page::Page;
 use crate::view::Stretch;
+use crate::word::{Language, Word};
 use admission::SCALE;
 use std::alloc::{AllocError, Global};
 
@@ -28,8 +30,11 @@ pub const LOAD_HEIGHT: u64 = 1008;
 /// How much load is drawn one step higher.
 pub const LOAD_STEP: u64 = SCALE / LOAD_HEIGHT;
 
-/// The front of the line of the loads, up to the first slot of their picture.
-pub const LOAD: &str = "<div class=\"line\"><p>Reserved load</p>\n<svg class=\"loads\" viewBox=\"";
+/// The front of the line of the loads, up to its name.
+pub const LOAD: &str = "<div class=\"line\"><p>";
+
+/// What comes after its name, up to the first slot of the picture.
+pub const LOAD_NAMED: &str = "</p>\n<svg class=\"loads\" viewBox=\"";
 
 /// What comes between its first slot and its width.
 pub const LOAD_ORIGIN: &str = " 0 ";
@@ -37,10 +42,11 @@ pub const LOAD_ORIGIN: &str = " 0 ";
 /// What comes between its width and its height, and between the first slot and the height at which the line begins.
 pub const LOAD_BOX: &str = " ";
 
-/// What comes between its height and the first slot, at which the line begins at the bottom.
-pub const LOAD_PATH: &str =
-    "\" preserveAspectRatio=\"none\" role=\"img\"><title>Reserved load</title>\n\
-    <path class=\"load\" d=\"M";
+/// What comes between its height and its title.
+pub const LOAD_TITLE: &str = "\" preserveAspectRatio=\"none\" role=\"img\"><title>";
+
+/// What comes between its title and the first slot, at which the line begins at the bottom.
+pub const LOAD_PATH: &str = "</title>\n<path class=\"load\" d=\"M";
 
 /// What comes before a slot to which the line goes on.
 pub const TO_SLOT: &str = "H";
@@ -259,14 +265,24 @@ fn push_width(page: &mut Page, stretch: Stretch) -> Result<(), AllocError>
     page.markup(LOAD_BOX)
 }
 
+/// Appends the title of the picture.
+#[tactic(auto, unfolding(crate::specs::ChartText::load_title))]
+fn push_title(page: &mut Page, language: Language) -> Result<(), AllocError>
+    ensures { OnOk result (page.new ≡ page.old ++ load_title language) }
+{
+    page.markup(LOAD_TITLE)?;
+    page.word(language, Word::Load)?;
+    page.markup(LOAD_PATH)
+}
+
 /// Appends the front of the picture, up to the begin of the line.
 #[tactic(auto, unfolding(crate::specs::ChartText::load_front))]
-fn push_front(page: &mut Page, stretch: Stretch) -> Result<(), AllocError>
-    ensures { OnOk result (page.new ≡ page.old ++ load_front stretch) }
+fn push_front(page: &mut Page, language: Language, stretch: Stretch) -> Result<(), AllocError>
+    ensures { OnOk result (page.new ≡ page.old ++ load_front language stretch) }
 {
     push_width(page, stretch)?;
     push_bottom(page)?;
-    page.markup(LOAD_PATH)?;
+    push_title(page, language)?;
     page.number(u64::from(stretch.from))?;
     page.markup(LOAD_BOX)?;
     push_bottom(page)
@@ -286,25 +302,37 @@ fn push_end(page: &mut Page, to: u16) -> Result<(), AllocError>
 
 /// Appends the loads that are reserved at the slots that are drawn as a shape, from the first slot of its picture on.
 #[tactic(auto, unfolding(crate::specs::ChartText::load_shape))]
-pub(crate) fn push_shape(page: &mut Page, stretch: Stretch, loads: &[u64]) -> Result<(), AllocError>
+pub(crate) fn push_shape(
+    page: &mut Page,
+    language: Language,
+    stretch: Stretch,
+    loads: &[u64],
+) -> Result<(), AllocError>
     requires width { length loads.now ≡ width_of stretch }
     requires ordered { stretch.from ≤ stretch.to }
     ensures { OnOk result ((r : Record) → AreLoadsFrom stretch.from (claims_in r.log) loads.now
-        → page.new ≡ page.old ++ load_shape r stretch) }
+        → page.new ≡ page.old ++ load_shape language r stretch) }
 {
-    push_front(page, stretch)?;
+    push_front(page, language, stretch)?;
     push_line(page, stretch.from, loads)?;
     push_end(page, stretch.to)
 }
 
 /// Appends the line of the loads that are reserved at the slots that are drawn.
-pub(crate) fn push_loads(page: &mut Page, stretch: Stretch, loads: &[u64]) -> Result<(), AllocError>
+pub(crate) fn push_loads(
+    page: &mut Page,
+    language: Language,
+    stretch: Stretch,
+    loads: &[u64],
+) -> Result<(), AllocError>
     requires width { length loads.now ≡ width_of stretch }
     requires ordered { stretch.from ≤ stretch.to }
     ensures { OnOk result ((r : Record) → AreLoadsFrom stretch.from (claims_in r.log) loads.now
-        → page.new ≡ page.old ++ load_picture r stretch) }
+        → page.new ≡ page.old ++ load_picture language r stretch) }
 {
     page.markup(LOAD)?;
-    push_shape(page, stretch, loads)?;
+    page.word(language, Word::Load)?;
+    page.markup(LOAD_NAMED)?;
+    push_shape(page, language, stretch, loads)?;
     page.markup(LOAD_END)
 }

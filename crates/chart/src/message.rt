@@ -7,30 +7,25 @@ ghost use Rattle.cbs_page.specs.Coding.{alphabet_of};
 ghost use Rattle.cbs_page.specs.Text.{text_in};
 ghost use Rattle.scheduler.specs.Pages.{airs_page};
 ghost use Rattle.bsc_table.specs.Book.{air_pairs, aired_pair};
+ghost use Rattle.bsc_table.specs.Record.{rank_of};
 ghost use Rattle.handset.specs.Keeping.{messages_shown};
 ghost use Rattle.chart.specs.Kept.{accepted_kept};
-ghost use Rattle.chart.specs.Message.{are_many, category_words, drawn_marks, first_mark, first_mark_after, is_every};
-ghost use Rattle.chart.specs.Message.{mark_at, marks_of, pace_text, period_of, text_asked, text_asked_by};
+ghost use Rattle.chart.specs.Message.{are_apart, category_words, drawn_marks, first_mark, first_mark_after, has_marks};
+ghost use Rattle.chart.specs.Message.{is_every, is_marked, mark_at, marks_of, marks_path, number_instead};
+ghost use Rattle.chart.specs.Message.{number_of_marks, pace_text, period_of, rank_words, text_asked, text_asked_by};
 ghost use Rattle.chart.specs.Message.{text_of_contents, text_shown};
+ghost use Rattle.chart.specs.Words.{word_in};
 
 use crate::kept::KeptMessage;
 use crate::load::end_within;
 use crate::page::Page;
 use crate::view::Stretch;
+use crate::word::{Language, Word, word_in};
 use bsc_table::{Aired, Category, Command, Entry};
 use cbs_page::{Content, Dcs, PageView, Serial, push_page_text};
 use handset::Shown;
 use report::{Demand, Row};
 use std::alloc::{AllocError, Global};
-
-/// The high category.
-pub const HIGH: &str = "high";
-
-/// The normal category.
-pub const NORMAL: &str = "normal";
-
-/// Background.
-pub const BACKGROUND: &str = "background";
 
 /// What comes before the slot of a mark.
 pub const MARK: &str = "M";
@@ -41,35 +36,54 @@ pub const MARK_END: &str = " 0v10";
 /// What comes after the slot of the mark where a phone shows a message first: it is a short one.
 pub const FIRST_END: &str = " 0v6";
 
-/// The most marks of a message. One with more whole broadcasts has none, since they would run into one another.
-pub const MOST_MARKS: u16 = 400;
+/// What comes before the marks.
+pub const MARKS: &str = "<path class=\"whole\" d=\"";
+
+/// What comes after them.
+pub const MARKS_END: &str = "\"/>\n";
+
+/// The most marks of a message. Of one with more whole broadcasts their number is said.
+pub const MOST_MARKS: usize = 400;
+
+/// How far apart the marks of broadcasts stand at least that follow each other by the message's period, in pixels.
+pub const LEAST_GAP: u64 = 4;
+
+/// How wide a page is for that, in pixels.
+pub const PAGE_WIDTH: u64 = 1280;
 
 /// The class of the bar of a message that is broadcast every 8 slots, or more often.
-pub const EVERY_15_S: &str = " f5";
+pub const EVERY_15_S: &str = "f5";
 
 /// The same of 16 slots.
-pub const EVERY_30_S: &str = " f4";
+pub const EVERY_30_S: &str = "f4";
 
 /// The same of 32 slots.
-pub const EVERY_MINUTE: &str = " f3";
+pub const EVERY_MINUTE: &str = "f3";
 
 /// The same of 64 slots.
-pub const EVERY_2_MINUTES: &str = " f2";
+pub const EVERY_2_MINUTES: &str = "f2";
 
 /// The class of one that is broadcast more rarely.
-pub const RARER: &str = " f1";
+pub const RARER: &str = "f1";
 
 /// The category of a message in words; nothing of none.
-pub(crate) fn category_words(found: Option<KeptMessage>) -> &'static str
-    ensures { result.now ≡ category_words (option_map accepted_kept found) }
+pub(crate) fn category_words(language: Language, found: Option<KeptMessage>) -> &'static str
+    ensures { result.now ≡ category_words language (option_map accepted_kept found) }
 {
     match found {
         None => "",
-        Some(kept) => match kept.category {
-            Category::High => HIGH,
-            Category::Normal => NORMAL,
-            Category::Background => BACKGROUND,
-        },
+        Some(kept) => word_in(language, category_word(kept.category)),
+    }
+}
+
+/// The word of a category.
+fn category_word(category: Category) -> Word
+    ensures { (language : Language) → word_in language result ≡ rank_words language (rank_of category) }
+{
+    match category {
+        Category::High => Word::High,
+        Category::Normal => Word::Normal,
+        Category::Background => Word::Background,
     }
 }
 
@@ -143,7 +157,7 @@ pub(crate) fn text_asked(
     }
 }
 
-/// Whether a slot airs the last page of a message.
+/// Whether what a slot airs is the last page of a message.
 fn is_last_page(aired: Option<Aired>, kept: &KeptMessage) -> bool
     ensures { result ≡ option_map_or (airs_page kept.now.entry kept.now.pages) (Some (aired_pair aired)) false }
 {
@@ -151,6 +165,14 @@ fn is_last_page(aired: Option<Aired>, kept: &KeptMessage) -> bool
         None => false,
         Some(aired) => aired.entry == kept.entry && aired.page == kept.pages,
     }
+}
+
+/// Whether a slot airs the last page of a message.
+fn is_marked(air: &[Option<Aired>], kept: &KeptMessage, slot: usize) -> bool
+    requires { slot < length air.now }
+    ensures { result ≡ is_marked (air_pairs air.now) (accepted_kept kept.now).message slot }
+{
+    is_last_page(air[slot], kept)
 }
 
 /// Appends the mark of a slot, if it has one.
@@ -164,7 +186,7 @@ fn push_mark(
     ensures { OnOk result (page.new ≡ page.old
         ++ mark_at (air_pairs air.now) (accepted_kept kept.now).message slot) }
 {
-    if is_last_page(air[slot], kept) {
+    if is_marked(air, kept, slot) {
         page.markup(MARK)?;
         page.number(slot as u64 + 1)?;
         page.markup(MARK_END)?;
@@ -209,30 +231,88 @@ pub(crate) fn pace(row: &Row) -> &'static str
     }
 }
 
-/// Whether a message has so many whole broadcasts in a whole run that one couldn't see a mark for each.
-pub(crate) fn are_many(stretch: Stretch, whole: u16) -> bool
-    ensures { result ≡ are_many stretch whole }
+/// Whether marks of broadcasts that follow each other by this period, in slots, stand far enough apart.
+fn are_apart(stretch: Stretch, period: u16) -> bool
+    ensures { result ≡ are_apart stretch period }
 {
-    !stretch.is_part && whole > MOST_MARKS
+    LEAST_GAP * u64::from(stretch.width()) <= u64::from(period) * PAGE_WIDTH
 }
 
-/// Appends the marks of a message of which this many broadcasts are whole: all that are drawn, or none where they are
-/// too many.
+/// Whether the marks of a message of this period are drawn, of which this many broadcasts are whole at the slots that
+/// are drawn.
+fn has_marks(stretch: Stretch, period: u16, whole: usize) -> bool
+    ensures { result ≡ has_marks stretch period whole }
+{
+    whole <= MOST_MARKS && are_apart(stretch, period)
+}
+
+/// How many broadcasts of a message are whole at the slots that are drawn.
+fn count_marks(stretch: Stretch, air: &[Option<Aired>], kept: &KeptMessage) -> usize
+    requires { 0 < kept.now.period }
+    ensures { result
+        ≡ number_of_marks stretch (length air.now) (air_pairs air.now) (accepted_kept kept.now).message }
+{
+    let from = (kept.start as usize).max(usize::from(stretch.from));
+    let to = end_within(kept, air.len()).min(usize::from(stretch.to));
+    let mut count = 0;
+    for slot in from..to {
+        count += usize::from(is_marked(air, kept, slot));
+    }
+    count
+}
+
+/// The number of a message's whole broadcasts at the slots that are drawn, where that stands in place of marks.
+pub(crate) fn number_instead(
+    stretch: Stretch,
+    air: &[Option<Aired>],
+    found: Option<KeptMessage>,
+) -> Option<usize>
+    requires { IfSome found (λ k. 0 < k.period) }
+    ensures { result
+        ≡ number_instead stretch (length air.now) (air_pairs air.now) (option_map accepted_kept found) }
+{
+    let kept = found?;
+    let whole = count_marks(stretch, air, &kept);
+    if has_marks(stretch, kept.period, whole) {
+        None
+    } else {
+        Some(whole)
+    }
+}
+
+/// Appends the marks of a message: all, or none where their number stands in their place.
 pub(crate) fn push_drawn_marks(
     page: &mut Page,
     stretch: Stretch,
-    whole: u16,
+    air: &[Option<Aired>],
+    found: Option<KeptMessage>,
+    number: Option<usize>,
+) -> Result<(), AllocError>
+    requires { IfSome found (λ k. 0 < k.period) }
+    ensures { OnOk result (page.new ≡ page.old ++ drawn_marks number
+        (marks_of stretch (length air.now) (air_pairs air.now) (option_map accepted_kept found))) }
+{
+    match number {
+        None => push_marks_path(page, stretch, air, found),
+        Some(_) => Ok(()),
+    }
+}
+
+/// Appends the path of the marks of a message.
+#[tactic(auto, unfolding(crate::specs::Message::marks_path))]
+fn push_marks_path(
+    page: &mut Page,
+    stretch: Stretch,
     air: &[Option<Aired>],
     found: Option<KeptMessage>,
 ) -> Result<(), AllocError>
     requires { IfSome found (λ k. 0 < k.period) }
-    ensures { OnOk result (page.new ≡ page.old
-        ++ drawn_marks stretch whole (length air.now) (air_pairs air.now) (option_map accepted_kept found)) }
+    ensures { OnOk result (page.new ≡ page.old ++ marks_path
+        (marks_of stretch (length air.now) (air_pairs air.now) (option_map accepted_kept found))) }
 {
-    if are_many(stretch, whole) {
-        return Ok(());
-    }
-    push_marks(page, stretch, air, found)
+    page.markup(MARKS)?;
+    push_marks(page, stretch, air, found)?;
+    page.markup(MARKS_END)
 }
 
 /// Appends the marks of a message: one for each broadcast, after the slot that makes it whole.

@@ -4,7 +4,9 @@ ghost use Rattle.std.specs.Prelude.{◌≡◌, ◌++◌, [], OnOk};
 ghost use Rattle.std.specs.Fmt.{decimal};
 ghost use Rattle.hex.specs.Hex.{encode_lower};
 ghost use Rattle.chart.specs.Escape.{escaped, escaped_octet};
+ghost use Rattle.chart.specs.Words.{word_in};
 
+use crate::word::{Language, Word, word_in};
 use std::alloc::{AllocError, Global};
 use std::marker::Model;
 
@@ -47,6 +49,14 @@ impl Page {
         ensures { OnOk result (self.new ≡ self.old ++ markup.now) }
     {
         self.octets.extend_from_slice(markup.as_bytes())
+    }
+
+    /// Appends a word in a language.
+    pub fn word(&mut self, language: Language, word: Word) -> Result<(), AllocError>
+        ensures { OnOk result (self.new ≡ self.old ++ word_in language word) }
+    {
+        self.octets
+            .extend_from_slice(word_in(language, word).as_bytes())
     }
 
     /// Appends all of another page.

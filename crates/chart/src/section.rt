@@ -8,38 +8,21 @@ ghost use Rattle.chart.specs.Panels.{span_text, strip_at, strip_front};
 
 use crate::page::Page;
 use crate::panel::{Panel, cells_like, is_any_like};
+use crate::word::{Language, Word};
 use cbsp_wire::Cell;
 use std::alloc::{AllocError, Global};
 
 /// Between a location area code and a cell identity.
 pub const DASH: &str = "-";
 
-/// Between the first and the last of several cells.
-pub const TO: &str = " to ";
-
 /// What comes after a name of several.
 pub const COMMA: &str = ", ";
-
-/// What comes before the name of a cell.
-pub const CELL: &str = "Cell ";
-
-/// What comes before the names of several cells.
-pub const CELLS: &str = "Cells ";
-
-/// What comes after their number.
-pub const CELLS_END: &str = " cells";
 
 /// The front of a section, up to the name of its first cell.
 pub const SECTION: &str = "<details open id=\"c";
 
 /// What comes before its heading.
 pub const SECTION_NAME: &str = "\">\n<summary><h2>";
-
-/// What comes before the number of further cells.
-pub const AND: &str = " and ";
-
-/// What comes after it.
-pub const MORE: &str = " more";
 
 /// The front of a strip, up to the name of its section.
 pub const STRIP: &str = "<a href=\"#c";
@@ -50,8 +33,11 @@ pub const STRIP_NAME: &str = "\"><b>";
 /// What comes before its loads, up to their first slot.
 pub const STRIP_PICTURE: &str = "</b>\n<svg class=\"loads\" viewBox=\"";
 
-/// The front of the overview.
-pub const OVERVIEW: &str = "<nav aria-label=\"Cells\">\n";
+/// The front of the overview, up to its name.
+pub const OVERVIEW: &str = "<nav aria-label=\"";
+
+/// What comes after its name.
+pub const OVERVIEW_NAMED: &str = "\">\n";
 
 /// The end of the overview.
 pub const OVERVIEW_END: &str = "</nav>\n";
@@ -80,11 +66,16 @@ fn are_in_turn(first: Cell, cells: &[Cell]) -> bool
 
 /// Appends the names of the first and the last of cells that are in turn.
 #[tactic(auto, unfolding(crate::specs::Panels::span_text))]
-fn push_span(page: &mut Page, first: Cell, cells: &[Cell]) -> Result<(), AllocError>
-    ensures { OnOk result (page.new ≡ page.old ++ span_text first (length cells.now)) }
+fn push_span(
+    page: &mut Page,
+    language: Language,
+    first: Cell,
+    cells: &[Cell],
+) -> Result<(), AllocError>
+    ensures { OnOk result (page.new ≡ page.old ++ span_text language first (length cells.now)) }
 {
     push_name(page, first)?;
-    page.markup(TO)?;
+    page.word(language, Word::To)?;
     page.number(u64::from(first.lac))?;
     page.markup(DASH)?;
     page.number(u64::from(first.ci) + cells.len().saturating_sub(1) as u64)?;
@@ -111,11 +102,16 @@ fn push_list(page: &mut Page, cells: &[Cell]) -> Result<(), AllocError>
 }
 
 /// Appends the names of several cells.
-fn push_names(page: &mut Page, first: Cell, cells: &[Cell]) -> Result<(), AllocError>
-    ensures { OnOk result (page.new ≡ page.old ++ names_text first cells.now) }
+fn push_names(
+    page: &mut Page,
+    language: Language,
+    first: Cell,
+    cells: &[Cell],
+) -> Result<(), AllocError>
+    ensures { OnOk result (page.new ≡ page.old ++ names_text language first cells.now) }
 {
     if are_in_turn(first, cells) {
-        push_span(page, first, cells)
+        push_span(page, language, first, cells)
     } else {
         push_list(page, cells)
     }
@@ -123,148 +119,199 @@ fn push_names(page: &mut Page, first: Cell, cells: &[Cell]) -> Result<(), AllocE
 
 /// Appends the heading of one cell.
 #[tactic(auto, unfolding(crate::specs::Panels::one_heading))]
-fn push_one_heading(page: &mut Page, cell: Cell) -> Result<(), AllocError>
-    ensures { OnOk result (page.new ≡ page.old ++ one_heading cell) }
+fn push_one_heading(page: &mut Page, language: Language, cell: Cell) -> Result<(), AllocError>
+    ensures { OnOk result (page.new ≡ page.old ++ one_heading language cell) }
 {
-    page.markup(CELL)?;
+    page.word(language, Word::Cell)?;
     push_name(page, cell)
 }
 
 /// Appends the heading of several cells.
 #[tactic(auto, unfolding(crate::specs::Panels::heading_of_all))]
-fn push_heading_of_all(page: &mut Page, first: Cell, cells: &[Cell]) -> Result<(), AllocError>
-    ensures { OnOk result (page.new ≡ page.old ++ heading_of_all first cells.now) }
+fn push_heading_of_all(
+    page: &mut Page,
+    language: Language,
+    first: Cell,
+    cells: &[Cell],
+) -> Result<(), AllocError>
+    ensures { OnOk result (page.new ≡ page.old ++ heading_of_all language first cells.now) }
 {
-    page.markup(CELLS)?;
-    push_names(page, first, cells)?;
+    page.word(language, Word::Cells)?;
+    push_names(page, language, first, cells)?;
     page.number(cells.len() as u64)?;
-    page.markup(CELLS_END)
+    page.word(language, Word::CellsEnd)
 }
 
 /// Appends the heading of cells.
-fn push_heading(page: &mut Page, first: Cell, cells: &[Cell]) -> Result<(), AllocError>
-    ensures { OnOk result (page.new ≡ page.old ++ heading first cells.now) }
+fn push_heading(
+    page: &mut Page,
+    language: Language,
+    first: Cell,
+    cells: &[Cell],
+) -> Result<(), AllocError>
+    ensures { OnOk result (page.new ≡ page.old ++ heading language first cells.now) }
 {
     if cells.len() <= 1 {
-        push_one_heading(page, first)
+        push_one_heading(page, language, first)
     } else {
-        push_heading_of_all(page, first, cells)
+        push_heading_of_all(page, language, first, cells)
     }
 }
 
 /// Appends the front of a section, up to its contents.
 #[tactic(auto, unfolding(crate::specs::Panels::section_front))]
-fn push_section_front(page: &mut Page, first: Cell, cells: &[Cell]) -> Result<(), AllocError>
-    ensures { OnOk result (page.new ≡ page.old ++ section_front first cells.now) }
+fn push_section_front(
+    page: &mut Page,
+    language: Language,
+    first: Cell,
+    cells: &[Cell],
+) -> Result<(), AllocError>
+    ensures { OnOk result (page.new ≡ page.old ++ section_front language first cells.now) }
 {
     page.markup(SECTION)?;
     push_name(page, first)?;
     page.markup(SECTION_NAME)?;
-    push_heading(page, first, cells)
+    push_heading(page, language, first, cells)
 }
 
 /// Appends the section of the cells with the contents of a panel, if it is the first of them.
 fn push_section(
     alloc: Global,
     page: &mut Page,
+    language: Language,
     all: &[Panel],
     place: usize,
 ) -> Result<(), AllocError>
     requires { place < length all.now }
-    ensures { OnOk result (page.new ≡ page.old ++ section_at all.now place) }
+    ensures { OnOk result (page.new ≡ page.old ++ section_at language all.now place) }
 {
     let panel = &all[place];
     if is_any_like(panel, &all[..place]) {
         return Ok(());
     }
     let cells = cells_like(alloc, panel, all)?;
-    push_section_front(page, panel.cell, &cells)?;
+    push_section_front(page, language, panel.cell, &cells)?;
     page.page(&panel.contents)
 }
 
 /// Appends the sections of all panels.
-fn push_each_section(alloc: Global, page: &mut Page, all: &[Panel]) -> Result<(), AllocError>
-    ensures { OnOk result (page.new ≡ page.old ++ flat_map (section_at all.now) (range_with_len 0 (length all.now))) }
+fn push_each_section(
+    alloc: Global,
+    page: &mut Page,
+    language: Language,
+    all: &[Panel],
+) -> Result<(), AllocError>
+    ensures { OnOk result (page.new ≡ page.old
+        ++ flat_map (section_at language all.now) (range_with_len 0 (length all.now))) }
 {
     for place in 0..all.len() {
-        push_section(alloc, page, all, place)?;
+        push_section(alloc, page, language, all, place)?;
     }
     Ok(())
 }
 
 /// Appends how many more cells there are.
 #[tactic(auto, unfolding(crate::specs::Panels::more_text))]
-fn push_more(page: &mut Page, more: usize) -> Result<(), AllocError>
-    ensures { OnOk result (page.new ≡ page.old ++ more_text more) }
+fn push_more(page: &mut Page, language: Language, more: usize) -> Result<(), AllocError>
+    ensures { OnOk result (page.new ≡ page.old ++ more_text language more) }
 {
-    page.markup(AND)?;
+    page.word(language, Word::And)?;
     page.number(more as u64)?;
-    page.markup(MORE)
+    page.word(language, Word::More)
 }
 
 /// Appends it, if there are any.
-fn push_more_if(page: &mut Page, more: usize) -> Result<(), AllocError>
-    ensures { OnOk result (page.new ≡ page.old ++ more_if more) }
+fn push_more_if(page: &mut Page, language: Language, more: usize) -> Result<(), AllocError>
+    ensures { OnOk result (page.new ≡ page.old ++ more_if language more) }
 {
     if more == 0 {
         return Ok(());
     }
-    push_more(page, more)
+    push_more(page, language, more)
 }
 
 /// Appends the front of a strip, up to its picture.
 #[tactic(auto, unfolding(crate::specs::Panels::strip_front))]
-fn push_strip_front(page: &mut Page, first: Cell, number: usize) -> Result<(), AllocError>
-    ensures { OnOk result (page.new ≡ page.old ++ strip_front first number) }
+fn push_strip_front(
+    page: &mut Page,
+    language: Language,
+    first: Cell,
+    number: usize,
+) -> Result<(), AllocError>
+    ensures { OnOk result (page.new ≡ page.old ++ strip_front language first number) }
 {
     page.markup(STRIP)?;
     push_name(page, first)?;
     page.markup(STRIP_NAME)?;
     push_name(page, first)?;
-    push_more_if(page, number.saturating_sub(1))?;
+    push_more_if(page, language, number.saturating_sub(1))?;
     page.markup(STRIP_PICTURE)
 }
 
 /// Appends the strip of the cells with the contents of a panel, if it is the first of them.
-fn push_strip(alloc: Global, page: &mut Page, all: &[Panel], place: usize) -> Result<(), AllocError>
+fn push_strip(
+    alloc: Global,
+    page: &mut Page,
+    language: Language,
+    all: &[Panel],
+    place: usize,
+) -> Result<(), AllocError>
     requires { place < length all.now }
-    ensures { OnOk result (page.new ≡ page.old ++ strip_at all.now place) }
+    ensures { OnOk result (page.new ≡ page.old ++ strip_at language all.now place) }
 {
     let panel = &all[place];
     if is_any_like(panel, &all[..place]) {
         return Ok(());
     }
     let cells = cells_like(alloc, panel, all)?;
-    push_strip_front(page, panel.cell, cells.len())?;
+    push_strip_front(page, language, panel.cell, cells.len())?;
     page.page(&panel.strip)
 }
 
 /// Appends the strips of all panels.
-fn push_each_strip(alloc: Global, page: &mut Page, all: &[Panel]) -> Result<(), AllocError>
-    ensures { OnOk result (page.new ≡ page.old ++ flat_map (strip_at all.now) (range_with_len 0 (length all.now))) }
+fn push_each_strip(
+    alloc: Global,
+    page: &mut Page,
+    language: Language,
+    all: &[Panel],
+) -> Result<(), AllocError>
+    ensures { OnOk result (page.new ≡ page.old
+        ++ flat_map (strip_at language all.now) (range_with_len 0 (length all.now))) }
 {
     for place in 0..all.len() {
-        push_strip(alloc, page, all, place)?;
+        push_strip(alloc, page, language, all, place)?;
     }
     Ok(())
 }
 
 /// Appends the overview, if there are several cells.
-fn push_overview(alloc: Global, page: &mut Page, all: &[Panel]) -> Result<(), AllocError>
-    ensures { OnOk result (page.new ≡ page.old ++ overview all.now) }
+fn push_overview(
+    alloc: Global,
+    page: &mut Page,
+    language: Language,
+    all: &[Panel],
+) -> Result<(), AllocError>
+    ensures { OnOk result (page.new ≡ page.old ++ overview language all.now) }
 {
     if all.len() <= 1 {
         return Ok(());
     }
     page.markup(OVERVIEW)?;
-    push_each_strip(alloc, page, all)?;
+    page.word(language, Word::Overview)?;
+    page.markup(OVERVIEW_NAMED)?;
+    push_each_strip(alloc, page, language, all)?;
     page.markup(OVERVIEW_END)
 }
 
 /// Appends the overview and the sections of cells.
-pub(crate) fn push_all(alloc: Global, page: &mut Page, all: &[Panel]) -> Result<(), AllocError>
-    ensures { OnOk result (page.new ≡ page.old ++ sections_text all.now) }
+pub(crate) fn push_all(
+    alloc: Global,
+    page: &mut Page,
+    language: Language,
+    all: &[Panel],
+) -> Result<(), AllocError>
+    ensures { OnOk result (page.new ≡ page.old ++ sections_text language all.now) }
 {
-    push_overview(alloc, page, all)?;
-    push_each_section(alloc, page, all)
+    push_overview(alloc, page, language, all)?;
+    push_each_section(alloc, page, language, all)
 }

@@ -9,6 +9,7 @@ ghost use Rattle.chart.specs.Time.{tick_front, tick_within, ticks, time_in_brack
 
 use crate::page::Page;
 use crate::view::Stretch;
+use crate::word::{Language, Word};
 use std::alloc::AllocError;
 
 /// Between hours, minutes and seconds.
@@ -41,8 +42,11 @@ pub const AT: &str = "<br>";
 /// The end of a tick.
 pub const TICK_END: &str = "</span>\n";
 
-/// The front of the axis.
-pub const AXIS: &str = "<div class=\"line\"><p>Slot, time</p><p class=\"axis\">\n";
+/// The front of the axis, up to its name.
+pub const AXIS: &str = "<div class=\"line\"><p>";
+
+/// What comes after its name.
+pub const AXIS_NAMED: &str = "</p><p class=\"axis\">\n";
 
 /// The end of the axis.
 pub const AXIS_END: &str = "</p></div>\n";
@@ -233,10 +237,16 @@ fn push_ticks(page: &mut Page, stretch: Stretch) -> Result<(), AllocError>
 
 /// Appends the axis.
 #[tactic(auto, unfolding(crate::specs::Time::axis))]
-pub(crate) fn push_axis(page: &mut Page, stretch: Stretch) -> Result<(), AllocError>
-    ensures { OnOk result (page.new ≡ page.old ++ axis stretch) }
+pub(crate) fn push_axis(
+    page: &mut Page,
+    language: Language,
+    stretch: Stretch,
+) -> Result<(), AllocError>
+    ensures { OnOk result (page.new ≡ page.old ++ axis language stretch) }
 {
     page.markup(AXIS)?;
+    page.word(language, Word::Axis)?;
+    page.markup(AXIS_NAMED)?;
     push_ticks(page, stretch)?;
     page.markup(AXIS_END)
 }

@@ -3,6 +3,7 @@
 ghost use Rattle.std.specs.Prelude.{◌≡◌, ◌≤◌};
 ghost use Rattle.chart.specs.View.{bar_from, bar_width, holds, is_drawn, stretch_of, touches, width_of};
 
+use crate::word::Language;
 use cbsp_wire::Cell;
 use report::Row;
 
@@ -20,8 +21,10 @@ pub struct Part {
 pub struct View {
     /// The one cell that is drawn, or all.
     pub cell: Option<Cell>,
-    /// The part that is drawn, with all of its marks, or the whole run.
+    /// The part that is drawn, or the whole run.
     pub part: Option<Part>,
+    /// The language of the page.
+    pub language: Language,
 }
 
 /// The slots of a run that are drawn.
