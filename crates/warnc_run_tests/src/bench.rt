@@ -2,7 +2,7 @@
 
 use crate::gate::{Crossing, Manner, Shortage};
 use alert_book::Origin;
-use chart::View;
+use chart::{Language, View};
 use device_ends::memory::{MemoryReader, MemoryWriter};
 use device_ends::{Sink, Source, write_all};
 use report::Columns;
@@ -21,6 +21,7 @@ use warnc_run::{
 const WHOLE: View = View {
     cell: None,
     part: None,
+    language: Language::English,
 };
 
 /// What is called.
