@@ -207,8 +207,8 @@ function showTime() {
         showChannel(group);
     }, 180);
 }
-// Gives a message that is sent so often that the chart has no marks of it those that its cell's tape has: after each
-// slot that sends a last page.
+// Gives a message whose marks would be too close in the chart, which has none of it then, those that its cell's tape
+// has: after each slot that sends a last page.
 function markByTape(message, { air, page }) {
     const key = message.id * 0x10000 + parseInt(message.serial, 16);
     message.slots = [];

@@ -14,8 +14,8 @@ page: it has to find the same bars, and no element that the program didn't write
 widths nothing may be wider than the window. The chart of a part of the run, by `--from` and `--to`, has to have the
 bars, marks and loads of the run that are in it, which are put together of parts so short that they have all marks. A
 message has marks, or their number, by the rule of docs/formats.md. The page in German has to have the same elements and
-numbers, and none of the English words. What titles say that identifiers mean has to be what Wireshark says, where it is
-installed.
+numbers, the German words that the page for browsers has, and none of the English ones. What titles say that identifiers
+mean has to be what Wireshark says, where it is installed.
 """
 import csv
 import fractions
@@ -499,6 +499,18 @@ class Skeleton(html.parser.HTMLParser):
             self.words.append(text)
 
 
+@functools.cache
+def german_words():
+    """Returns the German words for what identifiers mean, and for causes, of the page for browsers."""
+    with open(os.path.join(TOP, WORDS), encoding="utf-8") as file:
+        text = file.read()
+    table = {int(number): words.replace(" ·", ":")
+             for number, words in re.findall(r'^ +(4\d{3}): \["[^"]*", "([^"]*)"', text, re.M)}
+    others = {number + (1 if number in (4396, 4398) else 13): f"{words}, in weiterer Sprache"
+              for number, words in table.items()}
+    return table | others, dict(re.findall(r'^ +"([\w ]+)": \["[^"]*",\s+"([^"]*)"\]', text, re.M))
+
+
 def wrong_german(english, german):
     """Yields in what a page in German differs from that in English but in its words."""
     ours, theirs = Skeleton(english), Skeleton(german)
@@ -508,6 +520,13 @@ def wrong_german(english, german):
                for page in (ours, theirs)]
     if numbers[0] != numbers[1]:
         yield "the page in German has other numbers than that in English"
+    table, causes = german_words()
+    for number, meaning in re.findall(r"<title>(\d+) [0-9a-f]{4}(?: \(([^()]*)\))?: ", german):
+        if int(number) >= 4370 and meaning != table.get(int(number), ""):
+            yield f"identifier {number} means {meaning} in German"
+    refused = [(causes.get(cause), octet) for cause, octet in re.findall(r'"cause">refused: (.*?) \((..)\)<', english)]
+    if re.findall(r'"cause">abgelehnt: (.*?) \((..)\)<', german) != refused:
+        yield f"the page in German hasn't the causes {refused}"
     left = sorted({word for word in ENGLISH for it in theirs.words if word in it})
     if left:
         yield f"the page in German has the English words {left}"

@@ -16,6 +16,7 @@ _warnc() {
     else
         case ${COMP_WORDS[1]}$before in
         texts--pages) words="1 2 3 4 5 6 7 8 9 10 11 12 13 14 15" ;;
+        chart--lang) words="en de" ;;
         page--lang) words="de en it fr es nl sv da pt fi no el tr hu pl und cs he ar ru is" ;;
         page--scope) words="0 1 2 3" ;;
         page--update) words="0 1 2 3 4 5 6 7 8 9 10 11 12 13 14 15" ;;
@@ -36,7 +37,7 @@ _warnc() {
             texts) words="--pages -h --help" ;;
             compile) words="--slots --group --network --workers -h --help" ;;
             report) words="--slots --group --network --full --workers -h --help" ;;
-            chart) words="--slots --group --network --cell --from --to --workers -h --help" ;;
+            chart) words="--slots --group --network --cell --from --to --lang --workers -h --help" ;;
             read) words="--short -h --help" ;;
             verify) words="--book --slots --short --explain --group --workers -h --help" ;;
             page) words="--lang --id --scope --code --update -h --help" ;;

@@ -14,6 +14,8 @@ use Rattle.byteorder.specs.Endian.{big_number}
 use Rattle.cbsp_wire.specs.declared.message.Cell.{Cell}
 use Rattle.chart.specs.declared.view.Part.{Part}
 use Rattle.chart.specs.declared.view.View.{View}
+use Rattle.chart.specs.declared.word.Language.{Language}
+use Rattle.chart.specs.declared.word.Language.TheVariants.{English, German}
 use Rattle.gsmtap.specs.declared.capture.Settings.{Settings}
 use Rattle.gsmtap.specs.declared.capture.Slots.{Slots}
 use Rattle.gsmtap.specs.declared.capture.Slots.TheVariants.{All, Used}
@@ -204,10 +206,17 @@ abbrev pub GivesWanted : (words : List (List ℕ)) → Option Cell → Type 0
 GivesWanted words None = is_given words (codes "--cell") ≡ false
 GivesWanted words (Some cell) = GivesCell words cell
 
+-- the words give the language of a page: English, which it is if no word begins with the option's name, or German
+abbrev pub GivesLanguage : (words : List (List ℕ)) → Language → Type 0
+GivesLanguage words English =
+    GivesValue words (codes "--lang") (codes "en") ⊎ (is_given words (codes "--lang") ≡ false)
+GivesLanguage words German = GivesValue words (codes "--lang") (codes "de")
+
 -- the words give what is drawn
 abbrev pub GivesView : (words : List (List ℕ)) → View → Type 0
 GivesView words view =
     (slots : ℕ) × GivesSlots words slots × GivesWanted words view.cell × GivesPart words slots view.part
+    × GivesLanguage words view.language
 
 -- a text writes an IPv4 address: its four octets, the highest first, with dots between them
 pub record IsAddress (text : List ℕ) (address : ℕ) : Type 0 where

@@ -5,7 +5,7 @@ ghost use Rattle.std.specs.Prelude.{slice_get};
 ghost use Rattle.warnc_cli.specs.CommandLine.{asks_for_text, begins_with, is_given, is_text_word, GivesNumber};
 ghost use Rattle.warnc_cli.specs.CommandLine.{GivesChannel, GivesChannelType, GivesSlots, GivesThreads, GivesValue};
 ghost use Rattle.warnc_cli.specs.CommandLine.{GivesArfcn, GivesCell, GivesEdge, GivesFile, GivesFirstSlot, GivesFrom};
-ghost use Rattle.warnc_cli.specs.CommandLine.{GivesPart, GivesView, GivesWanted};
+ghost use Rattle.warnc_cli.specs.CommandLine.{GivesLanguage, GivesPart, GivesView, GivesWanted};
 ghost use Rattle.warnc_cli.specs.CommandLine.{IsAddress, IsCell};
 ghost use Rattle.warnc_cli.specs.CommandLine.{columns_given, slots_given, GivesBooks, GivesOrigin, GivesPages};
 ghost use Rattle.warnc_cli.specs.CommandLine.{detail_given, pages_given, GivesProduct, GivesTapeSlots, IsNumber};
@@ -15,7 +15,7 @@ use crate::start::start_in;
 use alert_book::Origin;
 use cbs_page::{MAX_PAGES, Serial};
 use cbsp_wire::Cell;
-use chart::{Part, View};
+use chart::{Language, Part, View};
 use clap::builder::ValueParser;
 use clap::{Arg, ArgAction, Command, Error, value_parser};
 use gsmtap::{Channel, ChannelType, Sender, Settings, Slots, Wanted};
@@ -33,6 +33,9 @@ const VERSION: &str = "1.12.0\nrattle-kit-13f logic dac8208d650f15bf";
 
 /// The words for the channel that packets name.
 const CHANNEL_TYPES: &[&str] = &["cbch", "sdcch"];
+
+/// The words for the languages of a page.
+const LANGUAGES: &[&str] = &["en", "de"];
 
 /// What the words ask for.
 #[derive(Clone, Copy, Debug, PartialEq, Eq)]
@@ -341,7 +344,26 @@ fn view_in<S: AsStr>(words: &[S]) -> Option<View>
     let slots = slots_in(words)?;
     let cell = wanted_in(words)?;
     let part = part_in(words, slots)?;
-    Some(View { cell, part })
+    let language = language_in(words)?;
+    Some(View {
+        cell,
+        part,
+        language,
+    })
+}
+
+/// The language of a page, by the words: English if they give none.
+fn language_in<S: AsStr>(words: &[S]) -> Option<Language>
+    ensures { IfSome result (GivesLanguage (map S.text words.now)) }
+{
+    if !is_given(words, "--lang") {
+        return Some(Language::English);
+    }
+    match value_of(words, "--lang")? {
+        "en" => Some(Language::English),
+        "de" => Some(Language::German),
+        _ => None,
+    }
 }
 
 /// The part of a run of this many slots that the words want, if they want one.
@@ -693,6 +715,7 @@ fn chart<'a>(alloc: Global) -> Result<Command<'a>, AllocError> {
         .arg(charted_cell(alloc))?
         .arg(charted_from(alloc))?
         .arg(charted_to(alloc))?
+        .arg(charted_language(alloc))?
         .arg(workers(alloc))
 }
 
@@ -905,7 +928,7 @@ fn charted_from<'a>(alloc: Global) -> Arg<'a> {
         alloc,
         "from",
         "SLOT",
-        "Draws the run from this slot on, with all marks [0]",
+        "Draws the run from this slot on [0]",
     )
     .value_parser(value_parser!(u16))
 }
@@ -916,9 +939,21 @@ fn charted_to<'a>(alloc: Global) -> Arg<'a> {
         alloc,
         "to",
         "SLOT",
-        "Draws it up to this slot, with all marks [SLOTS]",
+        "Draws it up to this slot [SLOTS]",
     )
     .value_parser(value_parser!(u16))
+}
+
+/// The option of the language of a page.
+fn charted_language<'a>(alloc: Global) -> Arg<'a> {
+    optional(
+        alloc,
+        "lang",
+        "LANGUAGE",
+        "The language of the page: en or de [en]",
+    )
+    .value_parser(ValueParser::Names(LANGUAGES))
+    .hide_possible_values(true)
 }
 
 /// The option of the number of slots of a run that is checked.

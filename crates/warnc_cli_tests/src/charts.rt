@@ -13,22 +13,20 @@ in stop,3,a,*
 args chart --slots 4
 run -> 0
 out -> <!DOCTYPE html>
-past .shown{stroke:var(--first);stroke-width:4px} -> yes
-past .refusal{stroke:var(--refusal);stroke-width:4px} -> yes
+past path{stroke:var(--first);stroke-width:4px; -> yes
+past .refusal{stroke:var(--refusal)} -> yes
 past <p>A run of 4 slots of 1.883 s, 0:00:07 (h:mm:ss).</p> -> yes
 past is full.</p> -> yes
 out -> <details open id=\"c1-1\">
 out -> <summary><h2>Cell 1-1</h2> messages: 1, refused: 1, fullest: 100 % at 0:00:00</summary>
 out -> <div class=\"line\"><p><b>1 0010</b> <i>high</i> <bdi>One</bdi></p>
-out -> <svg viewBox=\"0 0 4 10\" preserveAspectRatio=\"none\" role=\"img\"><title>1 0010: from slot 0 (0:00:00) to slot 3 \
-(0:00:05), every slot, whole broadcasts: 3, first shown after slot 0 (0:00:01)
-out -> One</title>
-out -> <rect class=\"bar f5\" height=\"10\" x=\"0\" width=\"3\"/>
+out -> <svg viewBox=\"0 0 4 10\" preserveAspectRatio=\"none\"><title>1 0010: slots 0 (0:00:00) to 3 (0:00:05), every slot, \
+broadcasts: 3, first shown after 0 (0:00:01)</title>
+out -> <rect class=\"f5\" x=\"0\" width=\"3\"/>
 out -> <path class=\"whole\" d=\"M1 0v10M2 0v10M3 0v10\"/>
-out -> <path class=\"shown\" d=\"M1 0v6\"/></svg></div>
+out -> <path d=\"M1 0v6\"/></svg></div>
 out -> <div class=\"line\"><p><b>2 0020</b> <span class=\"cause\">refused: BSC capacity exceeded (06)</span></p>
-out -> <svg viewBox=\"0 0 4 10\" preserveAspectRatio=\"none\" role=\"img\"><title>2 0020: refused at slot 1 (0:00:01): BSC \
-capacity exceeded (06)</title>
+out -> <svg viewBox=\"0 0 4 10\" preserveAspectRatio=\"none\"><title>2 0020: refused at slot 1 (0:00:01)</title>
 out -> <path class=\"refusal\" d=\"M1 0v10\"/></svg></div>
 out -> <div class=\"line\"><p>Reserved load</p>
 out -> <svg class=\"loads\" viewBox=\"0 0 4 1008\" preserveAspectRatio=\"none\" role=\"img\"><title>Reserved load</title>
@@ -53,11 +51,11 @@ past is full.</p> -> yes
 out -> <details open id=\"c1-2\">
 out -> <summary><h2>Cell 1-2</h2> messages: 3, refused: 0, fullest: 100 % at 0:00:01</summary>
 past <b>4370 0010</b> <i>normal</i> <bdi>One</bdi> -> yes
-past <rect class=\"bar f5\" height=\"10\" x=\"0\" width=\"1\"/> -> yes
+past <rect class=\"f5\" x=\"0\" width=\"1\"/> -> yes
 past <b>4371 0020</b> <i>background</i> <bdi>Two</bdi> -> yes
-past <rect class=\"bar f5\" height=\"10\" x=\"0\" width=\"4\"/> -> yes
+past <rect class=\"f5\" x=\"0\" width=\"4\"/> -> yes
 past <i>normal</i> <bdi>&lt;script&gt;alert(&quot;1&quot;)&lt;/script&gt; &amp; &#39;so&#39;</bdi> -> yes
-past <rect class=\"bar f5\" height=\"10\" x=\"1\" width=\"3\"/> -> yes
+past <rect class=\"f5\" x=\"1\" width=\"3\"/> -> yes
 past d=\"M0 1008H0V504H1V0H2V504H4V1008z\" -> yes
 past </details> -> yes
 out -> </body>
@@ -72,7 +70,7 @@ in update,1,a,en,2,2,0,*,Three
 args chart --slots 8
 run -> 0
 past <bdi>Three</bdi> -> yes
-past <rect class=\"bar f5\" height=\"10\" x=\"4\" width=\"4\"/> -> yes
+past <rect class=\"f5\" x=\"4\" width=\"4\"/> -> yes
 past d=\"M0 1008H0V252H1V0H8V1008z\" -> yes
 past </html> -> yes
 
@@ -128,11 +126,11 @@ in write,0,d,4,0,4,en,2,64,0,*,Four
 in write,0,e,5,0,5,en,2,65,0,*,Five
 args chart --slots 640
 run -> 0
-past <rect class=\"bar f5\" height=\"10\" x=\"0\" width=\"640\"/> -> yes
-past <rect class=\"bar f4\" height=\"10\" x=\"0\" width=\"640\"/> -> yes
-past <rect class=\"bar f3\" height=\"10\" x=\"0\" width=\"640\"/> -> yes
-past <rect class=\"bar f2\" height=\"10\" x=\"0\" width=\"640\"/> -> yes
-past <rect class=\"bar f1\" height=\"10\" x=\"0\" width=\"640\"/> -> yes
+past <rect class=\"f5\" x=\"0\" width=\"640\"/> -> yes
+past <rect class=\"f4\" x=\"0\" width=\"640\"/> -> yes
+past <rect class=\"f3\" x=\"0\" width=\"640\"/> -> yes
+past <rect class=\"f2\" x=\"0\" width=\"640\"/> -> yes
+past <rect class=\"f1\" x=\"0\" width=\"640\"/> -> yes
 past </html> -> yes
 
 # a background alert that seldom finds a free slot is sent less often than its period says, or not at all
@@ -141,16 +139,16 @@ in write,0,a,1,0,1,en,2,1,60,*,One
 in write,0,b,2,0,2,en,1,8,0,*,Two
 args chart --slots 64
 run -> 0
-past <rect class=\"bar f5\" height=\"10\" x=\"0\" width=\"60\"/> -> yes
-past <rect class=\"bar f3\" height=\"10\" x=\"0\" width=\"64\"/> -> yes
+past <rect class=\"f5\" x=\"0\" width=\"60\"/> -> yes
+past <rect class=\"f3\" x=\"0\" width=\"64\"/> -> yes
 past </html> -> yes
 args chart --slots 60
 run -> 0
-past <rect class=\"bar f5\" height=\"10\" x=\"0\" width=\"60\"/> -> yes
+past <rect class=\"f5\" x=\"0\" width=\"60\"/> -> yes
 past <i>background</i> <small>not shown:</small> <bdi>Two</bdi></p> -> yes
-past <rect class=\"bar f1\" height=\"10\" x=\"0\" width=\"60\"/> -> yes
+past <rect class=\"f1\" x=\"0\" width=\"60\"/> -> yes
 out -> <path class=\"whole\" d=\"\"/>
-out -> <path class=\"shown\" d=\"\"/></svg></div>
+out -> <path d=\"\"/></svg></div>
 past </html> -> yes
 
 # what no phone shows has the text that it was to show: of two pages in UCS-2, the first of which alone is sent, and of
@@ -166,38 +164,49 @@ past is full.</p> -> yes
 out -> <details open id=\"c1-1\">
 past <b>1 0010</b> <i>normal</i> <small>not shown:</small> <bdi>Вода поднимается! Идите в школу на холме. &lt;Не ждите\
 &gt; &amp; &#39;бегите&#39;!</bdi></p> -> yes
-past every 4 slots, whole broadcasts: 0, not shown -> yes
-out -> Вода поднимается! Идите в школу на холме. &lt;Не ждите&gt; &amp; &#39;бегите&#39;!</title>
+past every 4, broadcasts: 0, not shown</title> -> yes
 past </html> -> yes
 args chart --slots 2
 run -> 0
 past <b>1 0010</b> <i>normal</i> <bdi>Вода поднимается -> yes
 past <b>2 0020</b> <i>normal</i> <small>not shown:</small> <bdi>Go up!</bdi></p> -> yes
-past every 4 slots, whole broadcasts: 0, not shown -> yes
-out -> Go up!</title>
+past every 4, broadcasts: 0, not shown</title> -> yes
 past <b>3 0030</b> <span class=\"cause\">refused: BSC capacity exceeded (06)</span></p> -> yes
-past refused at slot 1 (0:00:01): BSC capacity exceeded (06)</title> -> yes
+past refused at slot 1 (0:00:01)</title> -> yes
 past </html> -> yes
 
-# a mark for each of 400 broadcasts, and none for 401
+# marks a period of one slot apart are 4 px apart in 320 slots of 1,280 px, and closer in 321; those of three slots are
+# in 960 and 961
 in cell,1,1
 in write,0,a,1,0,1,en,0,1,0,*,One
-args chart --slots 400
+args chart --slots 320
 run -> 0
 past <i>high</i> <bdi>One</bdi> -> yes
-past <rect class=\"bar f5\" height=\"10\" x=\"0\" width=\"400\"/> -> yes
-past M398 0v10M399 0v10M400 0v10\"/> -> yes
+past <rect class=\"f5\" x=\"0\" width=\"320\"/> -> yes
+past M318 0v10M319 0v10M320 0v10\"/> -> yes
 past </html> -> yes
-args chart --slots 401
+args chart --slots 321
 run -> 0
-past <i>high</i> <small>401 broadcasts</small> <bdi>One</bdi> -> yes
-past <rect class=\"bar f5 many\" height=\"10\" x=\"0\" width=\"401\"/> -> yes
-out -> <path class=\"whole\" d=\"\"/>
-out -> <path class=\"shown\" d=\"M1 0v6\"/></svg></div>
+past <i>high</i> <small>321 broadcasts</small> <bdi>One</bdi> -> yes
+past <rect class=\"f5\" x=\"0\" width=\"321\"/> -> yes
+out -> <path d=\"M1 0v6\"/></svg></div>
+past </html> -> yes
+in cell,1,1
+in write,0,a,1,0,1,en,0,3,0,*,One
+args chart --slots 960
+run -> 0
+past <i>high</i> <bdi>One</bdi> -> yes
+past M952 0v10M955 0v10M958 0v10\"/> -> yes
+past </html> -> yes
+args chart --slots 961
+run -> 0
+past <i>high</i> <small>321 broadcasts</small> <bdi>One</bdi> -> yes
+past <rect class=\"f5\" x=\"0\" width=\"961\"/> -> yes
+out -> <path d=\"M1 0v6\"/></svg></div>
 past </html> -> yes
 
 # a slot lasts 24480/13 ms, so slot 1911 begins after 3,598.56 s, slot 1912 after 3,600.44 s and slot 65535 after
-# 123,407.4 s; a title has all of a text, which means nothing to the page
+# 123,407.4 s; what is said in place of marks is of one broadcast or of several
 in cell,1,1
 in write,1911,a,1,0,1,en,0,2,0,*,</title> & 'so'
 in write,1911,b,2,0,2,en,0,2,0,*,Two
@@ -206,14 +215,13 @@ args chart --slots 1912
 run -> 0
 past <p>A run of 1912 slots of 1.883 s, 1:00:00 (h:mm:ss).</p> -> yes
 past messages: 2, refused: 0, fullest: 50 % at 0:59:58</summary> -> yes
-past <title>1 0010: from slot 1911 (0:59:58) to slot 1912 (1:00:00), every 2 slots, whole broadcasts: 1, first shown \
-after slot 1911 (1:00:00) -> yes
-out -> &lt;/title&gt; &amp; &#39;so&#39;</title>
-past <path class=\"shown\" d=\"M1912 0v6\"/></svg></div> -> yes
-past <title>2 0020: from slot 1911 (0:59:58) to slot 1911 (0:59:58), every 2 slots, whole broadcasts: 0, not shown \
--> yes
-out -> Two</title>
-past <path class=\"shown\" d=\"\"/></svg></div> -> yes
+past <i>high</i> <small>1 broadcast</small> <bdi>&lt;/title&gt; &amp; &#39;so&#39;</bdi></p> -> yes
+past <title>1 0010: slots 1911 (0:59:58) to 1912 (1:00:00), every 2, broadcasts: 1, first shown after 1911 (1:00:00)\
+</title> -> yes
+past <path d=\"M1912 0v6\"/></svg></div> -> yes
+past <i>high</i> <small>0 broadcasts</small> <small>not shown:</small> <bdi>Two</bdi></p> -> yes
+past <title>2 0020: slots 1911 (0:59:58) to 1911 (0:59:58), every 2, broadcasts: 0, not shown</title> -> yes
+past <path d=\"\"/></svg></div> -> yes
 past <p class=\"axis\"> -> yes
 out -> <span style=\"--at:calc(100%*0.00/1912)\">0<br>0:00:00</span>
 out -> <span style=\"--at:calc(100%*955.88/1912)\">955<br>0:30:00</span>
@@ -280,45 +288,45 @@ in write,0,full,4371,0,2,en,2,1,0,*,A
 args chart --slots 1
 run -> 0
 past is full.</p> -> yes
-past <title>4351 0010: from slot 0 -> yes
-past <title>4352 0010 (ETWS: earthquake): from slot 0 -> yes
-past <title>4353 0010 (ETWS: tsunami): from slot 0 -> yes
-past <title>4354 0010 (ETWS: earthquake and tsunami): from slot 0 -> yes
-past <title>4355 0010 (ETWS: test): from slot 0 -> yes
-past <title>4356 0010 (ETWS: other): from slot 0 -> yes
-past <title>4357 0010: from slot 0 -> yes
-past <title>4369 0010: from slot 0 -> yes
-past <title>4370 0010 (EU-Alert level 1: presidential): from slot 0 -> yes
-past <title>4371 0010 (Level 2: extreme, immediate, observed): from slot 0 -> yes
-past <title>4372 0010 (Level 2: extreme, immediate, likely): from slot 0 -> yes
-past <title>4373 0010 (Level 3: extreme, expected, observed): from slot 0 -> yes
-past <title>4374 0010 (Level 3: extreme, expected, likely): from slot 0 -> yes
-past <title>4375 0010 (Level 3: severe, immediate, observed): from slot 0 -> yes
-past <title>4376 0010 (Level 3: severe, immediate, likely): from slot 0 -> yes
-past <title>4377 0010 (Level 3: severe, expected, observed): from slot 0 -> yes
-past <title>4378 0010 (Level 3: severe, expected, likely): from slot 0 -> yes
-past <title>4379 0010 (Child abduction: EU-Amber): from slot 0 -> yes
-past <title>4380 0010 (Test: monthly): from slot 0 -> yes
-past <title>4381 0010 (Exercise): from slot 0 -> yes
-past <title>4382 0010 (Operator's own use): from slot 0 -> yes
-past <title>4383 0010 (EU-Alert level 1: presidential, in an additional language): from slot 0 -> yes
-past <title>4384 0010 (Level 2: extreme, immediate, observed, in an additional language): from slot 0 -> yes
-past <title>4385 0010 (Level 2: extreme, immediate, likely, in an additional language): from slot 0 -> yes
-past <title>4386 0010 (Level 3: extreme, expected, observed, in an additional language): from slot 0 -> yes
-past <title>4387 0010 (Level 3: extreme, expected, likely, in an additional language): from slot 0 -> yes
-past <title>4388 0010 (Level 3: severe, immediate, observed, in an additional language): from slot 0 -> yes
-past <title>4389 0010 (Level 3: severe, immediate, likely, in an additional language): from slot 0 -> yes
-past <title>4390 0010 (Level 3: severe, expected, observed, in an additional language): from slot 0 -> yes
-past <title>4391 0010 (Level 3: severe, expected, likely, in an additional language): from slot 0 -> yes
-past <title>4392 0010 (Child abduction: EU-Amber, in an additional language): from slot 0 -> yes
-past <title>4393 0010 (Test: monthly, in an additional language): from slot 0 -> yes
-past <title>4394 0010 (Exercise, in an additional language): from slot 0 -> yes
-past <title>4395 0010 (Operator's own use, in an additional language): from slot 0 -> yes
-past <title>4396 0010 (Level 4: public safety, EU-Info): from slot 0 -> yes
-past <title>4397 0010 (Level 4: public safety, EU-Info, in an additional language): from slot 0 -> yes
-past <title>4398 0010 (Test: state or local): from slot 0 -> yes
-past <title>4399 0010 (Test: state or local, in an additional language): from slot 0 -> yes
-past <title>4400 0010: from slot 0 -> yes
+past <title>4351 0010: slots 0 -> yes
+past <title>4352 0010 (ETWS: earthquake): slots 0 -> yes
+past <title>4353 0010 (ETWS: tsunami): slots 0 -> yes
+past <title>4354 0010 (ETWS: earthquake and tsunami): slots 0 -> yes
+past <title>4355 0010 (ETWS: test): slots 0 -> yes
+past <title>4356 0010 (ETWS: other): slots 0 -> yes
+past <title>4357 0010: slots 0 -> yes
+past <title>4369 0010: slots 0 -> yes
+past <title>4370 0010 (EU-Alert level 1: presidential): slots 0 -> yes
+past <title>4371 0010 (Level 2: extreme, immediate, observed): slots 0 -> yes
+past <title>4372 0010 (Level 2: extreme, immediate, likely): slots 0 -> yes
+past <title>4373 0010 (Level 3: extreme, expected, observed): slots 0 -> yes
+past <title>4374 0010 (Level 3: extreme, expected, likely): slots 0 -> yes
+past <title>4375 0010 (Level 3: severe, immediate, observed): slots 0 -> yes
+past <title>4376 0010 (Level 3: severe, immediate, likely): slots 0 -> yes
+past <title>4377 0010 (Level 3: severe, expected, observed): slots 0 -> yes
+past <title>4378 0010 (Level 3: severe, expected, likely): slots 0 -> yes
+past <title>4379 0010 (Child abduction: EU-Amber): slots 0 -> yes
+past <title>4380 0010 (Test: monthly): slots 0 -> yes
+past <title>4381 0010 (Exercise): slots 0 -> yes
+past <title>4382 0010 (Operator's own use): slots 0 -> yes
+past <title>4383 0010 (EU-Alert level 1: presidential, in an additional language): slots 0 -> yes
+past <title>4384 0010 (Level 2: extreme, immediate, observed, in an additional language): slots 0 -> yes
+past <title>4385 0010 (Level 2: extreme, immediate, likely, in an additional language): slots 0 -> yes
+past <title>4386 0010 (Level 3: extreme, expected, observed, in an additional language): slots 0 -> yes
+past <title>4387 0010 (Level 3: extreme, expected, likely, in an additional language): slots 0 -> yes
+past <title>4388 0010 (Level 3: severe, immediate, observed, in an additional language): slots 0 -> yes
+past <title>4389 0010 (Level 3: severe, immediate, likely, in an additional language): slots 0 -> yes
+past <title>4390 0010 (Level 3: severe, expected, observed, in an additional language): slots 0 -> yes
+past <title>4391 0010 (Level 3: severe, expected, likely, in an additional language): slots 0 -> yes
+past <title>4392 0010 (Child abduction: EU-Amber, in an additional language): slots 0 -> yes
+past <title>4393 0010 (Test: monthly, in an additional language): slots 0 -> yes
+past <title>4394 0010 (Exercise, in an additional language): slots 0 -> yes
+past <title>4395 0010 (Operator's own use, in an additional language): slots 0 -> yes
+past <title>4396 0010 (Level 4: public safety, EU-Info): slots 0 -> yes
+past <title>4397 0010 (Level 4: public safety, EU-Info, in an additional language): slots 0 -> yes
+past <title>4398 0010 (Test: state or local): slots 0 -> yes
+past <title>4399 0010 (Test: state or local, in an additional language): slots 0 -> yes
+past <title>4400 0010: slots 0 -> yes
 past <title>4371 0020 (Level 2: extreme, immediate, observed): refused at slot 0 -> yes
 past </html> -> yes
 
@@ -332,21 +340,19 @@ in write,30,d,4,0,4,en,2,8,0,*,Four
 in write,40,e,5,0,5,en,2,1,0,*,Five
 args chart --slots 64 --from 10 --to 30
 run -> 0
-past <p>A run of 64 slots of 1.883 s, 0:02:00 (h:mm:ss). Drawn from slot 10 (0:00:18) to slot 30 (0:00:56), with all \
-marks.</p> -> yes
+past <p>A run of 64 slots of 1.883 s, 0:02:00 (h:mm:ss). Drawn from slot 10 (0:00:18) to slot 30 (0:00:56).</p> \
+-> yes
 past is full.</p> -> yes
 out -> <details open id=\"c1-1\">
 out -> <summary><h2>Cell 1-1</h2> messages: 1, refused: 1, fullest: 13 % at 0:00:18</summary>
 out -> <div class=\"line\"><p><b>1 0010</b> <i>normal</i> <bdi>One</bdi></p>
-out -> <svg viewBox=\"10 0 20 10\" preserveAspectRatio=\"none\" role=\"img\"><title>1 0010: from slot 0 (0:00:00) to slot 64 \
-(0:02:00), every 8 slots, whole broadcasts: 8, first shown after slot 0 (0:00:01)
-out -> One</title>
-out -> <rect class=\"bar f5\" height=\"10\" x=\"10\" width=\"20\"/>
+out -> <svg viewBox=\"10 0 20 10\" preserveAspectRatio=\"none\"><title>1 0010: slots 0 (0:00:00) to 64 (0:02:00), every 8, \
+broadcasts: 8, first shown after 0 (0:00:01)</title>
+out -> <rect class=\"f5\" x=\"10\" width=\"20\"/>
 out -> <path class=\"whole\" d=\"M17 0v10M25 0v10\"/>
-out -> <path class=\"shown\" d=\"\"/></svg></div>
+out -> <path d=\"\"/></svg></div>
 out -> <div class=\"line\"><p><b>3 0030</b> <span class=\"cause\">refused: BSC capacity exceeded (06)</span></p>
-out -> <svg viewBox=\"10 0 20 10\" preserveAspectRatio=\"none\" role=\"img\"><title>3 0030: refused at slot 12 (0:00:22): BSC \
-capacity exceeded (06)</title>
+out -> <svg viewBox=\"10 0 20 10\" preserveAspectRatio=\"none\"><title>3 0030: refused at slot 12 (0:00:22)</title>
 out -> <path class=\"refusal\" d=\"M12 0v10\"/></svg></div>
 out -> <div class=\"line\"><p>Reserved load</p>
 out -> <svg class=\"loads\" viewBox=\"10 0 20 1008\" preserveAspectRatio=\"none\" role=\"img\"><title>Reserved load</title>
@@ -363,19 +369,19 @@ out -> </html>
 # only one of the edges is given; what begins and ends at an edge has a line
 args chart --slots 64 --from 40
 run -> 0
-past Drawn from slot 40 (0:01:15) to slot 64 (0:02:00), with all marks.</p> -> yes
+past Drawn from slot 40 (0:01:15) to slot 64 (0:02:00).</p> -> yes
 past <summary><h2>Cell 1-1</h2> messages: 2, refused: 1, fullest: 25 % at 0:01:15</summary> -> yes
 past <path class=\"whole\" d=\"M41 0v10M49 0v10M57 0v10\"/> -> yes
-past <rect class=\"bar f5\" height=\"10\" x=\"40\" width=\"24\"/> -> yes
+past <rect class=\"f5\" x=\"40\" width=\"24\"/> -> yes
 past <path class=\"refusal\" d=\"M40 0v10\"/></svg></div> -> yes
 past </html> -> yes
 args chart --slots 64 --to 1
 run -> 0
-past Drawn from slot 0 (0:00:00) to slot 1 (0:00:01), with all marks.</p> -> yes
+past Drawn from slot 0 (0:00:00) to slot 1 (0:00:01).</p> -> yes
 past <summary><h2>Cell 1-1</h2> messages: 2, refused: 0, fullest: 25 % at 0:00:00</summary> -> yes
-past <rect class=\"bar f5\" height=\"10\" x=\"0\" width=\"1\"/> -> yes
+past <rect class=\"f5\" x=\"0\" width=\"1\"/> -> yes
 out -> <path class=\"whole\" d=\"M1 0v10\"/>
-out -> <path class=\"shown\" d=\"M1 0v6\"/></svg></div>
+out -> <path d=\"M1 0v6\"/></svg></div>
 past <path class=\"whole\" d=\"\"/> -> yes
 past </html> -> yes
 args chart --slots 64 --from 11 --to 11
@@ -399,15 +405,82 @@ run -> 3
 err -> warnc: write failed
 out -> <!DOCTYPE html>
 
-# in a part there is a mark for each broadcast, also of more than 400
+# in a part there are marks, or the number of the broadcasts that are whole in it
 in cell,1,1
 in write,0,a,1,0,1,en,0,1,0,*,One
 args chart --slots 1000 --from 100 --to 601
 run -> 0
-past <i>high</i> <bdi>One</bdi> -> yes
-past <rect class=\"bar f5\" height=\"10\" x=\"100\" width=\"501\"/> -> yes
-past M600 0v10M601 0v10\"/> -> yes
+past <i>high</i> <small>501 broadcasts</small> <bdi>One</bdi> -> yes
+past broadcasts: 1000, -> yes
+past <rect class=\"f5\" x=\"100\" width=\"501\"/> -> yes
+out -> <path d=\"\"/></svg></div>
 past </html> -> yes
+args chart --slots 1000 --from 100 --to 420
+run -> 0
+past <i>high</i> <bdi>One</bdi> -> yes
+past <rect class=\"f5\" x=\"100\" width=\"320\"/> -> yes
+past M418 0v10M419 0v10M420 0v10\"/> -> yes
+past </html> -> yes
+
+# a page in German, of a part, with a strip for each of two sections: a message that phones show, one that none shows,
+# and an order that is refused
+in cell,1,1
+in cell,1,2
+in cell,1,3
+in write,0,a,4371,0,1,en,0,8,0,1-1 1-2,One
+in write,0,b,4382,0,2,en,1,8,0,1-1 1-2,Two
+in stop,0,b,1-1 1-2
+in write,2,c,4394,0,3,en,2,1,0,1-1 1-2,Three
+args chart --slots 64 --to 62 --lang de
+run -> 0
+out -> <!DOCTYPE html>
+out -> <html lang=\"de\">
+past <title>Warnungen nach Zelle</title> -> yes
+past <h1>Warnungen nach Zelle</h1> -> yes
+out -> <p>Ein Lauf von 64 Slots (Zeitschlitzen) zu 1,883 s, 0:02:00 (h:mm:ss). Gezeichnet von Slot 0 (0:00:00) bis \
+Slot 62 (0:01:56).</p>
+past Am roten Rand ist sie voll.</p> -> yes
+out -> <nav aria-label=\"Zellen\">
+out -> <a href=\"#c1-1\"><b>1-1 und 1 weitere</b>
+out -> <svg class=\"loads\" viewBox=\"0 0 62 1008\" preserveAspectRatio=\"none\" role=\"img\"><title>Reservierte Last</title>
+out -> <path class=\"load\" d=\"M0 1008H0V882H62V1008z\"/></svg>
+out -> <i>13 % um 0:00:00, abgelehnt: 1</i></a>
+past </nav> -> yes
+out -> <details open id=\"c1-1\">
+out -> <summary><h2>Zellen 1-1 bis 1-2, 2 Zellen</h2> Nachrichten: 2, abgelehnt: 1, Spitze: 13 % um 0:00:00</summary>
+out -> <div class=\"line\"><p><b>4371 0010</b> <i>hoch</i> <bdi>One</bdi></p>
+out -> <svg viewBox=\"0 0 62 10\" preserveAspectRatio=\"none\"><title>4371 0010 (Stufe 2: extrem, unmittelbar, beobachtet): \
+Slots 0 (0:00:00) bis 64 (0:02:00), alle 8, Aussendungen: 8, zuerst gezeigt nach 0 (0:00:01)</title>
+past <i>Hintergrund</i> <small>nicht gezeigt:</small> <bdi>Two</bdi></p> -> yes
+past <title>4382 0020 (Eigener Gebrauch des Betreibers): Slots 0 (0:00:00) bis 0 (0:00:00), alle 8, Aussendungen: 0, \
+nicht gezeigt</title> -> yes
+past <span class=\"cause\">abgelehnt: kein Platz mehr in der Zelle (06)</span></p> -> yes
+past <title>4394 0030 (Übung, in weiterer Sprache): abgelehnt bei Slot 2 (0:00:03)</title> -> yes
+out -> <path class=\"refusal\" d=\"M2 0v10\"/></svg></div>
+out -> <div class=\"line\"><p>Reservierte Last</p>
+past <div class=\"line\"><p>Slot, Zeit</p><p class=\"axis\"> -> yes
+past <summary><h2>Zelle 1-3</h2> Nachrichten: 0, abgelehnt: 0, Spitze: 0 % um 0:00:00</summary> -> yes
+past </html> -> yes
+# one slot, and one broadcast among several slots
+in cell,1,1
+in write,2000,a,1,0,1,en,2,1,1,*,One
+args chart --slots 1 --lang=de
+run -> 0
+past Ein Lauf von 1 Slot (Zeitschlitz) zu 1,883 s, 0:00:01 (h:mm:ss).</p> -> yes
+past </html> -> yes
+args chart --lang de --slots 2001
+run -> 0
+past <i>normal</i> <small>1 Aussendung</small> <bdi>One</bdi></p> -> yes
+past bis 2001 (1:02:48), in jedem Slot, Aussendungen: 1, -> yes
+past </html> -> yes
+args chart --slots 1 --lang en
+run -> 0
+past <html lang=\"en\"> -> yes
+past </html> -> yes
+args chart --slots 1 --lang fr
+usage -> 2 error:
+args chart --slots 1 --lang
+usage -> 2 error:
 
 # cells that look the same in a part have one section there
 in cell,1,1
@@ -473,5 +546,5 @@ usage -> 2 error:
 
 #[test]
 fn books_give_charts(rt: HostRuntime) -> Result<(), Fail> {
-    expect_rows(&rt, CHART, 419)
+    expect_rows(&rt, CHART, 487)
 }

@@ -91,10 +91,10 @@ past <summary><h2>Cell 1-64</h2> messages: 1, refused: 0, fullest: 50 % at 0:00:
 past </html> -> yes
 args chart --slots 2 --network --from 1
 run -> 0
-past Drawn from slot 1 (0:00:01) to slot 2 (0:00:03), with all marks.</p> -> yes
+past Drawn from slot 1 (0:00:01) to slot 2 (0:00:03).</p> -> yes
 past <summary><h2>Cell 1-0</h2> messages: 1, refused: 0, fullest: 50 % at 0:00:01</summary> -> yes
 past <summary><h2>Cell 1-64</h2> messages: 1, refused: 0, fullest: 50 % at 0:00:01</summary> -> yes
-past <rect class=\"bar f5\" height=\"10\" x=\"1\" width=\"1\"/> -> yes
+past <rect class=\"f5\" x=\"1\" width=\"1\"/> -> yes
 past </html> -> yes
 args chart --slots 2 --group 1
 run -> 0
