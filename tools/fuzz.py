@@ -46,6 +46,7 @@ that signal is the system's answer to who sets such a bound, and no document spe
 import argparse
 import csv
 import dataclasses
+import datetime
 import fcntl
 import html.parser
 import io
@@ -133,6 +134,9 @@ SENDER = re.compile(rb"(?:(?:25[0-5]|2[0-4]\d|1?\d?\d)(?:\.(?!,)|,)){4}\d+,(?:cb
                     rb"(?:,\d+,\d+,(?:\d+(?: \d+)*)?|,,,)(?:,(?:\d+\.\d{9})?){2}")
 # what captures begin with: the magic numbers of the classic format in both orders, and the type of pcapng
 MAGICS = tuple(map(bytes.fromhex, ("A1B2C3D4", "D4C3B2A1", "A1B23C4D", "4D3CB2A1", "0A0D0D0A")))
+STARTS = ("1970-01-01T00:00:00Z", "2026-11-28T20:00:00.5+01:00", "2099-12-31T23:59:58.116923Z",
+          "2105-12-31T23:59:59.999999Z")
+EPOCH = datetime.datetime(1970, 1, 1, tzinfo=datetime.timezone.utc)
 REPORT_ROW = re.compile(rb"\d+,\d+,\d+,[0-9a-f]{4},\d+,\d+,\d+,(?:yes|no|refused [0-9a-f]{2})")
 REPORT_MORE = re.compile(rb"(?:\d*,\d+,\d+,\d+|,,,),[A-Za-z ]*")
 
@@ -178,6 +182,15 @@ class Run:
             if word.startswith(name + "="):
                 return int(word[len(name) + 1:])
         return otherwise
+
+    def value(self, name):
+        """Returns the value that the words give an option, or None."""
+        for place, word in enumerate(self.words):
+            if word == name:
+                return self.words[place + 1]
+            if word.startswith(name + "="):
+                return word[len(name) + 1:]
+        return None
 
     def threads(self):
         return max(self.number("--workers", 1), self.number("--sessions", 1)) + 8 if self.wanted == "run" else 1
@@ -385,14 +398,37 @@ def is_tapes(run, out):
     return True
 
 
+def slot_time(start, slot):
+    """Returns the time at which a slot begins, of 8 multiframes of 51 frames of 120/26 ms, where slot 0 begins at
+    START."""
+    start = (datetime.datetime.fromisoformat(start) - EPOCH) // datetime.timedelta(microseconds=1)
+    time = EPOCH + datetime.timedelta(milliseconds=(13 * start + 24_480_000 * slot) // 13_000)
+    return f"{time:%Y-%m-%dT%H:%M:%S}.{time.microsecond // 1000:03}Z".encode()
+
+
+def has_times(start, row, times):
+    """Whether a row of a report has these times behind it, the third that of the first showing."""
+    fields = row.split(b",")
+    shown = [slot_time(start, int(fields[8]) + 1) if fields[8] else b""] if len(times) > 2 else []
+    return times == [slot_time(start, int(it)) for it in fields[4:6]] + shown
+
+
 def is_report(run, out):
-    """Whether an output is a report, full if the options ask for it."""
-    names, row = b"lac,ci,id,serial,start,end,completed,shown", REPORT_ROW
-    if "--full" in run.words:
-        names, row = names + b",first_shown,pages,period,share,cause", re.compile(
+    """Whether an output is a report, full and with times if the options ask for it."""
+    names, form = b"lac,ci,id,serial,start,end,completed,shown", REPORT_ROW
+    is_full, start = "--full" in run.words, run.value("--start")
+    if is_full:
+        names, form = names + b",first_shown,pages,period,share,cause", re.compile(
             REPORT_ROW.pattern + b"," + REPORT_MORE.pattern)
     rows = out.split(b"\n")
-    return rows[0] == names and rows[-1] == b"" and len(rows) > 1 and all(map(row.fullmatch, rows[1:-1]))
+    heading, *rows, last = rows if len(rows) > 1 else (rows[0], b"lacks a line feed")
+    if start is not None:
+        names += b",start_time,end_time" + b",first_shown_time" * is_full
+        split = [it.rsplit(b",", 2 + is_full) for it in rows]
+        if not all(form.fullmatch(row) and has_times(start, row, times) for row, *times in split):
+            return False
+        rows = [row for row, *_ in split]
+    return heading == names and last == b"" and all(map(form.fullmatch, rows))
 
 
 def table_in(out):
@@ -1250,6 +1286,8 @@ def book_options(chance, command, book):
         options["--lang"] = chance.choice(("en", "de"))
     if command == "report" and chance.random() < 0.3:
         options["--full"] = None
+    if command == "report" and chance.random() < 0.3:
+        options["--start"] = chance.choice(STARTS)
     return options
 
 
@@ -1277,7 +1315,7 @@ def tape_options(chance, command):
     if command == "pcap" and chance.random() < 0.5:
         options["--channel"] = chance.choice(("51", "52"))
     if command == "pcap" and chance.random() < 0.5:
-        options["--start"] = chance.choice(("1970-01-01T00:00:00Z", "2026-11-28T20:00:00.5+01:00"))
+        options["--start"] = chance.choice(STARTS)
     return options
 
 

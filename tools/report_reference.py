@@ -1,7 +1,8 @@
 #!/usr/bin/env python3
 """Judges full reports of random books, as docs/formats.md says what their columns are: a second program against which
-`warnc report --full` is compared. Whether a cell accepted an order, and from when to when, it takes from the plain
-report; which order a line is of it finds by the book, and when a phone shows a message by the tapes.
+`warnc report --full` is compared, and with `--start` the times of both reports. Whether a cell accepted an order, and
+from when to when, it takes from the plain report; which order a line is of it finds by the book, and when a phone shows
+a message by the tapes.
 
 Usage: report_reference.py PROGRAM [RUNS]    random books, some of which give two names the same identifier, scope and
                                              code; one group of a network, or all, in some runs. PROGRAM is a built
@@ -9,9 +10,12 @@ Usage: report_reference.py PROGRAM [RUNS]    random books, some of which give tw
 """
 import csv
 import io
+import math
 import random
 import subprocess
 import sys
+from datetime import datetime, timedelta, timezone
+from fractions import Fraction
 
 import books
 import gsm
@@ -19,6 +23,12 @@ from random_runs import judged
 
 PLAIN = "lac,ci,id,serial,start,end,completed,shown".split(",")
 MORE = "first_shown,pages,period,share,cause".split(",")
+TIMES, SHOWN_TIME = ["start_time", "end_time"], "first_shown_time"
+EPOCH = datetime(1970, 1, 1, tzinfo=timezone.utc)
+# 2106-01-01T00:00:00Z, in microseconds from then
+END = (datetime(2106, 1, 1, tzinfo=timezone.utc) - EPOCH) // timedelta(microseconds=1)
+# milliseconds: 8 multiframes of 51 frames of 120/26 ms
+SLOT = Fraction(8 * 51 * 120, 26)
 # 3GPP TS 48.049, 8.2, Cause, as far as a cell refuses an order with it
 CAUSES = {0x02: "message reference not identified", 0x06: "BSC capacity exceeded", 0x07: "cell memory exceeded",
           0x08: "BSC memory exceeded", 0x0A: "cell broadcast not operational", 0x0D: "message reference already used"}
@@ -113,6 +123,34 @@ def full_lines(lines, cell, orders, blocks, slots):
         raise Wrong(f"lines of no order: {lines.left}")
 
 
+def random_start(rng):
+    """Returns a start in microseconds, and how it may be written: in some zone, also with nanoseconds, which are
+    cut."""
+    start = rng.choice((rng.randrange(END), rng.randrange(END // 10**6) * 10**6, 0, END - 1))
+    ahead = timedelta(minutes=rng.choice((0, 0, 60, -570, rng.randrange(-1439, 1440))))
+    written = (EPOCH + timedelta(microseconds=start) + ahead).replace(tzinfo=None)
+    sign, minutes = "-" if ahead < timedelta() else "+", abs(ahead) // timedelta(minutes=1)
+    zone = "Z" if not minutes else f"{sign}{minutes // 60:02}:{minutes % 60:02}"
+    return start, f"{written:%Y-%m-%dT%H:%M:%S}.{written.microsecond:06}{rng.choice(('', '000', '999'))}{zone}"
+
+
+def time_of(start, slot):
+    """Returns the time at which a slot begins, where slot 0 begins so many microseconds after 1970."""
+    time = EPOCH + timedelta(milliseconds=math.floor(Fraction(start, 1000) + slot * SLOT))
+    return f"{time:%Y-%m-%dT%H:%M:%S}.{time.microsecond // 1000:03}Z"
+
+
+def timed(rows, start):
+    """Returns a report with times, by the one without."""
+    names, *lines = rows
+    is_full = len(names) > len(PLAIN)
+    wanted = [names + TIMES + [SHOWN_TIME] * is_full]
+    for line in lines:
+        shown = [time_of(start, int(line[8]) + 1) if line[8] else ""] if is_full else []
+        wanted.append(line + [time_of(start, int(it)) for it in line[4:6]] + shown)
+    return wanted
+
+
 def run(program, words, octets):
     return subprocess.run([program, *words], input=octets, capture_output=True, check=False)
 
@@ -127,10 +165,12 @@ def differs(program, seed):
     text, cells, orders = random_book(rng)
     slots = rng.randrange(1, 60)
     options = ["--slots", str(slots), *rng.choice(([], [], ["--group", "0"], ["--network"], ["--workers", "3"]))]
-    plain, full, tapes = (run(program, words, text.encode()) for words in (
-        ["report", *options], ["report", "--full", *options], ["compile", *options]))
-    if any((it.returncode, it.stderr) != (0, b"") for it in (plain, full, tapes)):
-        print(f"report_reference: run {seed}: {options}: {plain.stderr} {full.stderr} {tapes.stderr}")
+    start, time = random_start(rng)
+    plain, full, tapes, *with_times = ran = [run(program, words, text.encode()) for words in (
+        ["report", *options], ["report", "--full", *options], ["compile", *options],
+        ["report", "--start", time, *options], ["report", "--full", *options, f"--start={time}"])]
+    if any((it.returncode, it.stderr) != (0, b"") for it in ran):
+        print(f"report_reference: run {seed}: {options}: {[it.stderr for it in ran]}")
         return True
     names, *lines = table(plain.stdout)
     try:
@@ -141,6 +181,10 @@ def differs(program, seed):
     except Wrong as why:
         wanted = [[str(why)]]
     found = table(full.stdout)
+    times = [table(it.stdout) for it in with_times]
+    if times != [timed(it, start) for it in ([names, *lines], found)]:
+        print(f"report_reference: run {seed}: {options}: {time}: other times {times}")
+        return True
     if names == PLAIN and found == wanted and [it[:len(PLAIN)] for it in found] == [names, *lines]:
         return False
     print(f"report_reference: run {seed}: {options}: wanted {wanted}, but it was {found}")

@@ -36,7 +36,7 @@ _warnc() {
             check) words="--slots --strict -h --help" ;;
             texts) words="--pages -h --help" ;;
             compile) words="--slots --group --network --workers -h --help" ;;
-            report) words="--slots --group --network --full --workers -h --help" ;;
+            report) words="--slots --group --network --full --start --workers -h --help" ;;
             chart) words="--slots --group --network --cell --from --to --lang --workers -h --help" ;;
             read) words="--short -h --help" ;;
             verify) words="--book --slots --short --explain --group --workers -h --help" ;;

@@ -34,6 +34,7 @@ complete -c warnc -n '__fish_seen_subcommand_from report' -x -l slots -d 'How ma
 complete -c warnc -n '__fish_seen_subcommand_from report' -x -l group -d 'Takes the book for a network book, and of it the group of this number, 0 to 65535'
 complete -c warnc -n '__fish_seen_subcommand_from report' -l network -d 'Takes the book for a network book, and writes what --group writes of each of its groups, in order'
 complete -c warnc -n '__fish_seen_subcommand_from report' -l full -d 'Adds columns'
+complete -c warnc -n '__fish_seen_subcommand_from report' -x -l start -d 'When slot 0 begins, as 2026-11-28T20:00:00Z'
 complete -c warnc -n '__fish_seen_subcommand_from report' -x -l workers -d 'How many workers play cells and make tapes, or run groups, side by side, 1 to 64'
 complete -c warnc -n '__fish_seen_subcommand_from chart' -x -l slots -d 'How many slots each cell\'s run has, 1 to 65535, each 1.883 s'
 complete -c warnc -n '__fish_seen_subcommand_from chart' -x -l group -d 'Takes the book for a network book, and of it the group of this number, 0 to 65535'

@@ -38,7 +38,7 @@ plain-rows start (r ∷ rows) =
     flat_map-cons row_line r rows
     ∙ ap (λ (xs : List ℕ). row_line r ++ xs) (plain-rows start rows)
     ∙ sym (flat_map-cons line (take 8 (fields columns.Plain start r))
-        (map (take 8) (map (fields columns.Plain start) rows)))
+    (map (take 8) (map (fields columns.Plain start) rows)))
 
 full-rows : (start : Start) (rows : List Row) →
     flat_map full_line rows ≡ flat_map line (map (take 13) (map (fields columns.Full start) rows))
@@ -47,7 +47,7 @@ full-rows start (r ∷ rows) =
     flat_map-cons full_line r rows
     ∙ ap (λ (xs : List ℕ). full_line r ++ xs) (full-rows start rows)
     ∙ sym (flat_map-cons line (take 13 (fields columns.Full start r))
-        (map (take 13) (map (fields columns.Full start) rows)))
+    (map (take 13) (map (fields columns.Full start) rows)))
 
 untimed-is : (wanted : Columns) (start : Start) (headed : Bool) (rows : List Row) →
     untimed_part_text wanted headed rows

@@ -36,9 +36,9 @@ year_from-at zero passed year day rest few early same =
 year_from-at (suc k) zero year day rest few early same = absurd (omega arith)
 year_from-at (suc k) (suc passed) year day rest few early same =
     let next = day_count-next_year (pos year) (pos (year + 1)) (omega (arith, signed_arith))
-        (omega (arith, signed_arith)) in
+    (omega (arith, signed_arith)) in
     let later = day_count-later_year (pos year) (pos (suc k + year)) (omega (arith, signed_arith))
-        (omega (arith, signed_arith)) in
+    (omega (arith, signed_arith)) in
     let far : k + (year + 1) ≡ suc k + year = omega arith in
     passed-over passed year day (omega arith)
     ∙ rw far at (year_from-at k passed (year + 1) (day - days_in_year (pos year)) rest (omega arith) (rw far early)

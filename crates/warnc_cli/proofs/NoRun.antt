@@ -19,7 +19,7 @@ use Rattle.warnc_run.specs.Engine.{IsOutputFault}
 use Rattle.warnc_run.specs.Faults.{HasReadFrom, IsDeskFault, IsOfProduct, IsRunFault}
 use Rattle.warnc_run.specs.Groups.{IsGroupsFault}
 use Rattle.warnc_run.specs.Network.{HasNoPart}
-use Rattle.warnc_run.specs.Products.{IsOutput}
+use Rattle.warnc_run.specs.Products.{IsOutput, untimed}
 use Rattle.warnc_run.specs.Records.{IsRecordsFault}
 use Rattle.warnc_run.specs.declared.fault.RunFault.{RunFault}
 use Rattle.warnc_run.specs.declared.fault.RunFault.TheVariants as run
@@ -141,7 +141,8 @@ pub no_records : (from : Origin) (slots : ℕ) (book : List ℕ) (last : Option 
     → status_of_run_fault f ≡ 1
     → IsNoRun from slots 1 book
 no_records from slots book last f why is =
-    no_run_here from slots 1 (λ input output. ⊥) book last None None (product.Report columns.Plain) f why.0 why.1 is
+    no_run_here from slots 1 (λ input output. ⊥) book last None None (product.Report (untimed columns.Plain)) f why.0
+    why.1 is
 
 -- a group that has no part, for another reason than memory, has a book whose run ended early
 stopped_group : (slots parts group : ℕ) (book input : List ℕ) (f : RunFault)

@@ -18,7 +18,7 @@ use Rattle.warnc_run.specs.declared.fault.RunFault.{RunFault}
 use Rattle.warnc_run.specs.declared.fault.RunFault.TheVariants as run
 use Rattle.warnc_run.specs.declared.product.Product.TheVariants as product
 use Rattle.warnc_run.specs.Faults.{IsOfProduct, IsWriteFault}
-use Rattle.warnc_run.specs.Products.{RunOf}
+use Rattle.warnc_run.specs.Products.{RunOf, untimed}
 use Rattle.warnc_run.specs.Records.{IsRecordsFault}
 use Rattle.warnc_verify.specs.Verified.{DiffersBy, FindsAndWrites, HasDifferences, HasWritten}
 use Rattle.warnc_verify.specs.Verified.{IsDifference, IsOfBookOrRun, IsVerified, IsVerifyFault, Readers}
@@ -218,7 +218,7 @@ run_status : (from : Origin) (slots : ℕ) (first last : Option (List ℕ)) (f :
     → (f ≡ run.Book unread) ⊎ OneOrFour (status_of_run_fault f)
 run_status from slots first last f is = by_kind (run_kind f)
   where
-    no_writer : (f : RunFault) → IsOfProduct f (product.Report columns.Plain) → IsWriteFault f → ⊥
+    no_writer : (f : RunFault) → IsOfProduct f (product.Report (untimed columns.Plain)) → IsWriteFault f → ⊥
     no_writer (run.Write failed) of write = of
     no_writer (run.Book f) of write = write
     no_writer (run.NoGroup groups) of write = write

@@ -17,10 +17,12 @@ use Rattle.device_ends.specs.Stream.{Writes}
 use Rattle.device_ends.specs.declared.reading.Source.{Source}
 use Rattle.device_ends.specs.declared.writing.Sink.{Sink}
 use Rattle.parallel_compile.specs.declared.fault.CompileFault.TheVariants as compile
-use Rattle.report.specs.ReportText.{text_with}
+use Rattle.report.specs.ReportText.{text_by, text_with}
 use Rattle.report.specs.declared.row.Columns.{Columns}
 use Rattle.report.specs.declared.row.Columns.TheVariants as columns
+use Rattle.report.specs.declared.row.Layout.{Layout}
 use Rattle.report.specs.declared.row.Row.{Row}
+use Rattle.slot_times.specs.declared.start.Start.{Start}
 use Rattle.warnc_run.specs.Engine.{IsEngineAtEnds, IsMadeBy, IsOfWriter, IsOutputFault, IsProductOf}
 use Rattle.warnc_run.specs.Engine.{MayBeWritten}
 use Rattle.warnc_run.specs.Faults.{IsWriteFault}
@@ -65,16 +67,21 @@ written_of Means (Some book) last old new makes = record {
 }
 
 -- the line of names over a report
-some_report : (c : Columns) (rows : List Row) → 0 < length (text_with c true rows)
-some_report columns.Plain rows = omega arith
-some_report columns.Full rows = omega arith
+some_text : (c : Columns) (start : Option Start) (rows : List Row) → 0 < length (text_by c start true rows)
+some_text columns.Plain None rows = omega arith
+some_text columns.Full None rows = omega arith
+some_text columns.Plain (Some start) rows = omega arith
+some_text columns.Full (Some start) rows = omega arith
+
+some_report : (layout : Layout) (rows : List Row) → 0 < length (text_with layout true rows)
+some_report layout rows = some_text layout.columns layout.start rows
 
 -- what is made of a book, or the part of a first group, that isn't tapes has octets
 some_of_group : (made : Product) (slots groups : ℕ) (records : List Record)
     → made ≢ product.Tapes
     → 0 < length (octets_of_group made slots groups 0 records)
 some_of_group product.Tapes slots groups records text = absurd (text refl)
-some_of_group (product.Report c) slots groups records text = some_report c (own_rows records)
+some_of_group (product.Report layout) slots groups records text = some_report layout (own_rows records)
 some_of_group (product.Chart wanted) slots groups records text = some_part slots _ wanted records _
 
 some_of_book : (b : Books) (made : Product) (slots parts : ℕ) (input output : List ℕ)
@@ -83,12 +90,12 @@ some_of_book : (b : Books) (made : Product) (slots parts : ℕ) (input output : 
     → AlwaysWrites (task.Make r made)
     → 0 < length output
 some_of_book (books.One origin.Book) product.Tapes slots parts input output is r same always = absurd always
-some_of_book (books.One origin.Book) (product.Report c) slots parts input output is r same always =
-    subst (λ (octets : List ℕ). 0 < length octets) (sym is.written) (some_report c (own_rows is.records))
+some_of_book (books.One origin.Book) (product.Report layout) slots parts input output is r same always =
+    subst (λ (octets : List ℕ). 0 < length octets) (sym is.written) (some_report layout (own_rows is.records))
 some_of_book (books.One origin.Book) (product.Chart wanted) slots parts input output is r same always =
     subst (λ (octets : List ℕ). 0 < length octets) (sym is.written) (some_chart slots wanted is.records _)
 some_of_book (books.One (origin.Group group)) product.Tapes slots parts input output is r same always = absurd always
-some_of_book (books.One (origin.Group group)) (product.Report c) slots parts input output is r same always =
+some_of_book (books.One (origin.Group group)) (product.Report layout) slots parts input output is r same always =
     absurd (subst IsHeaded same always)
 some_of_book (books.One (origin.Group group)) (product.Chart wanted) slots parts input output is r same always =
     subst (λ (octets : List ℕ). 0 < length octets) (sym is.written) (some_chart slots wanted is.records _)

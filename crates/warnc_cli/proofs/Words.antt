@@ -99,7 +99,7 @@ pub writes_some : (words : List (List ℕ)) (t : Task) → IsTaskOf words t
     → AlwaysWrites t
 writes_some words (task.Make run product.Tapes) asked compile live whole plan report =
     absurd (of_tapes words run.sessions.number asked.made_given compile live)
-writes_some words (task.Make run (product.Report columns)) asked compile live whole plan report =
+writes_some words (task.Make run (product.Report layout)) asked compile live whole plan report =
     headed words run.books asked.books_given (report asked.made_given.0)
 writes_some words (task.Make run (product.Chart wanted)) asked compile live whole plan report = tt
 writes_some words (task.Verify from slots pages told file workers) asked compile live whole plan report = tt

@@ -30,6 +30,7 @@ use Rattle.report.specs.declared.row.Columns.{Columns}
 use Rattle.report.specs.declared.row.Columns.TheVariants.{Full, Plain}
 use Rattle.short_pages.specs.declared.pages.Pages.{Pages}
 use Rattle.short_pages.specs.declared.pages.Pages.TheVariants.{OfAny, OfFour}
+use Rattle.slot_times.specs.declared.start.Start.{Start as SlotStart}
 use Rattle.verification.specs.declared.detail.Detail.{Detail}
 use Rattle.verification.specs.declared.detail.Detail.TheVariants as detail
 use Rattle.warnc_air.specs.declared.all.AllWanted.{AllWanted}
@@ -134,6 +135,18 @@ abbrev pub GivesStart : (words : List (List ℕ)) → Start → Type 0
 GivesStart words start =
     ((text : List ℕ) × GivesValue words (codes "--start") text × IsClockTime text start)
     ⊎ ((is_given words (codes "--start") ≡ false) × (start ≡ record { second = 0; microsecond = 0 }))
+
+-- a text writes the time at which slot 0 begins, in the same way
+pub record IsSlotStart (text : List ℕ) (start : SlotStart) : Type 0 where
+  pub nanoseconds : ℤ
+  pub read : parse_timestamp text ≡ Ok nanoseconds
+  pub cut : int_div nanoseconds (pos 1000) ≡ pos start.microseconds
+
+-- the words say when slot 0 begins, from 1970 to 2105, or no word begins with the option's name
+abbrev pub GivesSlotStart : (words : List (List ℕ)) → Option SlotStart → Type 0
+GivesSlotStart words None = is_given words (codes "--start") ≡ false
+GivesSlotStart words (Some start) =
+    (text : List ℕ) × GivesValue words (codes "--start") text × IsSlotStart text start
 
 -- the words ask for `pcap`
 pub record AsksForPcap (words : List (List ℕ)) (settings : Settings) : Type 0 where
@@ -301,8 +314,9 @@ abbrev pub GivesProduct : (words : List (List ℕ)) → Product → (sessions : 
 GivesProduct words product.Tapes sessions =
     ((slice_get words 1 ≡ Some (codes "compile")) × (sessions ≡ 1))
     ⊎ ((slice_get words 1 ≡ Some (codes "live")) × GivesThreads words (codes "--sessions") sessions)
-GivesProduct words (product.Report columns) sessions =
-    (slice_get words 1 ≡ Some (codes "report")) × (sessions ≡ 1) × (columns ≡ columns_given words)
+GivesProduct words (product.Report layout) sessions =
+    (slice_get words 1 ≡ Some (codes "report")) × (sessions ≡ 1) × (layout.columns ≡ columns_given words)
+    × GivesSlotStart words layout.start
 GivesProduct words (product.Chart view) sessions =
     (slice_get words 1 ≡ Some (codes "chart")) × (sessions ≡ 1) × GivesView words view
 

@@ -120,7 +120,7 @@ IsHeaded other = ⊤
 -- none, and the report of a later group has no line of the columns' names
 abbrev pub AlwaysWrites : Task → Type 0
 AlwaysWrites (task.Make run product.Tapes) = ⊥
-AlwaysWrites (task.Make run (product.Report columns)) = IsHeaded run.books
+AlwaysWrites (task.Make run (product.Report layout)) = IsHeaded run.books
 AlwaysWrites task.Whole = ⊥
 AlwaysWrites task.Plan = ⊥
 AlwaysWrites other = ⊤

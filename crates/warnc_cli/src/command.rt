@@ -5,13 +5,13 @@ ghost use Rattle.std.specs.Prelude.{slice_get};
 ghost use Rattle.warnc_cli.specs.CommandLine.{asks_for_text, begins_with, is_given, is_text_word, GivesNumber};
 ghost use Rattle.warnc_cli.specs.CommandLine.{GivesChannel, GivesChannelType, GivesSlots, GivesThreads, GivesValue};
 ghost use Rattle.warnc_cli.specs.CommandLine.{GivesArfcn, GivesCell, GivesEdge, GivesFile, GivesFirstSlot, GivesFrom};
-ghost use Rattle.warnc_cli.specs.CommandLine.{GivesLanguage, GivesPart, GivesView, GivesWanted};
+ghost use Rattle.warnc_cli.specs.CommandLine.{GivesLanguage, GivesPart, GivesSlotStart, GivesView, GivesWanted};
 ghost use Rattle.warnc_cli.specs.CommandLine.{IsAddress, IsCell};
 ghost use Rattle.warnc_cli.specs.CommandLine.{columns_given, slots_given, GivesBooks, GivesOrigin, GivesPages};
 ghost use Rattle.warnc_cli.specs.CommandLine.{detail_given, pages_given, GivesProduct, GivesTapeSlots, IsNumber};
 ghost use Rattle.warnc_cli.specs.Tasks.{IsTaskOf};
 
-use crate::start::start_in;
+use crate::start::{slot_start_in, start_in};
 use alert_book::Origin;
 use cbs_page::{MAX_PAGES, Serial};
 use cbsp_wire::Cell;
@@ -20,7 +20,7 @@ use clap::builder::ValueParser;
 use clap::{Arg, ArgAction, Command, Error, value_parser};
 use gsmtap::{Channel, ChannelType, Sender, Settings, Slots, Wanted};
 use parallel_compile::MAX_WORKERS;
-use report::Columns;
+use report::{Columns, Layout};
 use short_pages::Pages;
 use std::alloc::{AllocError, Global};
 use std::convert::AsStr;
@@ -149,7 +149,7 @@ fn task_in<'a, S: AsStr>(words: &'a [S]) -> Option<Task<'a>>
         "live" => run_in(words, Product::Tapes, sessions_in(words)?),
         "report" => run_in(
             words,
-            Product::Report(columns_in(words)),
+            Product::Report(layout_in(words)?),
             Sessions { number: 1 },
         ),
         "chart" => run_in(
@@ -306,6 +306,18 @@ fn columns_in<S: AsStr>(words: &[S]) -> Columns
     } else {
         Columns::Plain
     }
+}
+
+/// How the words want a report to be laid out.
+fn layout_in<S: AsStr>(words: &[S]) -> Option<Layout>
+    ensures columns { IfSome result (λ layout. layout.columns ≡ columns_given (map S.text words.now)) }
+    ensures start { IfSome result (λ layout. GivesSlotStart (map S.text words.now) layout.start) }
+{
+    let start = slot_start_in(words)?;
+    Some(Layout {
+        columns: columns_in(words),
+        start,
+    })
 }
 
 /// The cell that the words give.
@@ -699,6 +711,7 @@ fn report<'a>(alloc: Global) -> Result<Command<'a>, AllocError> {
         .arg(group(alloc))?
         .arg(network(alloc)?)?
         .arg(full(alloc))?
+        .arg(clock(alloc))?
         .arg(workers(alloc))
 }
 
@@ -1063,6 +1076,16 @@ fn full<'a>(alloc: Global) -> Arg<'a> {
         alloc,
         "full",
         "Adds columns: when a phone shows it first, pages,\nperiod, share of the channel, cause in words",
+    )
+}
+
+/// The option of the time at which a run begins.
+fn clock<'a>(alloc: Global) -> Arg<'a> {
+    optional(
+        alloc,
+        "start",
+        "TIME",
+        "When slot 0 begins, as 2026-11-28T20:00:00Z: adds\ncolumns of the times, in UTC, of the slots",
     )
 }
 

@@ -240,6 +240,77 @@ in cell,1
 fails -> 1 warnc: row 1: columns
 ";
 
+/// Reports with times on the clock, which are from Python's datetime and fractions.
+const TIMES: &str = "
+# in UTC, cut to the millisecond, whatever the zone and the fraction are that the words have
+worked lac,ci,id,serial,start,end,completed,shown,start_time,end_time
+worked 1,1,4370,0010,0,1,1,yes,2026-11-29T18:30:00.000Z,2026-11-29T18:30:01.883Z
+worked 1,1,4370,0011,1,4,2,yes,2026-11-29T18:30:01.883Z,2026-11-29T18:30:07.532Z
+worked 1,2,4370,0010,0,1,1,yes,2026-11-29T18:30:00.000Z,2026-11-29T18:30:01.883Z
+worked 1,2,4371,0020,0,4,2,yes,2026-11-29T18:30:00.000Z,2026-11-29T18:30:07.532Z
+worked 1,2,4370,0011,2,4,1,yes,2026-11-29T18:30:03.766Z,2026-11-29T18:30:07.532Z
+in cell,1,1
+in cell,1,2
+in write,0,a,4370,0,1,en,2,2,0,*,One
+in write,0,b,4371,0,2,en,2,2,0,1-2,Two
+in update,1,a,en,2,2,0,*,Three
+
+args report --slots 4 --start 2026-11-29T18:30:00Z
+run -> 0
+all -> worked
+args report --start=2026-11-29T19:30:00.0000009+01:00 --workers 2 --slots 4
+run -> 0
+all -> worked
+args report --slots 4 --network --start 2026-11-29T18:30:00Z
+run -> 0
+all -> worked
+# without them it is as it was
+args report --slots 4
+run -> 0
+out -> lac,ci,id,serial,start,end,completed,shown
+out -> 1,1,4370,0010,0,1,1,yes
+out -> 1,1,4370,0011,1,4,2,yes
+out -> 1,2,4370,0010,0,1,1,yes
+out -> 1,2,4371,0020,0,4,2,yes
+out -> 1,2,4370,0011,2,4,1,yes
+
+# full columns, and the latest start
+worked lac,ci,id,serial,start,end,completed,shown,first_shown,pages,period,share,cause\
+    ,start_time,end_time,first_shown_time
+worked 1,1,4370,0010,0,1,1,yes,0,1,2,50,,2105-12-31T23:59:59.999Z,2106-01-01T00:00:01.883Z,2106-01-01T00:00:01.883Z
+worked 1,1,4370,0011,1,4,2,yes,1,1,2,50,,2106-01-01T00:00:01.883Z,2106-01-01T00:00:07.532Z,2106-01-01T00:00:03.766Z
+worked 1,2,4370,0010,0,1,1,yes,0,1,2,50,,2105-12-31T23:59:59.999Z,2106-01-01T00:00:01.883Z,2106-01-01T00:00:01.883Z
+worked 1,2,4371,0020,0,4,2,yes,1,1,2,50,,2105-12-31T23:59:59.999Z,2106-01-01T00:00:07.532Z,2106-01-01T00:00:03.766Z
+worked 1,2,4370,0011,2,4,1,yes,3,1,2,50,,2106-01-01T00:00:03.766Z,2106-01-01T00:00:07.532Z,2106-01-01T00:00:07.532Z
+in cell,1,1
+in cell,1,2
+in write,0,a,4370,0,1,en,2,2,0,*,One
+in write,0,b,4371,0,2,en,2,2,0,1-2,Two
+in update,1,a,en,2,2,0,*,Three
+
+args report --slots 4 --full --start 2105-12-31T23:59:59.999999Z
+run -> 0
+all -> worked
+args report --start 2105-12-31T23:59:59.999999Z --slots 4 --full --group 0
+run -> 0
+all -> worked
+
+# no such times
+args report --slots 4 --start 2106-01-01T00:00:00Z
+fails -> 2 warnc: no such time: --start is as 2026-11-28T20:00:00Z, from 1970 to 2105
+args report --slots 4 --start 1969-12-31T23:59:59.999999Z
+fails -> 2 warnc: no such time: --start is as 2026-11-28T20:00:00Z, from 1970 to 2105
+args report --slots 4 --start 18:30
+fails -> 2 warnc: no such time: --start is as 2026-11-28T20:00:00Z, from 1970 to 2105
+args report --slots 4 --start
+usage -> 2 error:
+# only `report` and `pcap` have a start
+args compile --slots 4 --start 2026-11-29T18:30:00Z
+usage -> 2 error:
+args chart --slots 4 --start 2026-11-29T18:30:00Z
+usage -> 2 error:
+";
+
 #[test]
 fn books_give_tapes(rt: HostRuntime) -> Result<(), Fail> {
     expect_rows(&rt, COMPILE, 60)
@@ -253,4 +324,9 @@ fn books_give_reports(rt: HostRuntime) -> Result<(), Fail> {
 #[test]
 fn books_give_full_reports(rt: HostRuntime) -> Result<(), Fail> {
     expect_rows(&rt, FULL, 52)
+}
+
+#[test]
+fn books_give_reports_with_times(rt: HostRuntime) -> Result<(), Fail> {
+    expect_rows(&rt, TIMES, 57)
 }

@@ -1,6 +1,6 @@
 -- What is made of the octets that are read: of the run of a book, or of a group's, its tapes, the report of them, or
 -- their chart. Own.
-use Rattle.std.specs.Prelude.{◌≡◌, ◌==◌, ℕ, Bool, true, List, All, None, Option, Some, length, map}
+use Rattle.std.specs.Prelude.{◌≡◌, ◌==◌, ℕ, Bool, true, List, All, None, Some, length, map}
 use Rattle.std.specs.List.{flat_map}
 use Rattle.alert_book.specs.declared.network.Origin.{Origin}
 use Rattle.alert_book.specs.declared.network.Origin.TheVariants as origin

@@ -27,7 +27,7 @@ HasRecords left from slots first last records = Reads left (λ old new. HasRunBo
 abbrev pub IsRecordsFault : (from : Origin) (slots : ℕ) (first last : Option (List ℕ)) → RunFault → Type 0
 IsRecordsFault from slots first last f =
     IsOfProduct f (product.Report (untimed columns.Plain)) × IsRunFault from slots 1 (λ input output. ⊥) first last
-        None None f
+    None None f
 
 -- a call has no records, by what its reader had before and after it
 abbrev pub HasNoRecords : {R : Type 0} → (left : R → Option (List ℕ)) → (from : Origin) (slots : ℕ)

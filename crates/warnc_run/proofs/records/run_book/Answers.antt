@@ -38,7 +38,7 @@ returns-clause-err g c =
     IfErr-weaker c.records_after.result _ _
     (λ fault of_book.
     let other = of_any_product c.in_ok-book.book c.args.slots 1 (product.Report (untimed columns.Plain)) fault of_book
-        in (
+    in (
       other.0,
       fault_of_run c.args.origin c.args.slots 1 (λ input output. ⊥) _ _ None None c.in_ok-book.book fault whole refl
           other.1 (Keeps-refl None),
