@@ -481,7 +481,7 @@ class Skeleton(html.parser.HTMLParser):
 
     def __init__(self, text):
         super().__init__()
-        self.parts, self.words = [], []
+        self.parts, self.words, self.tag = [], [], ""
         self.feed(text)
 
     def handle_starttag(self, tag, attributes):

@@ -56,7 +56,7 @@ pub(crate) fn german(word: Word) -> &'static str
         Word::Cell => "Zelle ",
         Word::Cells => "Zellen ",
         Word::CellsEnd => " Zellen",
-        Word::And => " und ",
+        Word::And => " + ",
         Word::More => " weitere",
         Word::Overview => "Zellen",
         Word::Axis => "Slot, Zeit",

@@ -441,7 +441,7 @@ out -> <p>Ein Lauf von 64 Slots (Zeitschlitzen) zu 1,883 s, 0:02:00 (h:mm:ss). G
 Slot 62 (0:01:56).</p>
 past Am roten Rand ist sie voll.</p> -> yes
 out -> <nav aria-label=\"Zellen\">
-out -> <a href=\"#c1-1\"><b>1-1 und 1 weitere</b>
+out -> <a href=\"#c1-1\"><b>1-1 + 1 weitere</b>
 out -> <svg class=\"loads\" viewBox=\"0 0 62 1008\" preserveAspectRatio=\"none\" role=\"img\"><title>Reservierte Last</title>
 out -> <path class=\"load\" d=\"M0 1008H0V882H62V1008z\"/></svg>
 out -> <i>13 % um 0:00:00, abgelehnt: 1</i></a>
