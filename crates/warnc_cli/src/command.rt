@@ -937,24 +937,16 @@ fn charted_cell<'a>(alloc: Global) -> Arg<'a> {
 
 /// The option of the first slot that is drawn.
 fn charted_from<'a>(alloc: Global) -> Arg<'a> {
-    optional(
-        alloc,
-        "from",
-        "SLOT",
-        "Draws the run from this slot on [0]",
+    optional(alloc, "from", "SLOT", "Draws the run from this slot on [0]").value_parser(
+        value_parser!(u16),
     )
-    .value_parser(value_parser!(u16))
 }
 
 /// The option of the slot before which the drawing ends.
 fn charted_to<'a>(alloc: Global) -> Arg<'a> {
-    optional(
-        alloc,
-        "to",
-        "SLOT",
-        "Draws it up to this slot [SLOTS]",
-    )
-    .value_parser(value_parser!(u16))
+    optional(alloc, "to", "SLOT", "Draws it up to this slot [SLOTS]").value_parser(value_parser!(
+        u16
+    ))
 }
 
 /// The option of the language of a page.
