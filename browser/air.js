@@ -311,6 +311,7 @@ function showReport() {
 }
 for (const it of document.querySelectorAll("[data-command]")) it.onclick = async () => {
     const { command, file } = it.dataset, options = ["--slots", state.slots, "--workers", 1];
+    if (command === "chart") options.push("--lang", language ? "de" : "en");
     const commands = command === "pcap" ? [["compile", ...options], ["pcap", "--used"]] : [[command, ...options]];
     it.disabled = true;
     const result = await bookDesk.ask("run", { text: state.text, commands });

@@ -447,6 +447,29 @@ def files_of_spreadsheets_are_taken(page, _program, _):
     return wrong, f"{len(files)} files of spreadsheets are taken"
 
 
+def files_are_saved_as_the_program_writes_them(page, program, _):
+    """Each button of the air saves what the program writes; the chart is in the language of the page."""
+    book = release.read(os.path.join(TOP, "examples", "day.csv"))
+    run, wrong = ["--slots", 48, "--workers", 1], []
+    load(page, book.decode(), 48)
+    pipes = [[["compile", *run]], [["compile", *run], ["pcap", "--used"]], [["report", *run]]]
+    cases = [(0, it) for it in pipes] + [(k, [["chart", *run, "--lang", it]]) for k, it in enumerate(("en", "de"))]
+    for language, commands in cases:
+        wanted, button = book, commands[-1][0]
+        for words in commands:
+            _status, wanted, _fault = ran(program, words, wanted)
+        page.run(f"""language = {language}; setWords(); showPane('air'); window.saved = null;
+            window.kept = download; download = (file, octets) => {{
+                let text = ""; for (const octet of octets) text += String.fromCharCode(octet);
+                window.saved = btoa(text); }};
+            document.querySelector('[data-command={button}]').click()""")
+        page.until("window.saved !== null")
+        if base64.b64decode(page.run("download = window.kept; return window.saved")) != wanted:
+            wrong.append(f"{button} in language {language}")
+    page.run("language = 0; setWords()")
+    return wrong, f"{len(cases)} files are saved as the program writes them, charts in both languages"
+
+
 def texts_of_rows_are_written(page, program, _):
     """What is typed in the pane "Text" for a row stands in the book, as do mends; costs stand at the rows."""
     page.run("state.costs = []; $('b-flood').click()")
@@ -557,8 +580,9 @@ TESTS = (
     (examples_are_typed, 0), (random_books_are_the_programs, 1), (messages_are_read_right, 0.3),
     (texts_cost_what_the_program_says, 0.5), (csv_is_read_as_the_program_reads_it, 1), (hostile_texts_do_nothing, 0),
     (faults_stand_at_their_fields, 0), (what_would_go_unsaid_is_noted, 0), (a_book_is_made_by_keys, 0),
-    (files_of_spreadsheets_are_taken, 0), (texts_of_rows_are_written, 0), (work_is_cancelled, 0),
-    (nothing_is_wider_than_the_window, 0), (nothing_is_asked_for, 0))
+    (files_of_spreadsheets_are_taken, 0), (files_are_saved_as_the_program_writes_them, 0),
+    (texts_of_rows_are_written, 0), (work_is_cancelled, 0), (nothing_is_wider_than_the_window, 0),
+    (nothing_is_asked_for, 0))
 
 
 def big_book():
