@@ -1,8 +1,8 @@
 #!/usr/bin/env python3
 """Remarks on books and their runs as docs/formats.md says: a second program against which `warnc check --slots` is
-compared. Which writes and updates a cell accepted, from which slot on, and with which cause one refused an order, it
-takes from `warnc report`; which order asked which cell, and at which slot, it finds by itself, as a session goes on by
-the replies, and so what each message reserves.
+compared, and with `--start` the times of their slots. Which writes and updates a cell accepted, from which slot on, and
+with which cause one refused an order, it takes from `warnc report`; which order asked which cell, and at which slot, it
+finds by itself, as a session goes on by the replies, and so what each message reserves.
 
 Usage: remarks_reference.py PROGRAM [RUNS]    random books of few slots and cells, with orders that go back in time or
                                               stop what isn't live, cells that are declared late, and identifiers and
@@ -12,6 +12,7 @@ Usage: remarks_reference.py PROGRAM [RUNS]    random books of few slots and cell
 import csv
 import io
 import random
+import re
 import subprocess
 import sys
 from dataclasses import dataclass
@@ -20,12 +21,14 @@ from fractions import Fraction
 import books
 import gsm
 from random_runs import judged
+from report_reference import random_start, time_of
 
 TEXTS = ("Stay in!", " ", "Go up to the roof " * 8, "\n \n", "Вода поднимается, идите наверх. " * 3, "a", "x" * 186,
          "Don’t go out – " * 7, "Woda idzie, idźcie w górę! " * 2, "Don’t go", "№1 ", "€" * 60 + "…")
 NAMES = ("", ",", '"', " é")
 PAST, UNKNOWN = 0x0A, 0x02
 BACKGROUND = 1
+SLOT_SAID = re.compile(r"(?:done|fullest: [0-9]+ %) at slot ([0-9]+)")
 # 3GPP TS 48.049, 8.2
 CAUSES = {
     0x02: "message reference not identified", 0x06: "BSC capacity exceeded", 0x07: "cell memory exceeded",
@@ -209,6 +212,16 @@ def table_of(rows, report, slots):
     return books.line("row name cell says".split()) + "".join(lines), count
 
 
+def timed(table, start):
+    """Returns a table with times, by the one without."""
+    names, *lines = csv.reader(io.StringIO(table))
+    made = [books.line([*names, "time"])]
+    for line in lines:
+        said = SLOT_SAID.fullmatch(line[3])
+        made.append(books.line([*line, time_of(start, int(said[1])) if said else ""]))
+    return "".join(made)
+
+
 def run(program, words, octets):
     return subprocess.run([program, *words], input=octets, stdout=subprocess.PIPE, stderr=subprocess.PIPE, check=False)
 
@@ -221,11 +234,15 @@ def differs(program, seed):
     slots, strict = rng.randrange(1, 40), rng.random() < 0.3
     report = run(program, ["report", "--slots", str(slots)], octets)
     table, count = table_of(rows, report.stdout.decode(), slots)
-    said = run(program, ["check", "--slots", str(slots), *(["--strict"] if strict else [])], octets)
+    words = ["check", "--slots", str(slots), *(["--strict"] if strict else [])]
+    start, time = random_start(rng)
+    said, with_times = run(program, words, octets), run(program, [*words, "--start", time], octets)
     status, faults = (1, f"warnc: remarks: {count}\n") if strict and count else (0, "")
-    if (said.stdout.decode(), said.stderr.decode(), said.returncode) == (table, faults, status):
+    wanted = [(it, faults, status) for it in (table, timed(table, start))]
+    if [(it.stdout.decode(), it.stderr.decode(), it.returncode) for it in (said, with_times)] == wanted:
         return False
-    print(f"run {seed}, {slots} slots:\n{octets.decode()}{table}{said.stdout.decode()}{said.stderr.decode()}")
+    print(f"run {seed}, {slots} slots, {time}:\n{octets.decode()}{wanted}{said.stdout.decode()}{said.stderr.decode()}"
+          f"{with_times.stdout.decode()}{with_times.stderr.decode()}")
     return True
 
 

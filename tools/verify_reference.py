@@ -9,7 +9,8 @@ Usage: verify_reference.py PROGRAM [RUNS]    random books, whose tapes are left 
                                              recorded some slots late or early, too; in every fourth run pages have
                                              fewer blocks, and are judged with --short; the rows of both programs have
                                              to be the same, and so have those with which --explain says that all
-                                             pages of a tape come early or late. PROGRAM is a built `warnc`
+                                             pages of a tape come early or late; with --start both tables have the
+                                             times of their slots, too. PROGRAM is a built `warnc`
 """
 import csv
 import io
@@ -22,6 +23,7 @@ import books
 import gsm
 import short_reference
 from random_runs import judged
+from report_reference import random_start, time_of
 
 # those of the data codings 00 to 0F
 LANGUAGES = [it for it, dcs in gsm.LANGUAGES.items() if dcs < 0x10]
@@ -180,6 +182,12 @@ def shifts_in(explained):
     return found
 
 
+def timed(table, start):
+    """Returns the rows of a table with times, by the one without."""
+    names, *rows = csv.reader(io.StringIO(table))
+    return [[*names, "time"], *([*it, time_of(start, int(it[4])) if it[4] else ""] for it in rows)]
+
+
 def recorded_elsewhere(rng, tapes, longer, slots):
     """Returns tapes that begin some slots later or earlier than the run: those of a longer run, without its first
     slots, or after idle ones."""
@@ -289,14 +297,18 @@ def differs(program, seed):
         words = ["verify", "--slots", str(slots), "--book", file.name] + ["--short"] * is_short
         said = run(program, words, given)
         explained = run(program, [*words, "--explain"], given).stdout.decode()
+        start, time = random_start(rng)
+        with_times = [run(program, [*words, "--start", time, *more], given) for more in ([], ["--explain"])]
     count = table.count("\n") - 1
     status, faults = (1, f"warnc: differences: {count}\n") if count else (0, "")
     wanted = table, faults, status
     is_kept = seed % 3 or is_short or is_moved or not count
     is_same = (said.stdout.decode(), said.stderr.decode(), said.returncode) == wanted
-    if is_same and is_kept and shifts_in(explained) == shifts:
+    found = [(list(csv.reader(io.StringIO(it.stdout.decode()))), it.stderr.decode(), it.returncode) for it in with_times]
+    are_timed = found == [(timed(it, start), faults, status) for it in (table, explained)]
+    if is_same and is_kept and are_timed and shifts_in(explained) == shifts:
         return False
-    print(f"run {seed}:\n{book}{table}{shifts}\n{said.stdout.decode()}{said.stderr.decode()}{explained}")
+    print(f"run {seed}:\n{book}{table}{shifts}\n{said.stdout.decode()}{said.stderr.decode()}{explained}{time}\n{found}")
     return True
 
 

@@ -33,13 +33,13 @@ _warnc() {
         *)
             case ${COMP_WORDS[1]} in
             plan) words="-h --help" ;;
-            check) words="--slots --strict -h --help" ;;
+            check) words="--slots --start --strict -h --help" ;;
             texts) words="--pages -h --help" ;;
             compile) words="--slots --group --network --workers -h --help" ;;
             report) words="--slots --group --network --full --start --workers -h --help" ;;
             chart) words="--slots --group --network --cell --from --to --lang --workers -h --help" ;;
             read) words="--short -h --help" ;;
-            verify) words="--book --slots --short --explain --group --workers -h --help" ;;
+            verify) words="--book --slots --short --explain --start --group --workers -h --help" ;;
             page) words="--lang --id --scope --code --update -h --help" ;;
             live) words="--slots --group --network --sessions --workers -h --help" ;;
             pcap) words="--used --channel --start -h --help" ;;

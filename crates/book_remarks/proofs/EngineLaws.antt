@@ -6,6 +6,7 @@ use Rattle.book_remarks.specs.Remarked.{IsRemarkFault, IsRemarked, IsRemarkedFor
 use Rattle.book_remarks.specs.RemarkedSteps.{IsReadFault, IsStop}
 use Rattle.book_remarks.specs.declared.fault.RemarkFault.{RemarkFault}
 use Rattle.book_remarks.specs.declared.fault.RemarkFault.TheVariants as faults
+use Rattle.slot_times.specs.declared.start.Start.{Start}
 
 -- an output of what the reader had left was written
 pub wrote : (IsOutput : List ℕ → List ℕ → Type 0) (left old new : Option (List ℕ)) (octets output : List ℕ)
@@ -23,28 +24,30 @@ wrote IsOutput (Some input) old new octets output same is out = record {
 }
 
 -- the remarks of a book, where they are none or needn't be
-pub lax : (slots : ℕ) (strict : Bool) (count : ℕ) (input output : List ℕ) → strict ≡ false
-    → IsRemarked slots input count output
-    → IsRemarkedFor slots strict input output
-lax slots strict count input output is remarked =
-    subst (λ (b : Bool). IsRemarkedFor slots b input output) (sym is) (count, remarked)
+pub lax : (slots : ℕ) (start : Option Start) (strict : Bool) (count : ℕ) (input output : List ℕ) → strict ≡ false
+    → IsRemarked slots start input count output
+    → IsRemarkedFor slots start strict input output
+lax slots start strict count input output is remarked =
+    subst (λ (b : Bool). IsRemarkedFor slots start b input output) (sym is) (count, remarked)
 
 -- where there is none, it may be strict or not
-pub unremarked : (slots : ℕ) (strict : Bool) (input output : List ℕ) → IsRemarked slots input 0 output
-    → IsRemarkedFor slots strict input output
-unremarked slots false input output remarked = (0, remarked)
-unremarked slots true input output remarked = remarked
+pub unremarked : (slots : ℕ) (start : Option Start) (strict : Bool) (input output : List ℕ)
+    → IsRemarked slots start input 0 output
+    → IsRemarkedFor slots start strict input output
+unremarked slots start false input output remarked = (0, remarked)
+unremarked slots start true input output remarked = remarked
 
 -- why there are none
-pub of_read : (slots : ℕ) (strict : Bool) (left old new : Option (List ℕ)) (why : RemarkFault) → IsReadFault left why
-    → IsRemarkFault slots strict left old new why
-of_read slots strict left old new (faults.Faults count) is = absurd is
-of_read slots strict left old new faults.TooLong is = is
-of_read slots strict left old new faults.ReadFailed is = tt
-of_read slots strict left old new (faults.Run f) is = absurd is
-of_read slots strict left old new (faults.Remarks count) is = absurd is
-of_read slots strict left old new faults.Refused is = tt
-of_read slots strict left old new faults.WriteFailed is = absurd is
+pub of_read : (slots : ℕ) (start : Option Start) (strict : Bool) (left old new : Option (List ℕ)) (why : RemarkFault)
+    → IsReadFault left why
+    → IsRemarkFault slots start strict left old new why
+of_read slots start strict left old new (faults.Faults count) is = absurd is
+of_read slots start strict left old new faults.TooLong is = is
+of_read slots start strict left old new faults.ReadFailed is = tt
+of_read slots start strict left old new (faults.Run f) is = absurd is
+of_read slots start strict left old new (faults.Remarks count) is = absurd is
+of_read slots start strict left old new faults.Refused is = tt
+of_read slots start strict left old new faults.WriteFailed is = absurd is
 
 of_input : (P : List ℕ → Type 0) (left : Option (List ℕ)) (octets : List ℕ) → IfSome left (λ input. input ≡ octets)
     → P octets
@@ -53,15 +56,16 @@ of_input P None octets same is = tt
 of_input P (Some input) octets same is = subst P (sym same) is
 
 -- nor are there any of a run that ended early
-pub of_stop : (slots : ℕ) (strict : Bool) (left old new : Option (List ℕ)) (octets : List ℕ) (why : RemarkFault)
+pub of_stop : (slots : ℕ) (start : Option Start) (strict : Bool) (left old new : Option (List ℕ)) (octets : List ℕ)
+    (why : RemarkFault)
     → IfSome left (λ input. input ≡ octets)
     → IsStop slots octets why
-    → IsRemarkFault slots strict left old new why
-of_stop slots strict left old new octets (faults.Faults count) same is = absurd is
-of_stop slots strict left old new octets faults.TooLong same is = absurd is
-of_stop slots strict left old new octets faults.ReadFailed same is = absurd is
-of_stop slots strict left old new octets (faults.Run f) same is =
+    → IsRemarkFault slots start strict left old new why
+of_stop slots start strict left old new octets (faults.Faults count) same is = absurd is
+of_stop slots start strict left old new octets faults.TooLong same is = absurd is
+of_stop slots start strict left old new octets faults.ReadFailed same is = absurd is
+of_stop slots start strict left old new octets (faults.Run f) same is =
     of_input (λ (input : List ℕ). IsStopped slots input f) left octets same is
-of_stop slots strict left old new octets (faults.Remarks count) same is = absurd is
-of_stop slots strict left old new octets faults.Refused same is = tt
-of_stop slots strict left old new octets faults.WriteFailed same is = absurd is
+of_stop slots start strict left old new octets (faults.Remarks count) same is = absurd is
+of_stop slots start strict left old new octets faults.Refused same is = tt
+of_stop slots start strict left old new octets faults.WriteFailed same is = absurd is

@@ -2,4 +2,5 @@ pub mod RunRecords
 pub mod Unremarked
 pub mod EngineLaws
 pub mod OneTable
+mod TimedRun
 mod FirstSends

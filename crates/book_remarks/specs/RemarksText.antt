@@ -1,5 +1,5 @@
 -- The text of remarks, as CSV: a line for each (own).
-use Rattle.std.specs.Prelude.{ℕ, ◌==◌, if◌then◌else◌, List, [], ◌∷◌, ◌++◌, codes, encode_utf8}
+use Rattle.std.specs.Prelude.{ℕ, ◌==◌, if◌then◌else◌, Option, Some, None, List, [], ◌∷◌, ◌++◌, codes, encode_utf8}
 use Rattle.std.specs.Fmt.{decimal}
 use Rattle.std.specs.List.{flat_map}
 use Rattle.csv.specs.Writing.{default_writer, row_text}
@@ -8,6 +8,8 @@ use Rattle.bsc_table.specs.Record.{Record}
 use Rattle.chart.specs.declared.fullest.Fullest.{Fullest}
 use Rattle.chart.specs.Facts.{fullest_in}
 use Rattle.report.specs.Cause.{cause_words}
+use Rattle.slot_times.specs.SlotTime.{slot_time}
+use Rattle.slot_times.specs.declared.start.Start.{Start}
 use Rattle.book_remarks.specs.declared.says.Says.{Says}
 use Rattle.book_remarks.specs.declared.says.Says.TheVariants as says
 use Rattle.book_remarks.specs.declared.remarks.Remark.{Remark}
@@ -17,9 +19,26 @@ use Rattle.book_remarks.specs.declared.remarks.Remark.TheVariants as remarks
 abbrev pub line : List (List ℕ) → List ℕ
 line fields = row_text default_writer fields
 
+-- where slot 0 has a time on the clock, a last column has the time at which the slot begins that a line speaks of;
+-- there is no octet where it speaks of none
+abbrev pub time_name : Option Start → List (List ℕ)
+time_name None = []
+time_name (Some start) = codes "time" ∷ []
+
+abbrev pub time_text : Start → (slot : Option ℕ) → List ℕ
+time_text start None = []
+time_text start (Some slot) = slot_time start slot
+
+abbrev pub time_field : Option Start → (slot : Option ℕ) → List (List ℕ)
+time_field None slot = []
+time_field (Some start) slot = time_text start slot ∷ []
+
 -- the first line has the names of the columns
-abbrev pub header_line : List ℕ
-header_line = line (codes "row" ∷ codes "name" ∷ codes "cell" ∷ codes "says" ∷ [])
+abbrev pub column_names : Option Start → List (List ℕ)
+column_names start = codes "row" ∷ codes "name" ∷ codes "cell" ∷ codes "says" ∷ time_name start
+
+abbrev pub header_line : Option Start → List ℕ
+header_line start = line (column_names start)
 
 abbrev pub cell_text : Cell → List ℕ
 cell_text cell = decimal cell.lac ++ (codes "-" ++ decimal cell.ci)
@@ -46,28 +65,39 @@ says_text (says.ForcesUcs2 character place pages without) =
     codes "UCS-2 because of " ++ (encode_utf8 character ++ (codes " at " ++ (decimal place ++ (codes ": "
     ++ (decimal pages ++ (codes " pages in place of " ++ decimal without))))))
 
+-- the slot that is said of an order
+abbrev pub slot_said : Says → Option ℕ
+slot_said (says.DoneAt slot) = Some slot
+slot_said other = None
+
 -- the fields of a remark: the row and the name of its order, or else its cell
-abbrev pub remark_fields : Remark → List (List ℕ)
-remark_fields (remarks.OfOrder row name said) = decimal row ∷ name ∷ [] ∷ says_text said ∷ []
-remark_fields (remarks.NothingIn cell) = [] ∷ [] ∷ cell_text cell ∷ codes "gets nothing" ∷ []
+abbrev pub remark_fields : Option Start → Remark → List (List ℕ)
+remark_fields start (remarks.OfOrder row name said) =
+    decimal row ∷ name ∷ [] ∷ says_text said ∷ time_field start (slot_said said)
+remark_fields start (remarks.NothingIn cell) =
+    [] ∷ [] ∷ cell_text cell ∷ codes "gets nothing" ∷ time_field start None
 
-abbrev pub remark_line : Remark → List ℕ
-remark_line remark = line (remark_fields remark)
+abbrev pub remark_line : Option Start → Remark → List ℕ
+remark_line start remark = line (remark_fields start remark)
 
-abbrev pub remarks_text : List Remark → List ℕ
-remarks_text all = header_line ++ flat_map remark_line all
+abbrev pub remarks_text : Option Start → List Remark → List ℕ
+remarks_text start all = header_line start ++ flat_map (remark_line start) all
 
 -- How full cells get, which is no remark.
 
 abbrev pub fullest_words : Fullest → List ℕ
 fullest_words fullest = codes "fullest: " ++ (decimal fullest.share ++ (codes " % at slot " ++ decimal fullest.slot))
 
-abbrev pub fullest_fields : Cell → Fullest → List (List ℕ)
-fullest_fields cell fullest = [] ∷ [] ∷ cell_text cell ∷ fullest_words fullest ∷ []
+abbrev pub fullest_fields : Option Start → Cell → Fullest → List (List ℕ)
+fullest_fields start cell fullest =
+    [] ∷ [] ∷ cell_text cell ∷ fullest_words fullest ∷ time_field start (Some fullest.slot)
 
-abbrev pub fullest_line : Record → List ℕ
-fullest_line r = line (fullest_fields r.cell (fullest_in r))
+abbrev pub run_fields : Option Start → Record → List (List ℕ)
+run_fields start r = fullest_fields start r.cell (fullest_in r)
+
+abbrev pub fullest_line : Option Start → Record → List ℕ
+fullest_line start r = line (run_fields start r)
 
 -- what is remarked, and then how full each cell gets
-abbrev pub checked_run_text : List Remark → List Record → List ℕ
-checked_run_text all records = remarks_text all ++ flat_map fullest_line records
+abbrev pub checked_run_text : Option Start → List Remark → List Record → List ℕ
+checked_run_text start all records = remarks_text start all ++ flat_map (fullest_line start) records

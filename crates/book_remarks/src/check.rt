@@ -22,6 +22,7 @@ use book_check::table_of;
 use bsc_table::CellRecord;
 use device_ends::{Failed, ReadFault, Sink, Source, read_up_to, write_all};
 use order_desk::{DeskFault, SettleFault};
+use slot_times::Start;
 use std::alloc::{AllocGlobal, Global};
 use std::io::{Read, Write};
 use std::sync::Wait;
@@ -38,7 +39,8 @@ struct Remarked {
 
 /// Reads a book up to its end, and writes a table as CSV: that of [`check_stream`](book_check::check_stream) if a row
 /// has a fault; else the book is run with one session and `slots` slots, and what is remarked of it is written
-/// ([`remarks_of`]), and how full each cell gets ([`run_text_of`]). Nothing is written before all is known.
+/// ([`remarks_of`]), and how full each cell gets ([`run_text_of`]). If slot 0 begins at `start`, the second table has a
+/// last column of times, which the first has never. Nothing is written before all is known.
 ///
 /// # Errors
 ///
@@ -50,12 +52,13 @@ pub fn remark_stream<T: AllocGlobal + Threads + Wait + Sync, R: Read, W: Write>(
     source: &mut Source<R>,
     sink: &mut Sink<W>,
     slots: u16,
+    start: Option<Start>,
     strict: bool,
 ) -> Result<(), RemarkFault>
     // What was written is the table of the book that was read, at any reader.
-    ensures ok { OnOk result (OutputOfInput R.remaining W.contents (IsRemarkedFor slots strict) source.old sink.old
-        sink.new) }
-    ensures err { IfErr result (IsRemarkFault slots strict (R.remaining (reader_of source.old))
+    ensures ok { OnOk result (OutputOfInput R.remaining W.contents (IsRemarkedFor slots start strict) source.old
+        sink.old sink.new) }
+    ensures err { IfErr result (IsRemarkFault slots start strict (R.remaining (reader_of source.old))
         (W.contents (writer_of sink.old)) (W.contents (writer_of sink.new))) }
 
     // The book was read to its end, and no more than one octet past the bound.
@@ -84,7 +87,7 @@ pub fn remark_stream<T: AllocGlobal + Threads + Wait + Sync, R: Read, W: Write>(
         }
         return Err(RemarkFault::Faults(checked.count));
     }
-    let remarked = remarked_of(rt, &octets, slots)?;
+    let remarked = remarked_of(rt, &octets, slots, start)?;
     if let Err(Failed) = write_all(sink, &remarked.text) {
         return Err(RemarkFault::WriteFailed);
     }
@@ -124,8 +127,9 @@ fn remarked_of<T: AllocGlobal + Threads + Wait + Sync>(
     rt: &T,
     octets: &[u8],
     slots: u16,
+    start: Option<Start>,
 ) -> Result<Remarked, RemarkFault>
-    ensures ok { IfOk result (λ remarked. IsRemarked slots octets.now remarked.count remarked.text.items) }
+    ensures ok { IfOk result (λ remarked. IsRemarked slots start octets.now remarked.count remarked.text.items) }
     ensures err { IfErr result (IsStop slots octets.now) }
 {
     let alloc = rt.alloc();
@@ -137,7 +141,7 @@ fn remarked_of<T: AllocGlobal + Threads + Wait + Sync>(
     let Ok(remarks) = remarks_of(alloc, rows.orders(), &records) else {
         return Err(RemarkFault::Refused);
     };
-    let Ok(text) = run_text_of(alloc, &remarks, &records) else {
+    let Ok(text) = run_text_of(alloc, start, &remarks, &records) else {
         return Err(RemarkFault::Refused);
     };
     Ok(Remarked {

@@ -2,9 +2,10 @@
 
 ghost use Rattle.std.specs.Prelude.{◌≡◌, ℕ, List, [], ◌∷◌, ◌++◌, map, IfOk, OnOk};
 ghost use Rattle.book_remarks.specs.TableSteps.{IsTable};
-ghost use Rattle.book_remarks.specs.RemarksText.{header_line, line};
+ghost use Rattle.book_remarks.specs.RemarksText.{header_line, line, time_field, time_text};
 
 use csv::{Writer, WriterBuilder};
+use slot_times::{Start, slot_time};
 use std::alloc::{AllocError, Global};
 
 /// The line of the columns' names, and lines of remarks.
@@ -13,14 +14,38 @@ pub(crate) struct Table {
     writer: Writer<Vec<u8>>,
 }
 
+/// The text of the time at which a slot begins, if there is a slot.
+fn time_text<'a>(buffer: &'a mut [u8; 24], start: Start, slot: Option<u16>) -> &'a [u8]
+    ensures { result.now ≡ time_text start slot }
+{
+    match slot {
+        Some(slot) => {
+            *buffer = slot_time(start, u32::from(slot));
+            buffer.as_slice()
+        }
+        None => b"",
+    }
+}
+
 impl Table {
-    /// A table of the columns' names alone.
-    pub(crate) fn new(alloc: Global) -> Result<Table, AllocError>
-        ensures { IfOk result (λ table. IsTable table header_line) }
+    /// A table of the columns' names alone, with one for times if slot 0 has one.
+    pub(crate) fn new(alloc: Global, start: Option<Start>) -> Result<Table, AllocError>
+        ensures { IfOk result (λ table. IsTable table (header_line start)) }
     {
         let mut table = Table::empty(alloc);
-        table.push_line(&[b"row", b"name", b"cell", b"says"])?;
+        table.push_names(start)?;
         Ok(table)
+    }
+
+    /// Appends the line of the columns' names.
+    fn push_names(&mut self, start: Option<Start>) -> Result<(), AllocError>
+        ensures { OnOk result ((octets : List ℕ) → IsTable self.old octets
+            → IsTable self.new (octets ++ header_line start)) }
+    {
+        match start {
+            None => self.push_line(&[b"row", b"name", b"cell", b"says"]),
+            Some(_) => self.push_line(&[b"row", b"name", b"cell", b"says", b"time"]),
+        }
     }
 
     /// A table with no line.
@@ -43,8 +68,52 @@ impl Table {
         }
     }
 
-    /// Appends the line of a remark.
+    /// Appends a line that speaks of this slot, or of none, with its time if slot 0 has one.
     pub(crate) fn push_fields<'a>(
+        &mut self,
+        start: Option<Start>,
+        slot: Option<u16>,
+        row: &'a str,
+        name: &'a str,
+        cell: &'a str,
+        says: &'a str,
+    ) -> Result<(), AllocError>
+        ensures { OnOk result ((octets : List ℕ) → IsTable self.old octets → IsTable self.new (octets
+            ++ line (row.now ∷ name.now ∷ cell.now ∷ says.now ∷ time_field start slot))) }
+    {
+        match start {
+            None => self.push_untimed(row, name, cell, says),
+            Some(start) => {
+                let mut buffer = [0; 24];
+                let time = time_text(&mut buffer, start, slot);
+                self.push_timed(row, name, cell, says, time)
+            }
+        }
+    }
+
+    /// Appends a line with a time.
+    fn push_timed<'a>(
+        &mut self,
+        row: &'a str,
+        name: &'a str,
+        cell: &'a str,
+        says: &'a str,
+        time: &'a [u8],
+    ) -> Result<(), AllocError>
+        ensures { OnOk result ((octets : List ℕ) → IsTable self.old octets
+            → IsTable self.new (octets ++ line (row.now ∷ name.now ∷ cell.now ∷ says.now ∷ time.now ∷ []))) }
+    {
+        self.push_line(&[
+            row.as_bytes(),
+            name.as_bytes(),
+            cell.as_bytes(),
+            says.as_bytes(),
+            time,
+        ])
+    }
+
+    /// Appends a line without a time.
+    fn push_untimed<'a>(
         &mut self,
         row: &'a str,
         name: &'a str,

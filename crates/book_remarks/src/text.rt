@@ -4,7 +4,7 @@ ghost use Rattle.std.specs.Prelude.{◌≡◌, ◌++◌, ℕ, List, codes, IfOk,
 ghost use Rattle.std.specs.List.{flat_map};
 ghost use Rattle.book_remarks.specs.TableSteps.{IsTable};
 ghost use Rattle.book_remarks.specs.RemarksText.{cell_text, cells_word, fullest_line, fullest_words, remark_line};
-ghost use Rattle.book_remarks.specs.RemarksText.{remarks_text, checked_run_text, says_text, spaced_cell};
+ghost use Rattle.book_remarks.specs.RemarksText.{remarks_text, checked_run_text, says_text, slot_said, spaced_cell};
 
 use crate::remarks::Remark;
 use crate::says::Says;
@@ -14,6 +14,7 @@ use cbsp_wire::Cell;
 use chart::{Fullest, fullest_of};
 use itoa::Buffer;
 use report::cause_words;
+use slot_times::Start;
 use std::alloc::{AllocError, Global};
 
 /// A cell, as orders name it.
@@ -85,31 +86,59 @@ fn says_text(alloc: Global, says: &Says) -> Result<String, AllocError>
     }
 }
 
+/// The slot that is said of an order.
+fn slot_said(says: &Says) -> Option<u16>
+    ensures { result ≡ slot_said says.now }
+{
+    match says {
+        Says::DoneAt { slot } => Some(*slot),
+        _ => None,
+    }
+}
+
 /// Appends the line of a remark.
-fn push_remark(alloc: Global, table: &mut Table, remark: &Remark) -> Result<(), AllocError>
+fn push_remark(
+    alloc: Global,
+    table: &mut Table,
+    start: Option<Start>,
+    remark: &Remark,
+) -> Result<(), AllocError>
     ensures { OnOk result ((octets : List ℕ) → IsTable table.old octets
-        → IsTable table.new (octets ++ remark_line remark.now)) }
+        → IsTable table.new (octets ++ remark_line start remark.now)) }
 {
     match remark {
         Remark::OfOrder { row, name, says } => {
             let mut buffer = Buffer::new();
             let said = says_text(alloc, says)?;
-            table.push_fields(buffer.format(*row), name.text.as_str(), "", &said)
+            let slot = slot_said(says);
+            table.push_fields(
+                start,
+                slot,
+                buffer.format(*row),
+                name.text.as_str(),
+                "",
+                &said,
+            )
         }
         Remark::NothingIn(cell) => {
             let name = cell_text(alloc, *cell)?;
-            table.push_fields("", "", &name, "gets nothing")
+            table.push_fields(start, None, "", "", &name, "gets nothing")
         }
     }
 }
 
 /// Appends the lines of remarks.
-fn push_remarks(alloc: Global, table: &mut Table, remarks: &[Remark]) -> Result<(), AllocError>
+fn push_remarks(
+    alloc: Global,
+    table: &mut Table,
+    start: Option<Start>,
+    remarks: &[Remark],
+) -> Result<(), AllocError>
     ensures { OnOk result ((octets : List ℕ) → IsTable table.old octets
-        → IsTable table.new (octets ++ flat_map remark_line remarks.now)) }
+        → IsTable table.new (octets ++ flat_map (remark_line start) remarks.now)) }
 {
     for remark in remarks {
-        push_remark(alloc, table, remark)?;
+        push_remark(alloc, table, start, remark)?;
     }
     Ok(())
 }
@@ -123,59 +152,72 @@ fn fullest_words(alloc: Global, fullest: Fullest) -> Result<String, AllocError>
 }
 
 /// Appends the line of how full a cell gets.
-fn push_fullest(alloc: Global, table: &mut Table, run: &CellRecord) -> Result<(), AllocError>
+fn push_fullest(
+    alloc: Global,
+    table: &mut Table,
+    start: Option<Start>,
+    run: &CellRecord,
+) -> Result<(), AllocError>
     ensures { OnOk result ((octets : List ℕ) → IsTable table.old octets
-        → IsTable table.new (octets ++ fullest_line run.now)) }
+        → IsTable table.new (octets ++ fullest_line start run.now)) }
 {
     let fullest = fullest_of(alloc, run)?;
     let name = cell_text(alloc, run.cell())?;
     let said = fullest_words(alloc, fullest)?;
-    table.push_fields("", "", &name, &said)
+    table.push_fields(start, Some(fullest.slot), "", "", &name, &said)
 }
 
 /// Appends the lines of how full cells get.
 fn push_each_fullest(
     alloc: Global,
     table: &mut Table,
+    start: Option<Start>,
     records: &[CellRecord],
 ) -> Result<(), AllocError>
     ensures { OnOk result ((octets : List ℕ) → IsTable table.old octets
-        → IsTable table.new (octets ++ flat_map fullest_line records.now)) }
+        → IsTable table.new (octets ++ flat_map (fullest_line start) records.now)) }
 {
     for run in records {
-        push_fullest(alloc, table, run)?;
+        push_fullest(alloc, table, start, run)?;
     }
     Ok(())
 }
 
-/// The text of remarks, as CSV: a line of the columns' names, and a line for each.
+/// The text of remarks, as CSV: a line of the columns' names, and a line for each. If slot 0 has a time on the clock, a
+/// last column has the time in UTC at which the slot begins that a remark speaks of; without it the text lacks that
+/// column, and nothing else ([`remark_laws`](crate::remark_laws)).
 ///
 /// # Errors
 ///
 /// Out of memory.
-pub fn text_of(alloc: Global, remarks: &[Remark]) -> Result<Vec<u8>, AllocError>
-    ensures { IfOk result (λ octets. octets.items ≡ remarks_text remarks.now) }
+pub fn text_of(
+    alloc: Global,
+    start: Option<Start>,
+    remarks: &[Remark],
+) -> Result<Vec<u8>, AllocError>
+    ensures { IfOk result (λ octets. octets.items ≡ remarks_text start remarks.now) }
 {
-    let mut table = Table::new(alloc)?;
-    push_remarks(alloc, &mut table, remarks)?;
+    let mut table = Table::new(alloc, start)?;
+    push_remarks(alloc, &mut table, start, remarks)?;
     table.into_octets()
 }
 
 /// The text of remarks, and then of each cell of a run a line of the most load that it has reserved, in hundredths of
-/// the cell, and of the first slot at which it has.
+/// the cell, and of the first slot at which it has; with times as [`text_of`] has them.
 ///
 /// # Errors
 ///
 /// Out of memory.
 pub fn run_text_of(
     alloc: Global,
+    start: Option<Start>,
     remarks: &[Remark],
     records: &[CellRecord],
 ) -> Result<Vec<u8>, AllocError>
-    ensures { IfOk result (λ octets. octets.items ≡ checked_run_text remarks.now records.now) }
+    ensures { IfOk result (λ octets. octets.items ≡ checked_run_text start remarks.now records.now) }
 {
-    let mut table = Table::new(alloc)?;
-    push_remarks(alloc, &mut table, remarks)?;
-    push_each_fullest(alloc, &mut table, records)?;
+    let mut table = Table::new(alloc, start)?;
+    push_remarks(alloc, &mut table, start, remarks)?;
+    push_each_fullest(alloc, &mut table, start, records)?;
     table.into_octets()
 }

@@ -16,3 +16,4 @@ pub mod OneList
 pub mod OneOrder
 pub mod OneRows
 pub mod OneTables
+pub mod WithinRun

@@ -1,7 +1,7 @@
 -- What is found of a tape is one list, and its table one text (own).
 use Rattle.std.specs.Prelude.{◌≡◌, ℕ, List, []}
 use Rattle.bsc_table.specs.Record.{Record}
-use Rattle.verification.specs.declared.detail.Detail.{Detail}
+use Rattle.verification.specs.declared.detail.TableLayout.{TableLayout}
 use Rattle.verification.specs.declared.difference.Difference.{Difference}
 use Rattle.verification.specs.declared.row.Row.{Row}
 use Rattle.verification.specs.Difference.{AreDifferences}
@@ -23,16 +23,16 @@ TapesHaveOneListOfRows = (records : List Record) (tapes : List TapeRecording) (r
     → AreRows records tapes other
     → rows ≡ other
 
--- and so is their table, however much it tells
+-- and so is their table, however it is laid out
 abbrev pub TapesHaveOneTable : Type 0
-TapesHaveOneTable = (told : Detail) (records : List Record) (tapes : List TapeRecording) (rows other : List Row)
+TapesHaveOneTable = (layout : TableLayout) (records : List Record) (tapes : List TapeRecording) (rows other : List Row)
     (text said : List ℕ)
-    → IsTable told records tapes rows text
-    → IsTable told records tapes other said
+    → IsTable layout records tapes rows text
+    → IsTable layout records tapes other said
     → (rows ≡ other) × (text ≡ said)
 
 -- the table of no rows has the names of its columns alone
 abbrev pub NoRowsAreAnEmptyTable : Type 0
-NoRowsAreAnEmptyTable = (told : Detail) (records : List Record) (tapes : List TapeRecording)
+NoRowsAreAnEmptyTable = (layout : TableLayout) (records : List Record) (tapes : List TapeRecording)
     → AreRows records tapes []
-    → IsTable told records tapes [] (empty_table told)
+    → IsTable layout records tapes [] (empty_table layout)

@@ -10,6 +10,7 @@ ghost use Rattle.verification_laws.specs.OwnTapes.{NoRowsAreFound, NothingIsFoun
 ghost use Rattle.verification_laws.specs.OwnTapes.{OwnTapesHaveNoRows, OwnTapesKeepTheirCells};
 ghost use Rattle.verification_laws.specs.Recorded.{RecordsAreRecorded};
 ghost use Rattle.verification_laws.specs.Shown.{AllShownAreAsked, NoOthersAreShown, OwedAreShown};
+ghost use Rattle.verification_laws.specs.Timed.{DifferencesAreWithin};
 
 /// States, as its contract, what is found of a cell's own tape. That the history is legal, and that its run is over,
 /// are the only premises. Own rules, of no standard.
@@ -23,6 +24,9 @@ pub fn verification_laws()
     // Their table, plain or explained, is one text, and has the names of its columns alone where there is no row.
     ensures tapes_have_one_table { TapesHaveOneTable }
     ensures no_rows_are_an_empty_table { NoRowsAreAnEmptyTable }
+
+    // Each difference is at a slot of the run or of the tape, so that it has a time.
+    ensures differences_are_within { DifferencesAreWithin }
 
     // The blocks of a legal history have none of the differences.
     ensures own_tapes_differ_nowhere { OwnTapesDifferNowhere }

@@ -12,7 +12,7 @@ use Rattle.device_ends.specs.declared.reading.Source.{Source}
 use Rattle.device_ends.specs.declared.writing.Sink.{Sink}
 use Rattle.handset.specs.declared.tape.TapeFault.TheVariants as tape
 use Rattle.short_pages.specs.declared.pages.Pages.{Pages}
-use Rattle.verification.specs.declared.detail.Detail.{Detail}
+use Rattle.verification.specs.declared.detail.TableLayout.{TableLayout}
 use Rattle.report.specs.declared.row.Columns.TheVariants as columns
 use Rattle.warnc_run.specs.declared.fault.RunFault.{RunFault}
 use Rattle.warnc_run.specs.declared.fault.RunFault.TheVariants as run
@@ -33,11 +33,11 @@ use Rattle.warnc_cli.specs.Status.{status_of_run_fault, status_of_verify_fault}
 use Rattle.warnc_cli.specs.Tasks.{IsNotVerified, IsUnverified, WritesOutputOfBoth}
 
 -- the table without a difference that was written is that of the book and of the tapes
-pub table_written : (from : Origin) (slots : ℕ) (pages : Pages) (detail : Detail) (ends : Readers)
+pub table_written : (from : Origin) (slots : ℕ) (pages : Pages) (layout : TableLayout) (ends : Readers)
     (old new : Option (List ℕ))
-    → FindsAndWrites from slots pages detail ends old new []
-    → WritesOutputOfBoth (IsVerified from slots pages detail) ends.book_first ends.tapes_first old new
-table_written from slots pages detail ends old new wrote =
+    → FindsAndWrites from slots pages layout ends old new []
+    → WritesOutputOfBoth (IsVerified from slots pages layout) ends.book_first ends.tapes_first old new
+table_written from slots pages layout ends old new wrote =
     let finds = wrote.0 in record {
       book_octets = finds.book;
       tapes_octets = finds.tapes;
@@ -49,22 +49,22 @@ table_written from slots pages detail ends old new wrote =
     }
 
 -- and it isn't empty
-pub some_written : (from : Origin) (slots : ℕ) (pages : Pages) (detail : Detail) (ends : Readers)
+pub some_written : (from : Origin) (slots : ℕ) (pages : Pages) (layout : TableLayout) (ends : Readers)
     (old new : Option (List ℕ))
-    → FindsAndWrites from slots pages detail ends old new []
+    → FindsAndWrites from slots pages layout ends old new []
     → WritesSome old new
-some_written from slots pages detail ends old new wrote =
+some_written from slots pages layout ends old new wrote =
     let finds = wrote.0 in
-    (wrote.1, some_table from slots pages detail finds.book finds.tapes wrote.1 (finds.differ, wrote.2), wrote.3)
+    (wrote.1, some_table from slots pages layout finds.book finds.tapes wrote.1 (finds.differ, wrote.2), wrote.3)
 
 -- so is the table of the differences that were found
-pub differences_written : (from : Origin) (slots : ℕ) (pages : Pages) (detail : Detail) (ends : Readers)
+pub differences_written : (from : Origin) (slots : ℕ) (pages : Pages) (layout : TableLayout) (ends : Readers)
     (old new : Option (List ℕ))
     (why : VerifyFault)
-    → IsVerifyFault from slots pages detail ends old new why
+    → IsVerifyFault from slots pages layout ends old new why
     → IsDifference why
-    → WritesOutputOfBoth (HasDifferences from slots pages detail) ends.book_first ends.tapes_first old new
-differences_written from slots pages detail ends old new (fault.Differences n) why is =
+    → WritesOutputOfBoth (HasDifferences from slots pages layout) ends.book_first ends.tapes_first old new
+differences_written from slots pages layout ends old new (fault.Differences n) why is =
     let finds = why.1.0 in record {
       book_octets = finds.book;
       tapes_octets = finds.tapes;
@@ -74,10 +74,10 @@ differences_written from slots pages detail ends old new (fault.Differences n) w
       is_output = (why.0, (finds.differ, why.1.2), omega (arith, why.2, why.3));
       appended = why.1.3;
     }
-differences_written from slots pages detail ends old new (fault.Run f) why is = absurd is
-differences_written from slots pages detail ends old new (fault.Tapes f) why is = absurd is
-differences_written from slots pages detail ends old new fault.Refused why is = absurd is
-differences_written from slots pages detail ends old new fault.WriteFailed why is = absurd is
+differences_written from slots pages layout ends old new (fault.Run f) why is = absurd is
+differences_written from slots pages layout ends old new (fault.Tapes f) why is = absurd is
+differences_written from slots pages layout ends old new fault.Refused why is = absurd is
+differences_written from slots pages layout ends old new fault.WriteFailed why is = absurd is
 
 -- readers of known octets
 abbrev known_readers : (book tapes : List ℕ) (book_last tapes_last : Option (List ℕ)) → Readers
@@ -89,16 +89,16 @@ known_readers book tapes book_last tapes_last = record {
 }
 
 -- a fault of status 1 that tells of no difference says why nothing is known of these tapes and this book
-unseen_here : (from : Origin) (slots : ℕ) (pages : Pages) (detail : Detail) (book tapes : List ℕ)
+unseen_here : (from : Origin) (slots : ℕ) (pages : Pages) (layout : TableLayout) (book tapes : List ℕ)
     (book_last tapes_last old new : Option (List ℕ))
     (why : VerifyFault)
-    → IsVerifyFault from slots pages detail (known_readers book tapes book_last tapes_last) old new why
+    → IsVerifyFault from slots pages layout (known_readers book tapes book_last tapes_last) old new why
     → status_of_verify_fault why ≡ 1
     → (IsDifference why → ⊥)
     → IsUnverified from slots book tapes
-unseen_here from slots pages detail book tapes book_last tapes_last old new (fault.Run f) told is none =
+unseen_here from slots pages layout book tapes book_last tapes_last old new (fault.Run f) told is none =
     inl (no_records from slots book book_last f told is)
-unseen_here from slots pages detail book tapes book_last tapes_last old new (fault.Tapes tape.Short) told is none =
+unseen_here from slots pages layout book tapes book_last tapes_last old new (fault.Tapes tape.Short) told is none =
     let run = told.1 in
     inr (
       (
@@ -108,7 +108,7 @@ unseen_here from slots pages detail book tapes book_last tapes_last old new (fau
       ),
       inl told.2,
     )
-unseen_here from slots pages detail book tapes book_last tapes_last old new (fault.Tapes tape.Long) told is none =
+unseen_here from slots pages layout book tapes book_last tapes_last old new (fault.Tapes tape.Long) told is none =
     let run = told.1 in
     inr (
       (
@@ -118,15 +118,15 @@ unseen_here from slots pages detail book tapes book_last tapes_last old new (fau
       ),
       inr told.2,
     )
-unseen_here from slots pages detail book tapes book_last tapes_last old new (fault.Tapes tape.ReadFailed) told is none =
+unseen_here from slots pages layout book tapes book_last tapes_last old new (fault.Tapes tape.ReadFailed) told is none =
     absurd (omega (arith, is))
-unseen_here from slots pages detail book tapes book_last tapes_last old new (fault.Tapes tape.Refused) told is none =
+unseen_here from slots pages layout book tapes book_last tapes_last old new (fault.Tapes tape.Refused) told is none =
     absurd (omega (arith, is))
-unseen_here from slots pages detail book tapes book_last tapes_last old new (fault.Differences n) told is none = absurd
+unseen_here from slots pages layout book tapes book_last tapes_last old new (fault.Differences n) told is none = absurd
     (none tt)
-unseen_here from slots pages detail book tapes book_last tapes_last old new fault.Refused told is none =
+unseen_here from slots pages layout book tapes book_last tapes_last old new fault.Refused told is none =
     absurd (omega (arith, is))
-unseen_here from slots pages detail book tapes book_last tapes_last old new fault.WriteFailed told is none =
+unseen_here from slots pages layout book tapes book_last tapes_last old new fault.WriteFailed told is none =
     absurd (omega (arith, is))
 
 -- what can't be judged isn't verified
@@ -135,13 +135,13 @@ unjudged : (from : Origin) (slots : ℕ) (pages : Pages) (book tapes : List ℕ)
 unjudged from slots pages book tapes (inl no_run) = inl no_run
 unjudged from slots pages book tapes (inr no_tapes) = inr (inl no_tapes)
 
-refused_here : (from : Origin) (slots : ℕ) (pages : Pages) (detail : Detail) (book tapes : List ℕ)
+refused_here : (from : Origin) (slots : ℕ) (pages : Pages) (layout : TableLayout) (book tapes : List ℕ)
     (book_last tapes_last old new : Option (List ℕ))
     (why : VerifyFault)
-    → IsVerifyFault from slots pages detail (known_readers book tapes book_last tapes_last) old new why
+    → IsVerifyFault from slots pages layout (known_readers book tapes book_last tapes_last) old new why
     → status_of_verify_fault why ≡ 1
     → IsNotVerified from slots pages book tapes
-refused_here from slots pages detail book tapes book_last tapes_last old new (fault.Differences n) told is =
+refused_here from slots pages layout book tapes book_last tapes_last old new (fault.Differences n) told is =
     let finds = told.1.0 in
     inr (inr (
       told.0,
@@ -151,22 +151,22 @@ refused_here from slots pages detail book tapes book_last tapes_last old new (fa
           finds.differ),
       omega (arith, told.2, told.3),
     ))
-refused_here from slots pages detail book tapes book_last tapes_last old new (fault.Run f) told is =
+refused_here from slots pages layout book tapes book_last tapes_last old new (fault.Run f) told is =
     unjudged from slots pages book tapes
-    (unseen_here from slots pages detail book tapes book_last tapes_last old new (fault.Run f) told is (λ no. no))
-refused_here from slots pages detail book tapes book_last tapes_last old new (fault.Tapes f) told is =
+    (unseen_here from slots pages layout book tapes book_last tapes_last old new (fault.Run f) told is (λ no. no))
+refused_here from slots pages layout book tapes book_last tapes_last old new (fault.Tapes f) told is =
     unjudged from slots pages book tapes
-    (unseen_here from slots pages detail book tapes book_last tapes_last old new (fault.Tapes f) told is (λ no. no))
-refused_here from slots pages detail book tapes book_last tapes_last old new fault.Refused told is = absurd
+    (unseen_here from slots pages layout book tapes book_last tapes_last old new (fault.Tapes f) told is (λ no. no))
+refused_here from slots pages layout book tapes book_last tapes_last old new fault.Refused told is = absurd
     (omega (arith, is))
-refused_here from slots pages detail book tapes book_last tapes_last old new fault.WriteFailed told is = absurd
+refused_here from slots pages layout book tapes book_last tapes_last old new fault.WriteFailed told is = absurd
     (omega (arith, is))
 
 -- a fault of `verify` with status 1 says why the tapes don't keep the book
-pub refused_verification : (from : Origin) (slots : ℕ) (pages : Pages) (detail : Detail)
+pub refused_verification : (from : Origin) (slots : ℕ) (pages : Pages) (layout : TableLayout)
     (book tapes book_last tapes_last old new : Option (List ℕ))
     (why : VerifyFault)
-    → IsVerifyFault from slots pages detail (record {
+    → IsVerifyFault from slots pages layout (record {
       book_first = book;
       book_last = book_last;
       tapes_first = tapes;
@@ -174,16 +174,16 @@ pub refused_verification : (from : Origin) (slots : ℕ) (pages : Pages) (detail
     }) old new why
     → status_of_verify_fault why ≡ 1
     → IfSome book (λ octets. IfSome tapes (IsNotVerified from slots pages octets))
-refused_verification from slots pages detail None tapes book_last tapes_last old new why told is = tt
-refused_verification from slots pages detail (Some book) None book_last tapes_last old new why told is = tt
-refused_verification from slots pages detail (Some book) (Some tapes) book_last tapes_last old new why told is =
-    refused_here from slots pages detail book tapes book_last tapes_last old new why told is
+refused_verification from slots pages layout None tapes book_last tapes_last old new why told is = tt
+refused_verification from slots pages layout (Some book) None book_last tapes_last old new why told is = tt
+refused_verification from slots pages layout (Some book) (Some tapes) book_last tapes_last old new why told is =
+    refused_here from slots pages layout book tapes book_last tapes_last old new why told is
 
 -- so says one of any readers
-pub unseen_verification : (from : Origin) (slots : ℕ) (pages : Pages) (detail : Detail)
+pub unseen_verification : (from : Origin) (slots : ℕ) (pages : Pages) (layout : TableLayout)
     (book tapes book_last tapes_last old new : Option (List ℕ))
     (why : VerifyFault)
-    → IsVerifyFault from slots pages detail (record {
+    → IsVerifyFault from slots pages layout (record {
       book_first = book;
       book_last = book_last;
       tapes_first = tapes;
@@ -192,10 +192,10 @@ pub unseen_verification : (from : Origin) (slots : ℕ) (pages : Pages) (detail 
     → status_of_verify_fault why ≡ 1
     → (IsDifference why → ⊥)
     → IfSome book (λ octets. IfSome tapes (IsUnverified from slots octets))
-unseen_verification from slots pages detail None tapes book_last tapes_last old new why told is none = tt
-unseen_verification from slots pages detail (Some book) None book_last tapes_last old new why told is none = tt
-unseen_verification from slots pages detail (Some book) (Some tapes) book_last tapes_last old new why told is none =
-    unseen_here from slots pages detail book tapes book_last tapes_last old new why told is none
+unseen_verification from slots pages layout None tapes book_last tapes_last old new why told is none = tt
+unseen_verification from slots pages layout (Some book) None book_last tapes_last old new why told is none = tt
+unseen_verification from slots pages layout (Some book) (Some tapes) book_last tapes_last old new why told is none =
+    unseen_here from slots pages layout book tapes book_last tapes_last old new why told is none
 
 -- with status 1 the differences were written, or nothing was of tapes and a book that can't be judged
 pub unseen_or_differs : (Unseen Kept Differ : Type 0) (why : VerifyFault)
@@ -368,79 +368,79 @@ of_run {R = R} f first_book last_book first last old new before after (inr other
     (ends.untouched (λ w. w)) kept
 
 -- what the engine says of the ends with a fault is what the fault's status says of them
-told : {B R W : Type 0} (from : Origin) (slots : ℕ) (pages : Pages) (detail : Detail) (readers : Readers)
+told : {B R W : Type 0} (from : Origin) (slots : ℕ) (pages : Pages) (layout : TableLayout) (readers : Readers)
     (held_old held_new : Option (List ℕ))
     (why : VerifyFault) (first_book last_book : Source B) (first last : Source R)
     (old new : Sink W) (before after : Option (List ℕ))
-    → IsVerifyFault from slots pages detail readers held_old held_new why
+    → IsVerifyFault from slots pages layout readers held_old held_new why
     → AreEnds why first_book last_book first last old new
     → (new ≡ old → Keeps before after)
     → IsVerifyRunBetween (status_of_verify_fault why) first_book last_book first last old new before after
-told from slots pages detail readers held_old held_new (fault.Run f) first_book last_book first last old new before
+told from slots pages layout readers held_old held_new (fault.Run f) first_book last_book first last old new before
     after is
     ends
     kept =
     of_run f first_book last_book first last old new before after
     (run_status from slots readers.book_first readers.book_last f is) ends kept
-told from slots pages detail readers held_old held_new (fault.Tapes tape.Short) first_book last_book first last old new
+told from slots pages layout readers held_old held_new (fault.Tapes tape.Short) first_book last_book first last old new
     before
     after
     is ends kept =
     quiet (fault.Tapes tape.Short) first_book last_book first last old new before after ends (inl refl)
     (tapes_sound _ first_book last_book first last old new ends (λ three. omega (arith, three)))
     (ends.untouched (λ w. w)) kept
-told from slots pages detail readers held_old held_new (fault.Tapes tape.Long) first_book last_book first last old new
+told from slots pages layout readers held_old held_new (fault.Tapes tape.Long) first_book last_book first last old new
     before
     after
     is ends kept =
     quiet (fault.Tapes tape.Long) first_book last_book first last old new before after ends (inl refl)
     (tapes_sound _ first_book last_book first last old new ends (λ three. omega (arith, three)))
     (ends.untouched (λ w. w)) kept
-told from slots pages detail readers held_old held_new (fault.Tapes tape.ReadFailed) first_book last_book first last
+told from slots pages layout readers held_old held_new (fault.Tapes tape.ReadFailed) first_book last_book first last
     old new
     before
     after is ends kept =
     failing 3 first_book last_book first last old new before after refl (inr (inl (ends.tapes_told refl)))
-told from slots pages detail readers held_old held_new (fault.Tapes tape.Refused) first_book last_book first last old
+told from slots pages layout readers held_old held_new (fault.Tapes tape.Refused) first_book last_book first last old
     new
     before
     after is ends kept =
     quiet (fault.Tapes tape.Refused) first_book last_book first last old new before after ends (inr refl)
     (tapes_sound _ first_book last_book first last old new ends (λ three. omega (arith, three)))
     (ends.untouched (λ w. w)) kept
-told from slots pages detail readers held_old held_new (fault.Differences n) first_book last_book first last old new
+told from slots pages layout readers held_old held_new (fault.Differences n) first_book last_book first last old new
     before
     after is
     ends kept =
     written n first_book last_book first last old new before after ends
-told from slots pages detail readers held_old held_new fault.Refused first_book last_book first last old new before
+told from slots pages layout readers held_old held_new fault.Refused first_book last_book first last old new before
     after is
     ends
     kept =
     quiet fault.Refused first_book last_book first last old new before after ends (inr refl)
     (tapes_sound _ first_book last_book first last old new ends (λ three. omega (arith, three)))
     (ends.untouched (λ w. w)) kept
-told from slots pages detail readers held_old held_new fault.WriteFailed first_book last_book first last old new before
+told from slots pages layout readers held_old held_new fault.WriteFailed first_book last_book first last old new before
     after
     is ends
     kept =
     failing 3 first_book last_book first last old new before after refl (inr (inr (ends.write_failed refl)))
 
 -- the same of a status that is the fault's
-pub between : {B R W : Type 0} (from : Origin) (slots : ℕ) (pages : Pages) (detail : Detail) (readers : Readers)
+pub between : {B R W : Type 0} (from : Origin) (slots : ℕ) (pages : Pages) (layout : TableLayout) (readers : Readers)
     (held_old held_new : Option (List ℕ))
     (why : VerifyFault) (status : ℕ) (first_book last_book : Source B) (first last : Source R)
     (old new : Sink W) (before after : Option (List ℕ))
     → status ≡ status_of_verify_fault why
-    → IsVerifyFault from slots pages detail readers held_old held_new why
+    → IsVerifyFault from slots pages layout readers held_old held_new why
     → AreEnds why first_book last_book first last old new
     → (new ≡ old → Keeps before after)
     → IsVerifyRunBetween status first_book last_book first last old new before after
-between from slots pages detail readers held_old held_new why status first_book last_book first last old new before
+between from slots pages layout readers held_old held_new why status first_book last_book first last old new before
     after same
     is
     ends kept =
     subst (λ (s : ℕ). IsVerifyRunBetween s first_book last_book first last old new before after) (sym same)
-    (told from slots pages detail readers held_old held_new why first_book last_book first last old new before after is
+    (told from slots pages layout readers held_old held_new why first_book last_book first last old new before after is
     ends
     kept)

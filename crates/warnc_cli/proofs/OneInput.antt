@@ -18,7 +18,7 @@ use Rattle.warnc_cli.specs.declared.command.Task.TheVariants as task
 -- what it writes
 writes : (t : Task) (book input old new : Option (List ℕ)) → IsSilent t → WritesOutput (Means t) input old new
     → WritesAll t book input old new
-writes (task.Verify from slots pages told file workers) book input old new one wrote = absurd one
+writes (task.Verify from slots pages layout file workers) book input old new one wrote = absurd one
 writes (task.Tapes wanted file) book input old new one wrote = absurd one
 writes (task.Page language id serial) book input old new one wrote = wrote
 writes (task.Read wanted) book input old new one wrote = wrote
@@ -29,14 +29,14 @@ writes task.Cells book input old new one wrote = wrote
 writes (task.Tape wanted) book input old new one wrote = wrote
 writes task.Groups book input old new one wrote = wrote
 writes task.Check book input old new one wrote = absurd one
-writes (task.Remark slots strict) book input old new one wrote = absurd one
+writes (task.Remark slots start strict) book input old new one wrote = absurd one
 writes (task.Texts pages) book input old new one wrote = wrote
 writes (task.Make run made) book input old new one wrote = wrote
 
 -- what it refuses
 refuses : (t : Task) (book input : Option (List ℕ)) → IsSilent t → IfSome input (RefusesOne t)
     → Refuses t book input
-refuses (task.Verify from slots pages told file workers) book input one refused = absurd one
+refuses (task.Verify from slots pages layout file workers) book input one refused = absurd one
 refuses (task.Tapes wanted file) book input one refused = absurd one
 refuses (task.Page language id serial) book input one refused = refused
 refuses (task.Read wanted) book input one refused = refused
@@ -47,14 +47,14 @@ refuses task.Cells book input one refused = refused
 refuses (task.Tape wanted) book input one refused = refused
 refuses task.Groups book input one refused = refused
 refuses task.Check book input one refused = absurd one
-refuses (task.Remark slots strict) book input one refused = absurd one
+refuses (task.Remark slots start strict) book input one refused = absurd one
 refuses (task.Texts pages) book input one refused = refused
 refuses (task.Make run made) book input one refused = refused
 
 -- the first groups that it wrote
 groups : (t : Task) (book input old new : Option (List ℕ)) → WritesFirstGroups t None input old new
     → WritesFirstGroups t book input old new
-groups (task.Verify from slots pages told file workers) book input old new wrote = wrote
+groups (task.Verify from slots pages layout file workers) book input old new wrote = wrote
 groups (task.Tapes wanted file) book input old new wrote = wrote
 groups (task.Page language id serial) book input old new wrote = wrote
 groups (task.Read wanted) book input old new wrote = wrote
@@ -65,7 +65,7 @@ groups task.Cells book input old new wrote = wrote
 groups (task.Tape wanted) book input old new wrote = wrote
 groups task.Groups book input old new wrote = wrote
 groups task.Check book input old new wrote = wrote
-groups (task.Remark slots strict) book input old new wrote = wrote
+groups (task.Remark slots start strict) book input old new wrote = wrote
 groups (task.Texts pages) book input old new wrote = wrote
 groups (task.Make run made) book input old new wrote = wrote
 
@@ -79,7 +79,7 @@ front t book input old new (inr wrote) = inr (groups t book input old new wrote)
 -- nothing, since it has no table
 unseen : (t : Task) (book input old new : Option (List ℕ)) → IsSilent t → Keeps old new
     → KeepsUnseen t book input old new
-unseen (task.Verify from slots pages told file workers) book input old new one kept = absurd one
+unseen (task.Verify from slots pages layout file workers) book input old new one kept = absurd one
 unseen (task.Tapes wanted file) book input old new one kept = absurd one
 unseen (task.Page language id serial) book input old new one kept = (tt, kept)
 unseen (task.Read wanted) book input old new one kept = (tt, kept)
@@ -90,7 +90,7 @@ unseen task.Cells book input old new one kept = (tt, kept)
 unseen (task.Tape wanted) book input old new one kept = (tt, kept)
 unseen task.Groups book input old new one kept = (tt, kept)
 unseen task.Check book input old new one kept = absurd one
-unseen (task.Remark slots strict) book input old new one kept = absurd one
+unseen (task.Remark slots start strict) book input old new one kept = absurd one
 unseen (task.Texts pages) book input old new one kept = (tt, kept)
 unseen (task.Make run made) book input old new one kept = (tt, kept)
 

@@ -14,7 +14,7 @@ use Rattle.warnc_cli.specs.declared.command.Task.TheVariants as task
 
 -- no other command than `verify` reads a book beside its input, and none but `tape` of all cells a table
 pub of_one_input : (words : List (List ℕ)) (t : Task) → IsTaskOf words t → IsOfOneFile words → IsOfOneInput t
-of_one_input words (task.Verify from slots pages told file workers) asked other = absurd (other.0 asked.command)
+of_one_input words (task.Verify from slots pages layout file workers) asked other = absurd (other.0 asked.command)
 of_one_input words (task.Tapes wanted file) asked other = absurd (apart (other.1 asked.command))
   where
     apart : is_given words (codes "--cells") ≡ false → ⊥
@@ -28,7 +28,7 @@ of_one_input words task.Cells asked other = tt
 of_one_input words (task.Tape wanted) asked other = tt
 of_one_input words task.Groups asked other = tt
 of_one_input words task.Check asked other = tt
-of_one_input words (task.Remark slots strict) asked other = tt
+of_one_input words (task.Remark slots start strict) asked other = tt
 of_one_input words (task.Texts pages) asked other = tt
 of_one_input words (task.Make run made) asked other = tt
 
@@ -39,16 +39,16 @@ may_write words (task.Make run made) status asked (inl done) = inl done
 may_write words (task.Make run made) status asked (inr (inl device)) = inr (inl device)
 may_write words (task.Make run made) status asked (inr (inr early)) =
     inr (inr (inr (early.0, subst (GivesBooks words) early.1 asked.books_given)))
-may_write words (task.Verify from slots pages told file workers) status asked (inl done) = inl done
-may_write words (task.Verify from slots pages told file workers) status asked (inr (inl device)) = inr (inl device)
-may_write words (task.Verify from slots pages told file workers) status asked (inr (inr differ)) =
+may_write words (task.Verify from slots pages layout file workers) status asked (inl done) = inl done
+may_write words (task.Verify from slots pages layout file workers) status asked (inr (inl device)) = inr (inl device)
+may_write words (task.Verify from slots pages layout file workers) status asked (inr (inr differ)) =
     inr (inr (inl (differ, inl asked.command)))
 may_write words task.Check status asked (inl done) = inl done
 may_write words task.Check status asked (inr (inl device)) = inr (inl device)
 may_write words task.Check status asked (inr (inr faults)) = inr (inr (inl (faults, inr asked.command)))
-may_write words (task.Remark slots strict) status asked (inl done) = inl done
-may_write words (task.Remark slots strict) status asked (inr (inl device)) = inr (inl device)
-may_write words (task.Remark slots strict) status asked (inr (inr faults)) =
+may_write words (task.Remark slots start strict) status asked (inl done) = inl done
+may_write words (task.Remark slots start strict) status asked (inr (inl device)) = inr (inl device)
+may_write words (task.Remark slots start strict) status asked (inr (inr faults)) =
     inr (inr (inl (faults, inr asked.command)))
 may_write words (task.Page language id serial) status asked (inl done) = inl done
 may_write words (task.Page language id serial) status asked (inr device) = inr (inl device)
@@ -102,7 +102,7 @@ writes_some words (task.Make run product.Tapes) asked compile live whole plan re
 writes_some words (task.Make run (product.Report layout)) asked compile live whole plan report =
     headed words run.books asked.books_given (report asked.made_given.0)
 writes_some words (task.Make run (product.Chart wanted)) asked compile live whole plan report = tt
-writes_some words (task.Verify from slots pages told file workers) asked compile live whole plan report = tt
+writes_some words (task.Verify from slots pages layout file workers) asked compile live whole plan report = tt
 writes_some words (task.Page language id serial) asked compile live whole plan report = tt
 writes_some words (task.Read wanted) asked compile live whole plan report = tt
 writes_some words task.Whole asked compile live whole plan report = absurd (whole asked)
@@ -113,5 +113,5 @@ writes_some words (task.Tape wanted) asked compile live whole plan report = tt
 writes_some words (task.Tapes wanted file) asked compile live whole plan report = tt
 writes_some words task.Groups asked compile live whole plan report = tt
 writes_some words task.Check asked compile live whole plan report = tt
-writes_some words (task.Remark slots strict) asked compile live whole plan report = tt
+writes_some words (task.Remark slots start strict) asked compile live whole plan report = tt
 writes_some words (task.Texts pages) asked compile live whole plan report = tt

@@ -33,6 +33,7 @@ use Rattle.short_pages.specs.declared.pages.Pages.TheVariants.{OfAny, OfFour}
 use Rattle.slot_times.specs.declared.start.Start.{Start as SlotStart}
 use Rattle.verification.specs.declared.detail.Detail.{Detail}
 use Rattle.verification.specs.declared.detail.Detail.TheVariants as detail
+use Rattle.verification.specs.declared.detail.TableLayout.{TableLayout}
 use Rattle.warnc_air.specs.declared.all.AllWanted.{AllWanted}
 use Rattle.warnc_run.specs.declared.run.Books.{Books}
 use Rattle.warnc_run.specs.declared.run.Books.TheVariants as books
@@ -161,10 +162,12 @@ pub record GivesSlots (words : List (List ℕ)) (slots : ℕ) : Type 0 where
   pub some : 1 ≤ slots
   pub most : slots ≤ 65535
 
--- the words ask for `check` of the rows and of a run of this number of slots, which is strict or not
-pub record AsksForRemarks (words : List (List ℕ)) (slots : ℕ) (strict : Bool) : Type 0 where
+-- the words ask for `check` of the rows and of a run of this number of slots, by the time at which slot 0 begins or by
+-- none, which is strict or not
+pub record AsksForRemarks (words : List (List ℕ)) (slots : ℕ) (start : Option SlotStart) (strict : Bool) : Type 0 where
   pub command : slice_get words 1 ≡ Some (codes "check")
   pub slots_given : GivesSlots words slots
+  pub start_given : GivesSlotStart words start
   pub strict_given : strict ≡ is_given words (codes "--strict")
 
 -- the words give the option of this name a number, 1 to 64; it is 1 where no word begins with the option's name
@@ -331,16 +334,20 @@ pub record AsksForRun (words : List (List ℕ)) (run : Run) (made : Product) : T
 abbrev pub detail_given : (words : List (List ℕ)) → Detail
 detail_given words = if is_given words (codes "--explain") then detail.Explained else detail.Plain
 
+-- and whether it is to have times
+abbrev pub GivesTableLayout : (words : List (List ℕ)) → TableLayout → Type 0
+GivesTableLayout words layout = (layout.detail ≡ detail_given words) × GivesSlotStart words layout.start
+
 -- the words ask for `verify` of the book, or the group's, in the file of this name, with this number of slots and of
--- workers, by these pages of the tapes, and with so much detail
-pub record AsksForVerify (words : List (List ℕ)) (from : Origin) (slots : ℕ) (pages : Pages) (told : Detail)
+-- workers, by these pages of the tapes, and in a table that is laid out so
+pub record AsksForVerify (words : List (List ℕ)) (from : Origin) (slots : ℕ) (pages : Pages) (layout : TableLayout)
     (file : List ℕ) (workers : ℕ) : Type 0
   where
     pub command : slice_get words 1 ≡ Some (codes "verify")
     pub origin_given : GivesOrigin words from
     pub slots_given : GivesSlots words slots
     pub wanted_given : pages ≡ pages_given words
-    pub told_given : told ≡ detail_given words
+    pub layout_given : GivesTableLayout words layout
     pub book_given : GivesValue words (codes "--book") file
     pub workers_given : GivesThreads words (codes "--workers") workers
 

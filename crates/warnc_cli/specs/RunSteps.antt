@@ -8,6 +8,7 @@ use Rattle.device_ends.specs.Source.{reader_of, source_failed}
 use Rattle.device_ends.specs.Stream.{Writes}
 use Rattle.device_ends.specs.declared.reading.Source.{Source}
 use Rattle.device_ends.specs.declared.writing.Sink.{Sink}
+use Rattle.slot_times.specs.declared.start.Start.{Start}
 use Rattle.warnc_run.specs.declared.run.Books.TheVariants as books
 use Rattle.warnc_cli.specs.Run.{AnyHasFailed, ByInputs, OneHasFailed, WritesSome}
 use Rattle.warnc_cli.specs.Tasks.{AlwaysWrites, KeepsUnseen, Means, Refuses, RefusesOne, WritesAll}
@@ -19,23 +20,23 @@ use Rattle.warnc_cli.specs.declared.command.Task.TheVariants as task
 abbrev pub MayHaveWritten : Task → (status : ℕ) → Type 0
 MayHaveWritten (task.Make run made) status =
     (status ≡ 0) ⊎ ((status ≡ 3) ⊎ (((status ≡ 1) ⊎ (status ≡ 4)) × (run.books ≡ books.EachGroup)))
-MayHaveWritten (task.Verify from slots pages told file workers) status = (status ≡ 0) ⊎ ((status ≡ 3) ⊎ (status ≡ 1))
+MayHaveWritten (task.Verify from slots pages layout file workers) status = (status ≡ 0) ⊎ ((status ≡ 3) ⊎ (status ≡ 1))
 MayHaveWritten task.Check status = (status ≡ 0) ⊎ ((status ≡ 3) ⊎ (status ≡ 1))
-MayHaveWritten (task.Remark slots strict) status = (status ≡ 0) ⊎ ((status ≡ 3) ⊎ (status ≡ 1))
+MayHaveWritten (task.Remark slots start strict) status = (status ≡ 0) ⊎ ((status ≡ 3) ⊎ (status ≡ 1))
 MayHaveWritten other status = (status ≡ 0) ⊎ (status ≡ 3)
 
 -- a task reads no book or table beside its input
 abbrev pub IsOfOneInput : Task → Type 0
-IsOfOneInput (task.Verify from slots pages told file workers) = ⊥
+IsOfOneInput (task.Verify from slots pages layout file workers) = ⊥
 IsOfOneInput (task.Tapes wanted file) = ⊥
 IsOfOneInput other = ⊤
 
 -- nor a table with status 1
 abbrev pub IsSilent : Task → Type 0
-IsSilent (task.Verify from slots pages told file workers) = ⊥
+IsSilent (task.Verify from slots pages layout file workers) = ⊥
 IsSilent (task.Tapes wanted file) = ⊥
 IsSilent task.Check = ⊥
-IsSilent (task.Remark slots strict) = ⊥
+IsSilent (task.Remark slots start strict) = ⊥
 IsSilent other = ⊤
 
 -- what status 0 says of a task of one input
@@ -69,11 +70,13 @@ WroteFaultsBy status left held first old new = (status ≡ 1
 
 -- and of what `check --slots` wrote: with 1 the faults or the remarks, or nothing of a book that is too long or has no
 -- run, and with 4 nothing
-abbrev pub WroteRemarksBy : {R W : Type 0} → (slots : ℕ) (strict : Bool) (status : ℕ) (left : R → Option (List ℕ))
+abbrev pub WroteRemarksBy : {R W : Type 0} → (slots : ℕ) (start : Option Start) (strict : Bool) (status : ℕ)
+    (left : R → Option (List ℕ))
     (held : W → Option (List ℕ)) → (first : Source R) → (old new : Sink W) → Type 0
-WroteRemarksBy slots strict status left held first old new = (status ≡ 1
-    → KeepsUnseen (task.Remark slots strict) None (left (reader_of first)) (held (writer_of old)) (held (writer_of new))
-    ⊎ WritesDifferences (task.Remark slots strict) None (left (reader_of first)) (held (writer_of old))
+WroteRemarksBy slots start strict status left held first old new = (status ≡ 1
+    → KeepsUnseen (task.Remark slots start strict) None (left (reader_of first)) (held (writer_of old))
+    (held (writer_of new))
+    ⊎ WritesDifferences (task.Remark slots start strict) None (left (reader_of first)) (held (writer_of old))
     (held (writer_of new)))
     × (status ≡ 4 → Writes held Keeps old new)
 

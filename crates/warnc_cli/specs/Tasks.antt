@@ -20,6 +20,7 @@ use Rattle.handset.specs.Tape.{IsShort, IsLong}
 use Rattle.plan.specs.PlanOutput.{IsPlanOutput, IsPlanRowFault, IsTooLong}
 use Rattle.plan.specs.declared.fault.PlanRowFault.{PlanRowFault}
 use Rattle.short_pages.specs.declared.pages.Pages.{Pages}
+use Rattle.slot_times.specs.declared.start.Start.{Start}
 use Rattle.gsmtap.specs.TapesOfCapture.{AreTapesOfCapture, IsTapesFault}
 use Rattle.gsmtap.specs.declared.tapes.TapesFault.{TapesFault}
 use Rattle.warnc_air.specs.AllTapes.{all_wanted}
@@ -60,12 +61,12 @@ IsTaskOf words (task.Tape wanted) = AsksForTape words wanted
 IsTaskOf words (task.Tapes wanted file) = AsksForTapes words wanted file.now
 IsTaskOf words task.Groups = AsksForGroups words
 IsTaskOf words task.Check = AsksForCheck words
-IsTaskOf words (task.Remark slots strict) = AsksForRemarks words slots strict
+IsTaskOf words (task.Remark slots start strict) = AsksForRemarks words slots start strict
 IsTaskOf words task.Plan = AsksForPlan words
 IsTaskOf words (task.Texts pages) = AsksForTexts words pages
 IsTaskOf words (task.Make run made) = AsksForRun words run made
-IsTaskOf words (task.Verify from slots pages told file workers) =
-    AsksForVerify words from slots pages told file.now workers.number
+IsTaskOf words (task.Verify from slots pages layout file workers) =
+    AsksForVerify words from slots pages layout file.now workers.number
 
 -- What is written with status 0.
 
@@ -80,11 +81,11 @@ Means (task.Tape wanted) = IsTapeOfCapture wanted
 Means (task.Tapes wanted file) = λ input output. ⊥
 Means task.Groups = IsGroupCount
 Means task.Check = IsClean
-Means (task.Remark slots strict) = IsRemarkedFor slots strict
+Means (task.Remark slots start strict) = IsRemarkedFor slots start strict
 Means task.Plan = IsPlanOutput
 Means (task.Texts pages) = IsTextsOutput pages
 Means (task.Make run made) = IsMadeBy run made
-Means (task.Verify from slots pages told file workers) = λ input output. ⊥
+Means (task.Verify from slots pages layout file workers) = λ input output. ⊥
 
 -- the octets are a table of cells and a capture, and the tapes of the cells
 abbrev pub AreAllTapes : AllWanted → (table capture output : List ℕ) → Type 0
@@ -106,8 +107,8 @@ pub record WritesOutputOfBoth (IsOutput : (book tapes output : List ℕ) → Typ
 -- what a task writes: `book` and `input` are what the readers had left, if that is known, and `old` and `new` are what
 -- the writer held before and after
 abbrev pub WritesAll : Task → (book input old new : Option (List ℕ)) → Type 0
-WritesAll (task.Verify from slots pages told file workers) book input old new =
-    WritesOutputOfBoth (IsVerified from slots pages told) book input old new
+WritesAll (task.Verify from slots pages layout file workers) book input old new =
+    WritesOutputOfBoth (IsVerified from slots pages layout) book input old new
 WritesAll (task.Tapes wanted file) book input old new = WritesOutputOfBoth (AreAllTapes wanted) book input old new
 WritesAll other book input old new = WritesOutput (Means other) input old new
 
@@ -153,9 +154,9 @@ abbrev pub IsNotClean : (input : List ℕ) → Type 0
 IsNotClean input = (max_book < length input) ⊎ ((count : ℕ) × (output : List ℕ) × HasFaults count input output)
 
 -- the input is refused: it isn't clean; or its run ends early; or it is strict, and there is a remark
-abbrev pub IsRemarkable : (slots : ℕ) (strict : Bool) (input : List ℕ) → Type 0
-IsRemarkable slots strict input = IsNotClean input ⊎ (((f : RunFault) × IsStopped slots input f)
-    ⊎ ((strict ≡ true) × ((count : ℕ) × (output : List ℕ) × HasRemarks slots count input output)))
+abbrev pub IsRemarkable : (slots : ℕ) (start : Option Start) (strict : Bool) (input : List ℕ) → Type 0
+IsRemarkable slots start strict input = IsNotClean input ⊎ (((f : RunFault) × IsStopped slots input f)
+    ⊎ ((strict ≡ true) × ((count : ℕ) × (output : List ℕ) × HasRemarks slots start count input output)))
 
 -- the input is refused: it has more octets than a book may have, or a row that is none of a book
 abbrev pub IsNoRows : (input : List ℕ) → Type 0
@@ -229,15 +230,15 @@ RefusesOne (task.Tape wanted) = IsNoAir wanted
 RefusesOne (task.Tapes wanted file) = λ input. ⊥
 RefusesOne task.Groups = IsNoNetwork 0
 RefusesOne task.Check = IsNotClean
-RefusesOne (task.Remark slots strict) = IsRemarkable slots strict
+RefusesOne (task.Remark slots start strict) = IsRemarkable slots start strict
 RefusesOne task.Plan = IsNoPlan
 RefusesOne (task.Texts pages) = IsNoRows
 RefusesOne (task.Make run made) = IsNoRunOf run.books run.slots run.sessions.number
-RefusesOne (task.Verify from slots pages told file workers) = λ input. ⊥
+RefusesOne (task.Verify from slots pages layout file workers) = λ input. ⊥
 
 -- what a task refuses, of readers whose octets are known
 abbrev pub Refuses : Task → (book input : Option (List ℕ)) → Type 0
-Refuses (task.Verify from slots pages told file workers) book input =
+Refuses (task.Verify from slots pages layout file workers) book input =
     IfSome book (λ octets. IfSome input (IsNotVerified from slots pages octets))
 Refuses (task.Tapes wanted file) book input = IfSome book (λ table. IfSome input (HasNoTapes wanted table))
 Refuses other book input = IfSome input (RefusesOne other)
@@ -251,10 +252,10 @@ IsUnremarked slots input = (max_book < length input) ⊎ ((f : RunFault) × IsSt
 -- a task refuses what it reads and has no table to write of it: `verify` has no run or no tapes, and a book is too long
 -- for `check`, or has no run with `--slots`. Other commands never write a table with status 1
 abbrev pub RefusesUnseen : Task → (book input : Option (List ℕ)) → Type 0
-RefusesUnseen (task.Verify from slots pages told file workers) book input =
+RefusesUnseen (task.Verify from slots pages layout file workers) book input =
     IfSome book (λ octets. IfSome input (IsUnverified from slots octets))
 RefusesUnseen task.Check book input = IfSome input (λ octets. max_book < length octets)
-RefusesUnseen (task.Remark slots strict) book input = IfSome input (IsUnremarked slots)
+RefusesUnseen (task.Remark slots start strict) book input = IfSome input (IsUnremarked slots)
 RefusesUnseen other book input = ⊤
 
 -- so nothing was written
@@ -270,11 +271,11 @@ WritesFirstGroups other book input old new = ⊥
 -- the table of the differences was written, of which there is one at least, or that of the rows with a fault, or that
 -- of the remarks
 abbrev pub WritesDifferences : Task → (book input old new : Option (List ℕ)) → Type 0
-WritesDifferences (task.Verify from slots pages told file workers) book input old new =
-    WritesOutputOfBoth (HasDifferences from slots pages told) book input old new
+WritesDifferences (task.Verify from slots pages layout file workers) book input old new =
+    WritesOutputOfBoth (HasDifferences from slots pages layout) book input old new
 WritesDifferences task.Check book input old new =
     (count : ℕ) × WritesOutput (HasFaults count) input old new
-WritesDifferences (task.Remark slots strict) book input old new =
+WritesDifferences (task.Remark slots start strict) book input old new =
     ((count : ℕ) × WritesOutput (HasFaults count) input old new)
-    ⊎ ((count : ℕ) × WritesOutput (HasRemarks slots count) input old new)
+    ⊎ ((count : ℕ) × WritesOutput (HasRemarks slots start count) input old new)
 WritesDifferences other book input old new = ⊥

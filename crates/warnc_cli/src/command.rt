@@ -9,6 +9,7 @@ ghost use Rattle.warnc_cli.specs.CommandLine.{GivesLanguage, GivesPart, GivesSlo
 ghost use Rattle.warnc_cli.specs.CommandLine.{IsAddress, IsCell};
 ghost use Rattle.warnc_cli.specs.CommandLine.{columns_given, slots_given, GivesBooks, GivesOrigin, GivesPages};
 ghost use Rattle.warnc_cli.specs.CommandLine.{detail_given, pages_given, GivesProduct, GivesTapeSlots, IsNumber};
+ghost use Rattle.warnc_cli.specs.CommandLine.{GivesTableLayout};
 ghost use Rattle.warnc_cli.specs.Tasks.{IsTaskOf};
 
 use crate::start::{slot_start_in, start_in};
@@ -24,7 +25,7 @@ use report::{Columns, Layout};
 use short_pages::Pages;
 use std::alloc::{AllocError, Global};
 use std::convert::AsStr;
-use verification::Detail;
+use verification::{Detail, TableLayout};
 use warnc_air::all::AllWanted;
 use warnc_run::{Books, Product, Run, Sessions, Workers};
 
@@ -74,6 +75,8 @@ pub enum Task<'a> {
     Remark {
         /// How many slots each cell's run has, at least 1.
         slots: u16,
+        /// When slot 0 begins, if times are wanted.
+        start: Option<slot_times::Start>,
         /// Whether there are to be no remarks.
         strict: bool,
     },
@@ -99,8 +102,8 @@ pub enum Task<'a> {
         slots: u16,
         /// Which pages of the tapes are read.
         pages: Pages,
-        /// How much is told of each difference.
-        told: Detail,
+        /// How the table of differences is laid out.
+        layout: TableLayout,
         /// The name of the book's file.
         file: &'a str,
         /// How many workers play the cells.
@@ -161,7 +164,7 @@ fn task_in<'a, S: AsStr>(words: &'a [S]) -> Option<Task<'a>>
             origin: origin_in(words)?,
             slots: slots_in(words)?,
             pages: wanted_pages(words),
-            told: detail_in(words),
+            layout: table_layout_in(words)?,
             file: value_of(words, "--book")?,
             workers: workers_in(words)?,
         }),
@@ -232,6 +235,7 @@ fn check_in<'a, S: AsStr>(words: &'a [S]) -> Option<Task<'a>>
     }
     Some(Task::Remark {
         slots: slots_in(words)?,
+        start: slot_start_in(words)?,
         strict: is_given(words, "--strict"),
     })
 }
@@ -295,6 +299,17 @@ fn detail_in<S: AsStr>(words: &[S]) -> Detail
     } else {
         Detail::Plain
     }
+}
+
+/// How the words want the table of differences to be laid out.
+fn table_layout_in<S: AsStr>(words: &[S]) -> Option<TableLayout>
+    ensures { IfSome result (GivesTableLayout (map S.text words.now)) }
+{
+    let start = slot_start_in(words)?;
+    Some(TableLayout {
+        detail: detail_in(words),
+        start,
+    })
 }
 
 /// The columns that the words want in a report.
@@ -751,6 +766,7 @@ fn verify<'a>(alloc: Global) -> Result<Command<'a>, AllocError> {
         .arg(slots(alloc))?
         .arg(short(alloc))?
         .arg(explain(alloc))?
+        .arg(differing_clock(alloc))?
         .arg(group(alloc))?
         .arg(workers(alloc))
 }
@@ -763,6 +779,7 @@ fn check<'a>(alloc: Global) -> Result<Command<'a>, AllocError> {
         )
         .after_help("Example: warnc check --slots 4096 < book.csv")
         .arg(checked_slots(alloc))?
+        .arg(checked_clock(alloc)?)?
         .arg(strict(alloc)?)
 }
 
@@ -1079,6 +1096,27 @@ fn clock<'a>(alloc: Global) -> Arg<'a> {
         "TIME",
         "When slot 0 begins, as 2026-11-28T20:00:00Z: adds\ncolumns of the times, in UTC, of the slots",
     )
+}
+
+/// The option of the time at which a run that is verified begins.
+fn differing_clock<'a>(alloc: Global) -> Arg<'a> {
+    optional(
+        alloc,
+        "start",
+        "TIME",
+        "When slot 0 begins, as 2026-11-28T20:00:00Z: adds a\ncolumn of the time, in UTC, of each slot",
+    )
+}
+
+/// The option of the time at which a run that is checked begins.
+fn checked_clock<'a>(alloc: Global) -> Result<Arg<'a>, AllocError> {
+    optional(
+        alloc,
+        "start",
+        "TIME",
+        "When slot 0 begins, as 2026-11-28T20:00:00Z: adds a\ncolumn of the time, in UTC, of each slot",
+    )
+    .requires_arg("slots")
 }
 
 /// The option of the channel that a capture names.

@@ -33,12 +33,13 @@ use gsmtap::{Settings, Wanted};
 use order_desk::Open;
 use plan::plan_stream;
 use short_pages::Pages;
+use slot_times::Start;
 use std::alloc::{AllocGlobal, Global};
 use std::convert::AsStr;
 use std::io::{Read, Write};
 use std::sync::Wait;
 use std::thread::Threads;
-use verification::Detail;
+use verification::TableLayout;
 use warnc_air::all::{AllWanted, all_tapes_stream};
 use warnc_air::cells::cells_stream;
 use warnc_air::pcap::pcap_stream;
@@ -222,7 +223,11 @@ fn run_task<T: AllocGlobal + Threads + Wait + Sync, B: Read, R: Read, W: Write, 
         }
         Task::Groups => run_groups(rt, source, sink, faults),
         Task::Check => run_check(alloc, source, sink, faults),
-        Task::Remark { slots, strict } => run_remark(rt, slots, strict, source, sink, faults),
+        Task::Remark {
+            slots,
+            start,
+            strict,
+        } => run_remark(rt, slots, start, strict, source, sink, faults),
         Task::Plan => run_plan(alloc, source, sink, faults),
         Task::Texts { pages } => run_texts(alloc, pages, source, sink, faults),
         Task::Make { run, made } => run_books(rt, run, made, source, sink, faults),
@@ -230,11 +235,11 @@ fn run_task<T: AllocGlobal + Threads + Wait + Sync, B: Read, R: Read, W: Write, 
             origin,
             slots,
             pages,
-            told,
+            layout,
             file,
             workers,
         } => run_verify(
-            rt, origin, slots, pages, told, file, workers, book, source, sink, faults,
+            rt, origin, slots, pages, layout, file, workers, book, source, sink, faults,
         ),
     }
 }
@@ -422,18 +427,20 @@ fn run_check<R: Read, W: Write, F: Write>(
 fn run_remark<T: AllocGlobal + Threads + Wait + Sync, R: Read, W: Write, F: Write>(
     rt: &T,
     slots: u16,
+    start: Option<Start>,
     strict: bool,
     source: &mut Source<R>,
     sink: &mut Sink<W>,
     faults: &mut F,
 ) -> u8
-    ensures done { IsDoneBy (Task.Remark slots strict) result R.remaining W.contents source.old sink.old sink.new }
-    ensures wrote { WroteSomeBy (Task.Remark slots strict) result W.contents sink.old sink.new }
-    ensures refused { IsRefusedBy (Task.Remark slots strict) result R.remaining source.old }
-    ensures told { WroteRemarksBy slots strict result R.remaining W.contents source.old sink.old sink.new }
-    ensures ends { IsRunBetween (Task.Remark slots strict) result W.contents source.new sink.old sink.new }
+    ensures done { IsDoneBy (Task.Remark slots start strict) result R.remaining W.contents source.old sink.old
+        sink.new }
+    ensures wrote { WroteSomeBy (Task.Remark slots start strict) result W.contents sink.old sink.new }
+    ensures refused { IsRefusedBy (Task.Remark slots start strict) result R.remaining source.old }
+    ensures told { WroteRemarksBy slots start strict result R.remaining W.contents source.old sink.old sink.new }
+    ensures ends { IsRunBetween (Task.Remark slots start strict) result W.contents source.new sink.old sink.new }
 {
-    match remark_stream(rt, source, sink, slots, strict) {
+    match remark_stream(rt, source, sink, slots, start, strict) {
         Ok(()) => DONE,
         Err(fault) => failed(&fault, faults),
     }
@@ -505,7 +512,7 @@ fn run_verify<T: AllocGlobal + Threads + Wait + Sync, B: Read, R: Read, W: Write
     origin: Origin,
     slots: u16,
     pages: Pages,
-    told: Detail,
+    layout: TableLayout,
     file: &str,
     workers: Workers,
     book: &mut Source<B>,
@@ -513,7 +520,7 @@ fn run_verify<T: AllocGlobal + Threads + Wait + Sync, B: Read, R: Read, W: Write
     sink: &mut Sink<W>,
     faults: &mut F,
 ) -> u8
-    ensures done { result ≡ DONE → WritesOutputOfBoth (IsVerified origin slots pages told)
+    ensures done { result ≡ DONE → WritesOutputOfBoth (IsVerified origin slots pages layout)
         (B.remaining (reader_of book.old)) (R.remaining (reader_of tapes.old))
         (W.contents (writer_of sink.old)) (W.contents (writer_of sink.new)) }
     ensures ends { IsVerifyRunBetween result book.old book.new tapes.old tapes.new sink.old sink.new
@@ -524,11 +531,11 @@ fn run_verify<T: AllocGlobal + Threads + Wait + Sync, B: Read, R: Read, W: Write
     ensures differences { result ≡ REFUSED_INPUT → (IfSome (B.remaining (reader_of book.old)) (λ octets.
         IfSome (R.remaining (reader_of tapes.old)) (IsUnverified origin slots octets))
         × Keeps (W.contents (writer_of sink.old)) (W.contents (writer_of sink.new)))
-        ⊎ WritesOutputOfBoth (HasDifferences origin slots pages told)
+        ⊎ WritesOutputOfBoth (HasDifferences origin slots pages layout)
         (B.remaining (reader_of book.old)) (R.remaining (reader_of tapes.old))
         (W.contents (writer_of sink.old)) (W.contents (writer_of sink.new)) }
 {
-    match verify_stream(rt, book, tapes, sink, origin, slots, pages, told, workers) {
+    match verify_stream(rt, book, tapes, sink, origin, slots, pages, layout, workers) {
         Ok(()) => DONE,
         Err(fault) => failed_with_book(&fault, file, faults),
     }

@@ -304,7 +304,7 @@ args report --slots 4 --start 18:30
 fails -> 2 warnc: no such time: --start is as 2026-11-28T20:00:00Z, from 1970 to 2105
 args report --slots 4 --start
 usage -> 2 error:
-# only `report` and `pcap` have a start
+# not all commands have a start
 args compile --slots 4 --start 2026-11-29T18:30:00Z
 usage -> 2 error:
 args chart --slots 4 --start 2026-11-29T18:30:00Z

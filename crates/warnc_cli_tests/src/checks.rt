@@ -74,6 +74,73 @@ args check --slots 24 --workers 2
 usage -> 2 error:
 ";
 
+/// Remarks with times on the clock, which are from Python's datetime and fractions.
+const TIMES: &str = "
+# in UTC, cut to the millisecond, whatever the zone and the fraction are that the words have
+worked row,name,cell,says,time
+worked 4,b,,done at slot 20,2026-11-29T18:30:37.661Z
+worked 5,a,,past the end,
+worked ,,1-2,gets nothing,
+worked ,,1-1,fullest: 50 % at slot 20,2026-11-29T18:30:37.661Z
+worked ,,1-2,fullest: 0 % at slot 0,2026-11-29T18:30:00.000Z
+in cell,1,1
+in cell,1,2
+in write,20,a,4370,0,1,en,2,4,0,1-1,One
+in write,4,b,4371,0,2,en,2,4,0,1-1,Two
+in stop,30,a,1-1
+args check --slots 24 --start 2026-11-29T18:30:00Z
+run -> 0
+all -> worked
+args check --start=2026-11-29T19:30:00.0000009+01:00 --slots=24
+run -> 0
+all -> worked
+args check --slots 24 --start 2026-11-29T18:30:00Z --strict
+run -> 1
+all -> worked
+err -> warnc: remarks: 3
+reads 0 90 -> 3 warnc: read failed
+writer 25 3
+run -> 3
+err -> warnc: write failed
+all -> 75 of 219
+# without them it is as it was
+args check --slots 24
+run -> 0
+out -> row,name,cell,says
+out -> 4,b,,done at slot 20
+out -> 5,a,,past the end
+out -> ,,1-2,gets nothing
+out -> ,,1-1,fullest: 50 % at slot 20
+out -> ,,1-2,fullest: 0 % at slot 0
+
+# the latest start; faults have no times
+args check --slots 24 --start 2105-12-31T23:59:59.999999Z
+in cell,1,1
+run -> 0
+out -> row,name,cell,says,time
+out -> ,,1-1,gets nothing,
+out -> ,,1-1,fullest: 0 % at slot 0,2105-12-31T23:59:59.999Z
+in cell,1
+run -> 1
+out -> row,line,column,field,value,says
+out -> 1,1,1,VERB,cell,\"2 columns, cell has 3\"
+err -> warnc: faults: 1
+
+# no such times, and none without a run
+args check --slots 24 --start 2106-01-01T00:00:00Z
+fails -> 2 warnc: no such time: --start is as 2026-11-28T20:00:00Z, from 1970 to 2105
+args check --slots 24 --start 1969-12-31T23:59:59.999999Z
+fails -> 2 warnc: no such time: --start is as 2026-11-28T20:00:00Z, from 1970 to 2105
+args check --slots 24 --start 18:30
+fails -> 2 warnc: no such time: --start is as 2026-11-28T20:00:00Z, from 1970 to 2105
+args check --slots 24 --start
+usage -> 2 error:
+args check --start 2026-11-29T18:30:00Z
+usage -> 2 error:
+args check --start 2026-11-29T18:30:00Z --strict
+usage -> 2 error:
+";
+
 const TEXTS: &str = "
 args texts
 in cell,1,1
@@ -115,6 +182,11 @@ fn books_are_checked(rt: HostRuntime) -> Result<(), Fail> {
 #[test]
 fn runs_are_remarked(rt: HostRuntime) -> Result<(), Fail> {
     expect_rows(&rt, REMARKS, 38)
+}
+
+#[test]
+fn remarks_have_times(rt: HostRuntime) -> Result<(), Fail> {
+    expect_rows(&rt, TIMES, 57)
 }
 
 #[test]

@@ -245,6 +245,73 @@ args verify --slots 1 --book book.csv --network
 usage -> 2 error:
 ";
 
+/// Differences with times on the clock, which are from Python's datetime and fractions.
+const TIMES: &str = "
+# in UTC, cut to the millisecond, whatever the zone and the fraction are that the words have
+worked lac,ci,id,serial,slot,difference,time
+worked 1,1,4370,0010,0,page 1 reads otherwise,2026-11-29T18:30:00.000Z
+worked 1,1,4370,0010,2,broadcast 0 not whole,2026-11-29T18:30:03.766Z
+worked 1,2,,,,no tape,
+book cell,1,1
+book cell,1,2
+book write,0,a,4370,0,1,en,2,2,1,1-1,@
+in-hex 00010001 00000002
+in-hex 200010111201118146a3d168341a8d46a3d168341a8d46
+in-hex 21a3d168341a8d46a3d168341a8d46a3d168341a8d46a3
+in-hex 22d168341a8d46a3d168341a8d46a3d168341a8d46a3d1
+in-hex 3368341a8d46a3d168341a8d46a3d168341a8d46a3d100
+in-hex 2f2b2b2b2b2b2b2b2b2b2b2b2b2b2b2b2b2b2b2b2b2b2b 2f2b2b2b2b2b2b2b2b2b2b2b2b2b2b2b2b2b2b2b2b2b2b
+in-hex 2f2b2b2b2b2b2b2b2b2b2b2b2b2b2b2b2b2b2b2b2b2b2b 2f2b2b2b2b2b2b2b2b2b2b2b2b2b2b2b2b2b2b2b2b2b2b
+args verify --slots 2 --start 2026-11-29T18:30:00Z --book book.csv
+run -> 1
+all -> worked
+err -> warnc: differences: 3
+args verify --start=2026-11-29T19:30:00.0000009+01:00 --slots 2 --workers 2 --book=book.csv
+run -> 1
+all -> worked
+err -> warnc: differences: 3
+args verify --slots 2 --start 2105-12-31T23:59:59.999999Z --explain --book book.csv
+run -> 1
+out -> lac,ci,id,serial,slot,difference,expected,got,time
+out -> 1,1,4370,0010,0,page 1 reads otherwise,@,£,2105-12-31T23:59:59.999Z
+out -> 1,1,4370,0010,2,broadcast 0 not whole,slots 0 to 1,nothing,2106-01-01T00:00:03.766Z
+out -> 1,2,,,,no tape,,,
+err -> warnc: differences: 3
+# without them it is as it was
+args verify --slots 2 --book book.csv
+run -> 1
+out -> lac,ci,id,serial,slot,difference
+out -> 1,1,4370,0010,0,page 1 reads otherwise
+out -> 1,1,4370,0010,2,broadcast 0 not whole
+out -> 1,2,,,,no tape
+err -> warnc: differences: 3
+
+# a book of no octets has no cells, and a table with times the names of its columns
+book-none
+in-none
+args verify --slots 1 --start 1970-01-01T00:00:00Z --book book.csv
+run -> 0
+out -> lac,ci,id,serial,slot,difference,time
+args verify --slots 1 --explain --start 1970-01-01T00:00:00Z --book book.csv
+run -> 0
+out -> lac,ci,id,serial,slot,difference,expected,got,time
+
+# no such times
+args verify --slots 2 --start 2106-01-01T00:00:00Z --book book.csv
+fails -> 2 warnc: no such time: --start is as 2026-11-28T20:00:00Z, from 1970 to 2105
+args verify --slots 2 --start 1969-12-31T23:59:59.999999Z --book book.csv
+fails -> 2 warnc: no such time: --start is as 2026-11-28T20:00:00Z, from 1970 to 2105
+args verify --slots 2 --start 18:30 --book book.csv
+fails -> 2 warnc: no such time: --start is as 2026-11-28T20:00:00Z, from 1970 to 2105
+args verify --slots 2 --book book.csv --start
+usage -> 2 error:
+";
+
+#[test]
+fn differences_have_times(rt: HostRuntime) -> Result<(), Fail> {
+    expect_rows(&rt, TIMES, 52)
+}
+
 #[test]
 fn tapes_are_judged_by_their_book(rt: HostRuntime) -> Result<(), Fail> {
     expect_rows(&rt, VERIFY, 215)

@@ -90,7 +90,7 @@ as_they_are (tape ∷ tapes) = ap (λ (rest : List TapeRecording). tape ∷ rest
 -- the tapes of a compiled book have no difference from it
 pub compiled-differs-nowhere : CellsAreValid → RecordsAreRecorded → OwnTapesHaveNoRows → NoRowsAreAnEmptyTable
     → CompiledDiffersNowhere
-compiled-differs-nowhere valid recorded rows empty from slots told input output few compiled =
+compiled-differs-nowhere valid recorded rows empty from slots layout input output few compiled =
     let none = subst (λ (tapes : List TapeRecording). AreRows compiled.records tapes [])
     (sym (as_they_are (map recording_of compiled.records)))
     (rows compiled.records (map recording_of compiled.records) (own-tapes from slots input output compiled valid)) in (
@@ -101,5 +101,5 @@ compiled-differs-nowhere valid recorded rows empty from slots told input output 
         recordings_are = recordings from slots input output compiled few valid recorded;
         rows_are = none;
       },
-      (empty told compiled.records (map (recording_by OfFour) (map recording_of compiled.records)) none).text_is,
+      (empty layout compiled.records (map (recording_by OfFour) (map recording_of compiled.records)) none).text_is,
     )

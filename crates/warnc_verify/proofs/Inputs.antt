@@ -10,11 +10,14 @@ use Rattle.short_pages.specs.declared.pages.Pages.{Pages}
 use Rattle.std.proofs.lemmas.List.{length-append}
 use Rattle.bsc_table.specs.Record.{Record}
 use Rattle.handset.specs.Recording.{TapeRecording}
+use Rattle.slot_times.specs.declared.start.Start.{Start}
 use Rattle.short_pages.specs.Slots.{recording_by}
 use Rattle.verification.specs.RowText.{rows_text}
 use Rattle.verification.specs.Rows.{other_rows}
-use Rattle.verification.specs.Table.{IsTextOf, other_line}
+use Rattle.verification.specs.Table.{IsTextWith, clock_row, other_line, plain_table}
+use Rattle.verification.specs.Times.{begin_name}
 use Rattle.verification.specs.declared.detail.Detail.{Detail}
+use Rattle.verification.specs.declared.detail.TableLayout.{TableLayout}
 use Rattle.verification.specs.declared.detail.Detail.TheVariants as detail
 use Rattle.verification.specs.declared.row.Row.{Row}
 use Rattle.warnc_verify.specs.Verified.{IsVerified}
@@ -50,20 +53,28 @@ some_row : (fields : List (List ℕ)) (rest : List ℕ) → 0 < length (row_text
 some_row fields rest =
     ended (row_body default_writer fields) (if is_blank default_writer fields then 34 ∷ 34 ∷ [] else []) rest 10
 
--- a table is never empty, plain or explained: it has the line of the columns' names
-some_text : (told : Detail) (records : List Record) (tapes : List TapeRecording) (rows : List Row) (output : List ℕ)
-    → IsTextOf told records tapes rows output
+-- a table is never empty, plain or explained, with times or without: it has the line of the columns' names
+some_plain : (start : Option Start) (rows : List Row) → 0 < length (plain_table start rows)
+some_plain None rows = longer 108 (drop 1 (rows_text rows))
+some_plain (Some start) rows =
+    some_row (codes "lac" ∷ codes "ci" ∷ codes "id" ∷ codes "serial" ∷ codes "slot" ∷ codes "difference"
+    ∷ codes "time" ∷ []) (flat_map (clock_row start) rows)
+
+some_text : (d : Detail) (start : Option Start) (records : List Record) (tapes : List TapeRecording) (rows : List Row)
+    (output : List ℕ)
+    → IsTextWith d start records tapes rows output
     → 0 < length output
-some_text detail.Plain records tapes rows output is =
-    subst (λ (octets : List ℕ). 0 < length octets) (sym is) (longer 108 (drop 1 (rows_text rows)))
-some_text detail.Explained records tapes rows output is =
+some_text detail.Plain start records tapes rows output is =
+    subst (λ (octets : List ℕ). 0 < length octets) (sym is) (some_plain start rows)
+some_text detail.Explained start records tapes rows output is =
     subst (λ (octets : List ℕ). 0 < length octets) (sym is.text_is)
     (some_row (codes "lac" ∷ codes "ci" ∷ codes "id" ∷ codes "serial" ∷ codes "slot" ∷ codes "difference"
-    ∷ codes "expected" ∷ codes "got" ∷ []) (is.lines ++ flat_map other_line (other_rows records [] tapes)))
+    ∷ codes "expected" ∷ codes "got" ∷ begin_name start)
+    (is.lines ++ flat_map (other_line start) (other_rows records [] tapes)))
 
 -- so the table of verified tapes isn't
-pub some_table : (from : Origin) (slots : ℕ) (pages : Pages) (told : Detail) (book tapes output : List ℕ)
-    → IsVerified from slots pages told book tapes output
+pub some_table : (from : Origin) (slots : ℕ) (pages : Pages) (layout : TableLayout) (book tapes output : List ℕ)
+    → IsVerified from slots pages layout book tapes output
     → 0 < length output
-some_table from slots pages told book tapes output is =
-    some_text told is.0.records (map (recording_by pages) is.0.recordings) [] output is.1
+some_table from slots pages layout book tapes output is =
+    some_text layout.detail layout.start is.0.records (map (recording_by pages) is.0.recordings) [] output is.1

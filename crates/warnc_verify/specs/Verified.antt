@@ -12,7 +12,7 @@ use Rattle.short_pages.specs.Slots.{recording_by}
 use Rattle.short_pages.specs.declared.pages.Pages.{Pages}
 use Rattle.verification.specs.Rows.{AreRows}
 use Rattle.verification.specs.Table.{IsTextOf}
-use Rattle.verification.specs.declared.detail.Detail.{Detail}
+use Rattle.verification.specs.declared.detail.TableLayout.{TableLayout}
 use Rattle.verification.specs.declared.row.Row.{Row}
 use Rattle.warnc_run.specs.Products.{RunOf}
 use Rattle.warnc_run.specs.Records.{HasRunBook, IsRecordsFault}
@@ -56,29 +56,31 @@ HasRun from slots book = (records : List Record) × RunOf from slots 1 book reco
 abbrev pub Differs : (from : Origin) (slots : ℕ) (pages : Pages) → (book tapes : List ℕ) → Type 0
 Differs from slots pages book tapes = (rows : List Row) × DiffersBy from slots pages rows book tapes × (0 < length rows)
 
--- this is the text of the rows of these records and recordings, with as much detail as is wanted
-abbrev pub IsTextBy : (pages : Pages) (told : Detail) → List Record → List TapeRecording → List Row
+-- this is the text of the rows of these records and recordings, laid out as is wanted
+abbrev pub IsTextBy : (pages : Pages) (layout : TableLayout) → List Record → List TapeRecording → List Row
     → (output : List ℕ) → Type 0
-IsTextBy pages told records recordings rows output =
-    IsTextOf told records (map (recording_by pages) recordings) rows output
+IsTextBy pages layout records recordings rows output =
+    IsTextOf layout records (map (recording_by pages) recordings) rows output
 
 -- these rows tell the differences, and this is their table
-abbrev pub IsTableOf : (from : Origin) (slots : ℕ) (pages : Pages) (told : Detail) → List Row
+abbrev pub IsTableOf : (from : Origin) (slots : ℕ) (pages : Pages) (layout : TableLayout) → List Row
     → (book tapes output : List ℕ) → Type 0
-IsTableOf from slots pages told rows book tapes output =
+IsTableOf from slots pages layout rows book tapes output =
     (differ : DiffersBy from slots pages rows book tapes)
-    × IsTextBy pages told differ.records differ.recordings rows output
+    × IsTextBy pages layout differ.records differ.recordings rows output
 
 -- there is no difference, and the table has none
-abbrev pub IsVerified : (from : Origin) (slots : ℕ) (pages : Pages) (told : Detail) → (book tapes output : List ℕ)
+abbrev pub IsVerified : (from : Origin) (slots : ℕ) (pages : Pages) (layout : TableLayout)
+    → (book tapes output : List ℕ)
     → Type 0
-IsVerified from slots pages told book tapes output = IsTableOf from slots pages told [] book tapes output
+IsVerified from slots pages layout book tapes output = IsTableOf from slots pages layout [] book tapes output
 
 -- there are some, and the table has them
-abbrev pub HasDifferences : (from : Origin) (slots : ℕ) (pages : Pages) (told : Detail) → (book tapes output : List ℕ)
+abbrev pub HasDifferences : (from : Origin) (slots : ℕ) (pages : Pages) (layout : TableLayout)
+    → (book tapes output : List ℕ)
     → Type 0
-HasDifferences from slots pages told book tapes output =
-    (rows : List Row) × IsTableOf from slots pages told rows book tapes output × (0 < length rows)
+HasDifferences from slots pages layout book tapes output =
+    (rows : List Row) × IsTableOf from slots pages layout rows book tapes output × (0 < length rows)
 
 -- the book and the tapes were read to their ends, and these rows tell how the tapes differ from the book
 pub record Finds (from : Origin) (slots : ℕ) (pages : Pages) (ends : Readers) (rows : List Row) : Type 0 where
@@ -91,33 +93,33 @@ pub record Finds (from : Origin) (slots : ℕ) (pages : Pages) (ends : Readers) 
   pub differ : DiffersBy from slots pages rows book tapes
 
 -- the table of some rows was written, or a front of it
-abbrev pub FindsAndWrites : (from : Origin) (slots : ℕ) (pages : Pages) (told : Detail) → Readers
+abbrev pub FindsAndWrites : (from : Origin) (slots : ℕ) (pages : Pages) (layout : TableLayout) → Readers
     → (old new : Option (List ℕ)) → List Row → Type 0
-FindsAndWrites from slots pages told ends old new rows =
+FindsAndWrites from slots pages layout ends old new rows =
     (finds : Finds from slots pages ends rows) × (output : List ℕ)
-    × IsTextBy pages told finds.differ.records finds.differ.recordings rows output
+    × IsTextBy pages layout finds.differ.records finds.differ.recordings rows output
     × Appends old new output
 
-abbrev pub FindsAndWritesFront : (from : Origin) (slots : ℕ) (pages : Pages) (told : Detail) → Readers
+abbrev pub FindsAndWritesFront : (from : Origin) (slots : ℕ) (pages : Pages) (layout : TableLayout) → Readers
     → (old new : Option (List ℕ)) → List Row → Type 0
-FindsAndWritesFront from slots pages told ends old new rows =
+FindsAndWritesFront from slots pages layout ends old new rows =
     (finds : Finds from slots pages ends rows) × (output : List ℕ)
-    × IsTextBy pages told finds.differ.records finds.differ.recordings rows output
+    × IsTextBy pages layout finds.differ.records finds.differ.recordings rows output
     × AppendsFront old new output
 
 -- why it isn't so that there are no differences: the book has no run; or it has one, and the tapes are none; or there
 -- are as many differences, one or more, and they were written; or memory ran out; or the writer failed
-abbrev pub IsVerifyFault : (from : Origin) (slots : ℕ) (pages : Pages) (told : Detail) → Readers
+abbrev pub IsVerifyFault : (from : Origin) (slots : ℕ) (pages : Pages) (layout : TableLayout) → Readers
     → (old new : Option (List ℕ)) → VerifyFault → Type 0
-IsVerifyFault from slots pages told ends old new (faults.Run f) =
+IsVerifyFault from slots pages layout ends old new (faults.Run f) =
     IsRecordsFault from slots ends.book_first ends.book_last f
-IsVerifyFault from slots pages told ends old new (faults.Tapes f) =
+IsVerifyFault from slots pages layout ends old new (faults.Tapes f) =
     (records : List Record) × RunsBook from slots ends records × IfSome ends.tapes_first (λ input. IsTapesFault input f)
-IsVerifyFault from slots pages told ends old new (faults.Differences count) =
-    (rows : List Row) × FindsAndWrites from slots pages told ends old new rows × (length rows ≡ count) × (0 < count)
-IsVerifyFault from slots pages told ends old new faults.Refused = ⊤
-IsVerifyFault from slots pages told ends old new faults.WriteFailed =
-    (rows : List Row) × FindsAndWritesFront from slots pages told ends old new rows
+IsVerifyFault from slots pages layout ends old new (faults.Differences count) =
+    (rows : List Row) × FindsAndWrites from slots pages layout ends old new rows × (length rows ≡ count) × (0 < count)
+IsVerifyFault from slots pages layout ends old new faults.Refused = ⊤
+IsVerifyFault from slots pages layout ends old new faults.WriteFailed =
+    (rows : List Row) × FindsAndWritesFront from slots pages layout ends old new rows
 
 -- a fault that tells of differences, and one with which something may have been written
 abbrev pub IsDifference : VerifyFault → Type 0

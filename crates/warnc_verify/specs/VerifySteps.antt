@@ -5,16 +5,17 @@ use Rattle.device_ends.specs.Moves.{AppendsFront}
 use Rattle.handset.specs.Tape.{IsTapesFault}
 use Rattle.bsc_table.specs.Record.{Record}
 use Rattle.short_pages.specs.declared.pages.Pages.{Pages}
-use Rattle.verification.specs.declared.detail.Detail.{Detail}
+use Rattle.verification.specs.declared.detail.TableLayout.{TableLayout}
 use Rattle.verification.specs.declared.row.Row.{Row}
 use Rattle.warnc_run.specs.Records.{IsRecordsFault}
 use Rattle.warnc_verify.specs.Verified.{Finds, IsTextBy, Readers, RunsBook}
 use Rattle.warnc_verify.specs.declared.fault.VerifyFault.{VerifyFault}
 use Rattle.warnc_verify.specs.declared.fault.VerifyFault.TheVariants as faults
 
--- what tapes are judged by: the records of a run, and which of their pages are read; and how much is told
+-- what tapes are judged by: the records of a run, and which of their pages are read; and how the table is laid
+-- out
 pub record Judged : Type 0 where
-  pub told : Detail
+  pub layout : TableLayout
   pub records : List Record
   pub pages : Pages
 
@@ -32,8 +33,8 @@ IsTextFault old new text faults.WriteFailed = AppendsFront old new text
 IsTextFault old new text other = ⊥
 
 -- what was found, and its text
-abbrev pub FindsText : (from : Origin) (slots : ℕ) (pages : Pages) (told : Detail) → Readers → List Row
+abbrev pub FindsText : (from : Origin) (slots : ℕ) (pages : Pages) (layout : TableLayout) → Readers → List Row
     → (text : List ℕ) → Type 0
-FindsText from slots pages told ends rows text =
+FindsText from slots pages layout ends rows text =
     (finds : Finds from slots pages ends rows)
-    × IsTextBy pages told finds.differ.records finds.differ.recordings rows text
+    × IsTextBy pages layout finds.differ.records finds.differ.recordings rows text

@@ -22,7 +22,7 @@ impl TakesRecordings for Judge {
     ghost Given = { Judged };
 
     ghost HasTaken = { λ judged judge tapes. (judge.pages ≡ judged.pages)
-        × HasTaken judged.told judged.records judge.findings (map (recording_by judged.pages) tapes) };
+        × HasTaken judged.layout judged.records judge.findings (map (recording_by judged.pages) tapes) };
 
     fn take(&mut self, recording: Recording) -> Result<(), AllocError> {
         let (cell, slots) = (recording.cell(), recording.slots());

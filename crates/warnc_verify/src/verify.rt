@@ -23,16 +23,17 @@ use short_pages::Pages;
 use std::io::{Read, Write};
 use std::sync::Wait;
 use std::thread::Threads;
-use verification::{Detail, Findings, Table};
+use verification::{Findings, Table, TableLayout};
 use warnc_run::{Workers, run_book};
 
 /// Reads a book, or a network book for a group, has its cells carry out what its one session orders, in runs of `slots`
 /// slots, as [`compile_stream`](warnc_run::compile_stream) does, reads tapes up to their end, and writes a row for each
 /// difference between what the cells were asked and what the tapes send, and for each cell without a tape and tape
-/// without a cell (`AreRows`). With [`Detail::Explained`] a row has what was expected and what came too, one row stands
-/// for all broadcasts of a message one after another of which nothing came, and a cell of which all pages are off by
-/// the same number of slots has one for that (`IsExplained`). Nothing is written before all is known. `workers` workers
-/// play the cells.
+/// without a cell (`AreRows`). With [`Detail::Explained`](verification::Detail) a row has what was expected and what
+/// came too, one row stands for all broadcasts of a message one after another of which nothing came, and a cell of
+/// which all pages are off by the same number of slots has one for that (`IsExplained`). If slot 0 has a time, a last
+/// column has the time at which the slot of each difference begins. Nothing is written before all is known. `workers`
+/// workers play the cells.
 ///
 /// # Errors
 ///
@@ -47,12 +48,12 @@ pub fn verify_stream<T: AllocGlobal + Threads + Wait + Sync, B: Read, R: Read, W
     origin: Origin,
     slots: u16,
     pages: Pages,
-    told: Detail,
+    layout: TableLayout,
     workers: Workers,
 ) -> Result<(), VerifyFault>
-    ensures ok { OnOk result (Writes W.contents (λ old new. FindsAndWrites origin slots pages told
+    ensures ok { OnOk result (Writes W.contents (λ old new. FindsAndWrites origin slots pages layout
         (readers_of B.remaining R.remaining book.old book.new tapes.old tapes.new) old new []) sink.old sink.new) }
-    ensures err { IfErr result (λ fault. Writes W.contents (λ old new. IsVerifyFault origin slots pages told
+    ensures err { IfErr result (λ fault. Writes W.contents (λ old new. IsVerifyFault origin slots pages layout
         (readers_of B.remaining R.remaining book.old book.new tapes.old tapes.new) old new fault) sink.old sink.new) }
 
     // At any readers and any writer: which end failed is reported, the book's first, and what failed before is as it
@@ -72,7 +73,7 @@ pub fn verify_stream<T: AllocGlobal + Threads + Wait + Sync, B: Read, R: Read, W
     ensures tapes_stay { source_failed tapes.old ≡ true → tapes.new ≡ tapes.old }
     ensures sink_stays { sink_failed sink.old ≡ true → sink.new ≡ sink.old }
 {
-    let table = table_of(rt, book, tapes, origin, slots, pages, told, workers)?;
+    let table = table_of(rt, book, tapes, origin, slots, pages, layout, workers)?;
     write_text(sink, &table.text)?;
     match table.rows.len() {
         0 => Ok(()),
@@ -88,10 +89,10 @@ fn table_of<T: AllocGlobal + Threads + Wait + Sync, B: Read, R: Read>(
     origin: Origin,
     slots: u16,
     pages: Pages,
-    told: Detail,
+    layout: TableLayout,
     workers: Workers,
 ) -> Result<Table, VerifyFault>
-    ensures ok { IfOk result (λ table. FindsText origin slots pages told
+    ensures ok { IfOk result (λ table. FindsText origin slots pages layout
         (readers_of B.remaining R.remaining book.old book.new tapes.old tapes.new) table.rows.items table.text.items) }
     ensures err { IfErr result (λ fault. IsRowsFault origin slots
         (readers_of B.remaining R.remaining book.old book.new tapes.old tapes.new) fault) }
@@ -109,7 +110,7 @@ fn table_of<T: AllocGlobal + Threads + Wait + Sync, B: Read, R: Read>(
     let mut judge = Judge {
         alloc,
         pages,
-        findings: Findings::new(alloc, told, records)?,
+        findings: Findings::new(alloc, layout, records)?,
     };
     record_each(alloc, tapes, &mut judge)?;
     let table = judge.findings.table()?;

@@ -152,6 +152,30 @@ full write,0,b,4371,0,2,en,2,2,0,1-1,Go|update,9,fire,en,2,2,0,1-1,Out!| -> \
     ,,1-1,fullest: 100 % at slot 9|,,1-2,fullest: 25 % at slot 0
 ";
 
+/// Remarks with times on the clock, which are from Python's datetime and fractions.
+const TIMES: &str = "
+before cell,1,1|cell,1,2|write,20,fire,4370,0,1,en,2,4,0,1-1,Stay in!|
+table write,4,storm,4371,0,2,en,2,4,0,1-1,Go| -> row,name,cell,says|4,storm,,done at slot 20|,,1-2,gets nothing|\
+    ,,1-1,fullest: 50 % at slot 20|,,1-2,fullest: 0 % at slot 0
+start 1795977000000000
+table write,4,storm,4371,0,2,en,2,4,0,1-1,Go| -> row,name,cell,says,time|\
+    4,storm,,done at slot 20,2026-11-29T18:30:37.661Z|,,1-2,gets nothing,|\
+    ,,1-1,fullest: 50 % at slot 20,2026-11-29T18:30:37.661Z|,,1-2,fullest: 0 % at slot 0,2026-11-29T18:30:00.000Z
+
+# No other remark names a slot, though it may name a number.
+before cell,1,1|cell,1,2|write,0,\"a, b\",4370,0,1,en,2,2,0,1-1,A|write,0,b,4371,0,2,en,2,2,0,1-1,B|
+table write,0,c,4370,0,1,en,2,2,0,1-1, |stop,30,\"a, b\",1-1| -> row,name,cell,says,time|\
+    5,c,,refused in 1 cell: message reference already used,|5,c,,same identifier and serial number as row 3,|\
+    5,c,,only spaces,|6,\"a, b\",,past the end,|,,1-2,gets nothing,|\
+    ,,1-1,fullest: 100 % at slot 0,2026-11-29T18:30:00.000Z|,,1-2,fullest: 0 % at slot 0,2026-11-29T18:30:00.000Z
+
+# The latest start, and a table of faults, which has no times.
+start 4291747199999999
+before cell,1,1|write,4,fire,4370,0,1,en,2,4,0,*,Stay in!|
+table  -> row,name,cell,says,time|,,1-1,fullest: 25 % at slot 4,2106-01-01T00:00:07.532Z
+table cell,1| -> Faults(1) row,line,column,field,value,says|3,3,1,VERB,cell,\"2 columns, cell has 3\"
+";
+
 /// Books with faults, and none at all.
 const FAULTS: &str = "
 run cell,1| -> Faults(1) row,line,column,field,value,says|1,1,1,VERB,cell,\"2 columns, cell has 3\"
@@ -189,6 +213,11 @@ fn refusals_are_remarked(rt: HostRuntime) -> Result<(), Fail> {
 #[test]
 fn fullest_slots_are_told(rt: HostRuntime) -> Result<(), Fail> {
     expect_rows(&rt, FULLEST, 13)
+}
+
+#[test]
+fn remarks_have_times(rt: HostRuntime) -> Result<(), Fail> {
+    expect_rows(&rt, TIMES, 5)
 }
 
 #[test]

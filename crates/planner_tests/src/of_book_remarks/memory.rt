@@ -3,6 +3,7 @@
 use book_remarks::{RemarkFault, remark_stream};
 use device_ends::memory::MemoryReader;
 use device_ends::{Sink, Source};
+use slot_times::Start;
 use std::alloc::AllocGlobal;
 use std::sync::Wait;
 use std::test::Fail;
@@ -17,14 +18,14 @@ const BOOK: &[u8] =
     b"cell,1,1\ncell,1,2\nwrite,0,a,4370,0,1,en,2,2,0,1-1,A\nwrite,0,b,4371,0,2,en,2,1,0,1-1,B\n\
     stop,1,a,*\nstop,0,b,*\n";
 
-/// What is remarked of it, and how full its cells get.
-const REMARKS: &str = "row,name,cell,says\n\
-4,b,,refused in 1 cell: BSC capacity exceeded\n\
-5,a,,leaves out 1-2\n\
-6,b,,orders nothing\n\
-,,1-2,gets nothing\n\
-,,1-1,fullest: 50 % at slot 0\n\
-,,1-2,fullest: 0 % at slot 0\n";
+/// What is remarked of it, and how full its cells get, with times.
+const REMARKS: &str = "row,name,cell,says,time\n\
+4,b,,refused in 1 cell: BSC capacity exceeded,\n\
+5,a,,leaves out 1-2,\n\
+6,b,,orders nothing,\n\
+,,1-2,gets nothing,\n\
+,,1-1,fullest: 50 % at slot 0,2026-11-29T18:30:00.000Z\n\
+,,1-2,fullest: 0 % at slot 0,2026-11-29T18:30:00.000Z\n";
 
 /// What comes of the book, whose output takes no memory: the fault, and how many octets are out.
 fn outcome_of<T: AllocGlobal + Threads + Wait + Sync>(
@@ -39,6 +40,7 @@ fn outcome_of<T: AllocGlobal + Threads + Wait + Sync>(
         &mut Source::new(&mut reader),
         &mut Sink::new(&mut left),
         8,
+        Start::new(1_795_977_000_000_000),
         true,
     );
     (fault.err(), size.saturating_sub(left.len()))

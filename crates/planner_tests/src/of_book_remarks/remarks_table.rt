@@ -4,13 +4,15 @@
 //!
 //! - `before ROWS`: these rows stand before those of each book that follows;
 //! - `slots NUMBER`: a run has that many slots; `most NUMBER`: a read gives, and a write takes, that many octets at
-//!   most.
+//!   most;
+//! - `start NUMBER`: slot 0 begins so many microseconds after 1970-01-01T00:00:00Z; remarks have no times before one is
+//!   given.
 //!
 //! What comes of a book:
 //!
 //! - `run ROWS`: `none`, or what is remarked, its line ends as bars, without how full cells get; or the fault and what
 //!   was written;
-//! - `full ROWS`: all lines, those too;
+//! - `full ROWS`: all lines, those too; `table ROWS`: with the columns' names;
 //! - `strict ROWS`: the same as `run` where there are to be no remarks; `line ROWS`: the line of its fault, as the
 //!   program prints it;
 //! - `reads NUMBER ROWS`: the fault where the reader fails after NUMBER calls; `writes NUMBER ROWS`: where the writer
@@ -18,6 +20,7 @@
 
 use crate::octets::add_rows;
 use crate::of_book_remarks::runs::{Manner, Outcome, outcome_of};
+use slot_times::Start;
 use std::alloc::{AllocGlobal, Global};
 use std::process::Abort;
 use std::sync::Wait;
@@ -47,6 +50,7 @@ fn set(given: &mut Given, verb: &str, rest: &str) -> Result<(), Fail> {
             add_rows(&mut given.before, rest)?;
         }
         "slots" => given.manner.slots = rest.parse::<u16>()?,
+        "start" => given.manner.start = Start::new(rest.parse::<u64>()?),
         _ => given.manner.most = rest.parse::<usize>()?,
     }
     Ok(())
@@ -89,8 +93,8 @@ fn tell_text(told: &mut String, verb: &str, text: &[u8]) -> Result<(), Fail> {
     let text = std::str::from_utf8(text).map_err(|_| Fail::new("the table isn't UTF-8"))?;
     match text.strip_prefix(NAMES) {
         Some(lines) if verb == "full" => tell_lines(told, lines),
-        Some(lines) => tell_remarks(told, lines),
-        None => tell_lines(told, text),
+        Some(lines) if verb != "table" => tell_remarks(told, lines),
+        _ => tell_lines(told, text),
     }
 }
 
@@ -148,7 +152,7 @@ fn carry_out<T: AllocGlobal + Threads + Wait + Sync>(
 ) -> Result<(), Fail> {
     given.told.clear();
     let (verb, rest) = action.split_once(' ').unwrap_or((action, ""));
-    if verb == "before" || verb == "slots" || verb == "most" {
+    if verb == "before" || verb == "slots" || verb == "start" || verb == "most" {
         return set(given, verb, rest);
     }
     let mut octets = Vec::new(rt.alloc());
@@ -186,6 +190,7 @@ fn nothing_given(alloc: Global) -> Given {
         before: Vec::new(alloc),
         manner: Manner {
             slots: 24,
+            start: None,
             strict: false,
             most: 65_536,
             reads: None,

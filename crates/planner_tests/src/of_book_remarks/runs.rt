@@ -3,16 +3,19 @@
 use book_remarks::{RemarkFault, remark_stream};
 use device_ends::memory::{MemoryReader, MemoryWriter};
 use device_ends::{Sink, Source};
+use slot_times::Start;
 use std::alloc::{AllocError, AllocGlobal};
 use std::sync::Wait;
 use std::thread::Threads;
 
-/// How a book is remarked: in runs of how many slots, whether there are to be no remarks, how many octets a read gives
-/// and a write takes at most, one at least, and after how many calls each end fails, if it does.
+/// How a book is remarked: in runs of how many slots, with which time of slot 0, whether there are to be no remarks, how
+/// many octets a read gives and a write takes at most, one at least, and after how many calls each end fails, if it does.
 #[derive(Clone, Copy)]
 pub struct Manner {
     /// How many slots a run has.
     pub slots: u16,
+    /// When slot 0 begins, if remarks have times.
+    pub start: Option<Start>,
     /// Whether there are to be no remarks.
     pub strict: bool,
     /// How many octets a call moves at most.
@@ -47,7 +50,15 @@ pub fn outcome_of<T: AllocGlobal + Threads + Wait + Sync>(
     let mut writer = MemoryWriter::new(rt.alloc(), most, manner.writes);
     let mut source = Source::new(&mut reader);
     let mut sink = Sink::new(&mut writer);
-    let fault = remark_stream(rt, &mut source, &mut sink, manner.slots, manner.strict).err();
+    let fault = remark_stream(
+        rt,
+        &mut source,
+        &mut sink,
+        manner.slots,
+        manner.start,
+        manner.strict,
+    )
+    .err();
     let (unread, unwritten) = (source.failed(), sink.failed());
     Ok(Outcome {
         fault,

@@ -11,7 +11,8 @@
 //! - `found` judges the tape by the last run, and gives the first row; `next` gives the next one, and `none` after the
 //!   last.
 //! - `begin` has all runs await their tapes, `take CI` takes the tape as that cell's, and `rows` gives the first row.
-//!   `explain` is `begin` with an explained table. `table` makes the rows and gives none; `part FROM TO` gives these
+//!   `explain` is `begin` with an explained table, and `start MICROSECONDS` gives the tables of those that follow times,
+//!   of which slot 0 begins so long after 1970-01-01T00:00:00Z. `names` gives the names of columns. `table` makes the rows and gives none; `part FROM TO` gives these
 //!   octets of the row that is next, and `skip` passes over it.
 
 ghost use Rattle.std.specs.Prelude.{◌≡◌, ◌≤◌, length, All, IfOk};
@@ -21,12 +22,13 @@ use crate::of_verification::tapes::Blocks;
 use bsc_table::{Answer, Category, CellBook, CellRecord, Command};
 use cbs_page::{Content, Dcs, Serial, paginate};
 use cbsp_wire::{Cell, Contents};
+use slot_times::Start;
 use std::alloc::Global;
 use std::process::Abort;
 use std::test::Fail;
 use std::{mem, str};
 use test_support::{Row as Line, Words};
-use verification::{Detail, Finding, Findings, Row, differences, text_of};
+use verification::{Detail, Finding, Findings, Row, TableLayout, differences, text_of};
 
 /// Runs, a tape, and rows.
 #[derive(Drop)]
@@ -36,6 +38,7 @@ pub struct Cells {
     pub runs: Vec<CellRecord>,
     pub tape: Blocks,
     findings: Option<Findings>,
+    start: Option<Start>,
     text: String,
     lines: usize,
 }
@@ -164,6 +167,7 @@ impl Cells {
             runs: Vec::new(alloc),
             tape: Blocks::new(alloc),
             findings: None,
+            start: None,
             text: String::new(alloc),
             lines: 0,
         }
@@ -177,6 +181,7 @@ impl Cells {
             runs,
             tape,
             findings,
+            start: _,
             text,
             lines: _,
         } = self;
@@ -253,9 +258,10 @@ impl Cells {
     }
 
     /// Has all runs await their tapes.
-    fn begin(&mut self, told: Detail) -> Result<(), Fail> {
+    fn begin(&mut self, detail: Detail) -> Result<(), Fail> {
         let runs = mem::replace(&mut self.runs, Vec::new(self.alloc));
-        let findings = Findings::new(self.alloc, told, runs)?;
+        let start = self.start;
+        let findings = Findings::new(self.alloc, TableLayout { detail, start }, runs)?;
         drop(self.findings.replace(findings));
         Ok(())
     }
@@ -293,6 +299,13 @@ impl Cells {
         self.next()
     }
 
+    /// The names of the columns of all tapes' rows, before the first row.
+    fn names(&mut self) -> Result<String, Fail> {
+        self.table()?;
+        self.lines = 0;
+        self.next()
+    }
+
     /// Some octets of the row that is next.
     fn part(&mut self, words: &mut Words) -> Result<String, Fail> {
         let (from, to) = (words.number16()?, words.number16()?);
@@ -309,6 +322,7 @@ impl Cells {
             "end" => self.end()?,
             "begin" => self.begin(Detail::Plain)?,
             "explain" => self.begin(Detail::Explained)?,
+            "start" => self.start = Start::new(words.word().parse::<u64>()?),
             "take" => self.take(words)?,
             "table" => self.table()?,
             "skip" => self.lines = self.lines.saturating_add(1),
@@ -331,6 +345,7 @@ impl Cells {
                 said(self.alloc, answer?)
             }
             "found" => self.found(),
+            "names" => self.names(),
             "rows" => self.rows(),
             "next" => self.next(),
             "part" => self.part(words),

@@ -3,6 +3,7 @@
 use crate::of_verification::cells::expect_lines;
 use crate::of_verification::tables::TAMPERED;
 use bsc_table::CellRecord;
+use slot_times::Start;
 use std::alloc::{AllocError, Global};
 use std::process::Abort;
 use std::test::Fail;
@@ -54,12 +55,13 @@ fn refusals(
     refused
 }
 
-/// How often a tape and the text of what it has are refused memory, each time with one block more.
+/// How often a tape and the text of what it has, of this length, are refused memory, each time with one block more.
 fn text_refusals(
     rt: &impl Abort,
     alloc: Global,
     findings: &mut Findings,
     blocks: &[[u8; 23]],
+    wanted: usize,
     spare: &mut Vec<Vec<u8>>,
 ) -> u16 {
     let mut refused = 0_u16;
@@ -69,7 +71,7 @@ fn text_refusals(
         taken = taken || findings.take(cell, 12, blocks).is_ok();
         if taken {
             if let Ok(length) = text_length(alloc, findings) {
-                assert_eq!(rt; length, 46 + 59 + 47 + 74 + 73);
+                assert_eq!(rt; length, wanted);
                 return refused;
             }
         }
@@ -96,19 +98,29 @@ fn refused_memory_is_reported(rt: HostRuntime) -> Result<(), Fail> {
     Ok(())
 }
 
-#[test]
-fn refused_memory_leaves_the_tape(rt: HostRuntime) -> Result<(), Fail> {
-    let mut spare = spare_blocks(rt.alloc())?;
-    let mut taken = Vec::with_capacity(rt.alloc(), 100_000)?;
-    let cells = expect_lines(&rt, rt.alloc(), TAMPERED, 17)?;
+/// Expects that memory for a table with times, of this length, is refused, and that the tape is judged afterwards.
+fn expect_refusals(
+    rt: &impl Abort,
+    alloc: Global,
+    detail: Detail,
+    wanted: usize,
+) -> Result<(), Fail> {
+    let mut spare = spare_blocks(alloc)?;
+    let mut taken = Vec::with_capacity(alloc, 100_000)?;
+    let cells = expect_lines(rt, alloc, TAMPERED, 17)?;
     let (runs, tape) = cells.into_runs();
-    let mut findings = Findings::new(rt.alloc(), Detail::Explained, runs)?;
-    take_all(rt.alloc(), &mut taken);
+    let layout = TableLayout {
+        detail,
+        start: Start::new(1_795_977_000_000_000),
+    };
+    let mut findings = Findings::new(alloc, layout, runs)?;
+    take_all(alloc, &mut taken);
     let refused = text_refusals(
-        &rt,
-        rt.alloc(),
+        rt,
+        alloc,
         &mut findings,
         tape.list.as_slice(),
+        wanted,
         &mut spare,
     );
     taken.clear();
@@ -116,4 +128,14 @@ fn refused_memory_leaves_the_tape(rt: HostRuntime) -> Result<(), Fail> {
     drop(tape);
     assert!(rt; refused > 3);
     Ok(())
+}
+
+#[test]
+fn refused_memory_leaves_the_tape(rt: HostRuntime) -> Result<(), Fail> {
+    expect_refusals(&rt, rt.alloc(), Detail::Explained, 51 + 84 + 72 + 99 + 98)
+}
+
+#[test]
+fn refused_memory_leaves_the_tape_of_a_plain_table(rt: HostRuntime) -> Result<(), Fail> {
+    expect_refusals(&rt, rt.alloc(), Detail::Plain, 38 + 63 + 58 + 64 + 63 + 64)
 }

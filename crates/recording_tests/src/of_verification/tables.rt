@@ -312,6 +312,74 @@ next -> 1,2,4370,0010,2,broadcast 0 not whole
 next -> none
 ";
 
+/// Times on the clock, which are from Python's datetime and fractions: of the slots of differences alone.
+const TIMES: &str = "
+cell 7 10
+write 4370 0010 - normal 4 2 AB/CD -> Started { slot: 0 }
+end
+tape
+octet 4 7 00
+start 1795977000000000
+begin
+names -> lac,ci,id,serial,slot,difference,time
+next -> 1,7,,,,no tape,
+take 7
+take 7
+take 2
+rows -> 1,7,4370,0010,1,page 2 reads otherwise,2026-11-29T18:30:01.883Z
+next -> 1,7,4370,0010,4,broadcast 0 not whole,2026-11-29T18:30:07.532Z
+next -> 1,7,,,,second tape,
+next -> 1,2,,,,unknown cell,
+next -> none
+cell 7 10
+write 4370 0010 - normal 4 2 AB/CD -> Started { slot: 0 }
+end
+explain
+names -> lac,ci,id,serial,slot,difference,expected,got,time
+next -> 1,7,,,,no tape,,,
+take 7
+take 7
+take 2
+rows -> 1,7,4370,0010,1,page 2 reads otherwise,CD,@D,2026-11-29T18:30:01.883Z
+next -> 1,7,4370,0010,4,broadcast 0 not whole,slots 0 to 3,pages 1 of 2,2026-11-29T18:30:07.532Z
+next -> 1,7,,,,second tape,,,
+next -> 1,2,,,,unknown cell,,,
+next -> none
+
+# another number of slots
+cell 7 10
+end
+begin
+blank
+idle 3
+take 7
+rows -> 1,7,,,,other slots,
+next -> none
+cell 7 10
+end
+explain
+take 7
+rows -> 1,7,,,,other slots,,,
+next -> none
+
+# one slot late, by the latest start
+cell 8 4
+write 4371 0020 - normal 1 3 X -> Started { slot: 0 }
+end
+blank
+idle 1
+send 4371 0020 en 1 1 X
+send 4371 0020 en 1 1 X
+send 4371 0020 en 1 1 X
+start 4291747199999999
+explain
+take 8
+rows -> 1,8,,,,all pages come 1 slot late,,,
+next -> 1,8,4371,0020,1,broadcast 0 not whole,slots 0 to 0,nothing,2106-01-01T00:00:01.883Z
+next -> 1,8,4371,0020,3,after its last broadcast,up to slot 3,X,2106-01-01T00:00:05.649Z
+next -> none
+";
+
 /// What was expected and what came, of each kind of difference.
 const EXPLAINED: &str = "
 cell 7 10
@@ -781,6 +849,13 @@ fn owed(rt: HostRuntime) -> Result<(), Fail> {
 #[test]
 fn runs(rt: HostRuntime) -> Result<(), Fail> {
     let cells = expect_lines(&rt, rt.alloc(), RUNS, 44)?;
+    drop(cells);
+    Ok(())
+}
+
+#[test]
+fn times(rt: HostRuntime) -> Result<(), Fail> {
+    let cells = expect_lines(&rt, rt.alloc(), TIMES, 60)?;
     drop(cells);
     Ok(())
 }

@@ -10,6 +10,7 @@ use Rattle.verification_laws.proofs.OneTables.{empty-table, one-table}
 use Rattle.verification_laws.proofs.OwnRuns.{kept-cells, no-rows-found, runs-kept}
 use Rattle.verification_laws.proofs.OwnSlots.{recorded}
 use Rattle.verification_laws.proofs.OwnTapes.{nothing-found, own-tapes}
+use Rattle.verification_laws.proofs.WithinRun.{differences-are-within}
 use Rattle.verification_laws.proofs.verification_laws.Goals as goal
 
 pub returns : goal.returns
@@ -44,6 +45,7 @@ returns c =
       tapes_have_one_list_of_rows = one-list-of-rows one-list-of-differences;
       tapes_have_one_table = one-table one-list-of-differences;
       no_rows_are_an_empty_table = empty-table;
+      differences_are_within = differences-are-within;
       own_tapes_differ_nowhere = own-tapes laws once;
       own_tapes_keep_their_cells = kept;
       nothing_is_found = nothing;

@@ -10,11 +10,12 @@ returns-then-not-strict-clause-ok g c =
     let is : c.args.strict ≡ false = search (rules, c.if-not-strict.true) in
     let octets : List ℕ = c.in_ok-octets.octets.items in
     let output : List ℕ = c.in_ok-remarked.remarked.text.items in
-    let remarked : IsRemarked c.args.slots octets c.in_ok-remarked.remarked.count output =
-    subst (λ (xs : List ℕ). IsRemarked c.args.slots xs c.in_ok-remarked.remarked.count output) c.deref-2.ensures.value
+    let remarked : IsRemarked c.args.slots c.args.start octets c.in_ok-remarked.remarked.count output =
+    subst (λ (xs : List ℕ). IsRemarked c.args.slots c.args.start xs c.in_ok-remarked.remarked.count output)
+    c.deref-2.ensures.value
     c.in_ok-remarked.ensures.ok in
-    wrote (IsRemarkedFor c.args.slots c.args.strict) _ _ _ octets output c.in_ok-octets.ensures.all
-    (lax c.args.slots c.args.strict c.in_ok-remarked.remarked.count octets output is remarked)
+    wrote (IsRemarkedFor c.args.slots c.args.start c.args.strict) _ _ _ octets output c.in_ok-octets.ensures.all
+    (lax c.args.slots c.args.start c.args.strict c.in_ok-remarked.remarked.count octets output is remarked)
     (subst (λ (xs : List ℕ). Appends (g.W.Write.contents (writer_of c.args.sink.now))
     (g.W.Write.contents (writer_of c.write_all-2.new.sink)) xs) c.deref-3.ensures.value
     c.in_default-write_all-2.ensures.ok)
@@ -24,12 +25,13 @@ returns-in-0-clause-ok g c =
     let octets : List ℕ = c.in_ok-octets.octets.items in
     let output : List ℕ = c.in_ok-remarked.remarked.text.items in
     let none : c.in_ok-remarked.remarked.count ≡ 0 = search (rules, c.in-0.is) in
-    let remarked : IsRemarked c.args.slots octets 0 output =
-    subst (λ (n : ℕ). IsRemarked c.args.slots octets n output) none
-    (subst (λ (xs : List ℕ). IsRemarked c.args.slots xs c.in_ok-remarked.remarked.count output) c.deref-2.ensures.value
+    let remarked : IsRemarked c.args.slots c.args.start octets 0 output =
+    subst (λ (n : ℕ). IsRemarked c.args.slots c.args.start octets n output) none
+    (subst (λ (xs : List ℕ). IsRemarked c.args.slots c.args.start xs c.in_ok-remarked.remarked.count output)
+    c.deref-2.ensures.value
     c.in_ok-remarked.ensures.ok) in
-    wrote (IsRemarkedFor c.args.slots c.args.strict) _ _ _ octets output c.in_ok-octets.ensures.all
-    (unremarked c.args.slots c.args.strict octets output remarked)
+    wrote (IsRemarkedFor c.args.slots c.args.start c.args.strict) _ _ _ octets output c.in_ok-octets.ensures.all
+    (unremarked c.args.slots c.args.start c.args.strict octets output remarked)
     (subst (λ (xs : List ℕ). Appends (g.W.Write.contents (writer_of c.args.sink.now))
     (g.W.Write.contents (writer_of c.write_all-2.new.sink)) xs) c.deref-3.ensures.value
     c.in_default-write_all-2.ensures.ok)

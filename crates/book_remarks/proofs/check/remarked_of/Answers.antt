@@ -17,5 +17,5 @@ returns-clause-ok g c =
       run = c.in_ok-records.ensures.ok;
       counted = search (rules, all);
       written = c.in-Ok-run_text_of.ensures
-          ∙ ap₂ checked_run_text (c.deref-2.ensures.value ∙ all) c.deref-3.ensures.value;
+          ∙ ap₂ (checked_run_text c.args.start) (c.deref-2.ensures.value ∙ all) c.deref-3.ensures.value;
     }

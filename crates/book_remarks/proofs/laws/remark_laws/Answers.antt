@@ -1,4 +1,5 @@
 use Rattle.book_remarks.proofs.OneTable.{remarked_are_clean, remarks_are_one}
+use Rattle.book_remarks.proofs.TimedRun.{untimed-lacks-times}
 use Rattle.book_remarks.proofs.Unremarked.{unremarked_are_kept}
 use Rattle.book_remarks.proofs.laws.remark_laws.Goals as goal
 
@@ -11,3 +12,6 @@ returns-clause-one c =
 
 pub returns-clause-clean : goal.returns-clause-clean
 returns-clause-clean c = remarked_are_clean c.check_laws.ensures.books
+
+pub returns-clause-times : goal.returns-clause-times
+returns-clause-times c = untimed-lacks-times

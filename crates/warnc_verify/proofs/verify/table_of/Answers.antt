@@ -10,14 +10,14 @@ returns-clause-ok g c =
     let records = c.in_ok-records.records.items in
     let run = c.in_ok-records.ensures.ok in
     let recorded = c.in_ok-record_each.ensures.ok in
-    let taken : HasTaken c.args.told records c.record_each.new.taker.findings
+    let taken : HasTaken c.args.layout records c.record_each.new.taker.findings
     (map (recording_by c.args.pages) recorded.recordings) =
-    (recorded.taken (record { told = c.args.told; records = records; pages = c.args.pages }) []
+    (recorded.taken (record { layout = c.args.layout; records = records; pages = c.args.pages }) []
     (refl, c.in_ok-new.ensures)).1 in
     let tapes = octets_of (λ (octets : List ℕ). AreRecordings octets recorded.recordings) _ recorded.of_input
     recorded.of_some in
     let held = map (recording_by c.args.pages) recorded.recordings in
-    let made = c.in_ok-table.ensures c.args.told records held taken in (
+    let made = c.in_ok-table.ensures c.args.layout records held taken in (
       record {
         book = run.input;
         book_read = run.read;

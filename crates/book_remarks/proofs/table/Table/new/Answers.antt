@@ -2,4 +2,4 @@ use Rattle.std.proofs.Common.{[]}
 use Rattle.book_remarks.proofs.table.Table.new.Goals as goal
 
 pub returns : goal.returns
-returns c = c.in_ok-push_line.ensures [] c.empty-table.ensures
+returns c = c.in_ok-push_names.ensures [] c.empty-table.ensures

@@ -1,10 +1,7 @@
-use Rattle.std.proofs.Common.{◌≡◌, [], ◌∷◌, rules}
-use Rattle.book_remarks.specs.RemarksText.{line}
 use Rattle.book_remarks.proofs.table.Table.push_fields.Goals as goal
 
-pub returns : goal.returns
-returns c =
-    let fields : line (c.as_bytes.result.now ∷ c.as_bytes-2.result.now ∷ c.as_bytes-3.result.now ∷
-    c.as_bytes-4.result.now ∷ [])
-    ≡ line (c.args.row.now ∷ c.args.name.now ∷ c.args.cell.now ∷ c.args.says.now ∷ []) = search rules in
-    rw (← fields) c.push_line.ensures
+pub returns-in-None : goal.returns-in-None
+returns-in-None c = rw c.in-None.is c.push_untimed.ensures
+
+pub returns-in-Some : goal.returns-in-Some
+returns-in-Some c = rw c.in-Some.is (rw (← c.time_text-time.ensures) c.push_timed.ensures)

@@ -15,16 +15,16 @@ taking : {U E : Type 0} (r : Result U E) (old new : FindingsState) (pages : Page
     → recording_by pages recording ≡ tape
     → OnOk r (TakesTape old new tape)
     → OnOk r ((given : Judged) → (before : List TapeRecording)
-    → (pages ≡ given.pages) × HasTaken given.told given.records old (map (recording_by given.pages) before)
+    → (pages ≡ given.pages) × HasTaken given.layout given.records old (map (recording_by given.pages) before)
     → (pages ≡ given.pages)
-    × HasTaken given.told given.records new (map (recording_by given.pages) (before ++ recording ∷ [])))
+    × HasTaken given.layout given.records new (map (recording_by given.pages) (before ++ recording ∷ [])))
 taking (Ok u) old new pages recording tape is takes = λ given before had. (
   had.0,
-  subst (HasTaken given.told given.records new)
+  subst (HasTaken given.layout given.records new)
       (sym (map-append (recording_by given.pages) before (recording ∷ [])
       ∙ ap (λ (p : Pages). map (recording_by given.pages) before ++ recording_by p recording ∷ []) (sym had.0)
       ∙ ap (λ (t : TapeRecording). map (recording_by given.pages) before ++ t ∷ []) is))
-      (takes given.told given.records (map (recording_by given.pages) before) had.1),
+      (takes given.layout given.records (map (recording_by given.pages) before) had.1),
 )
 taking (Err e) old new pages recording tape is takes = tt
 
