@@ -1067,7 +1067,7 @@ fn full<'a>(alloc: Global) -> Arg<'a> {
     flag(
         alloc,
         "full",
-        "Adds columns: when a phone shows it first, pages,\nperiod, share of the channel, cause in words",
+        "Adds columns: row and name of the order, when a\nphone shows it first, pages, period, share of the\nchannel, cause in words",
     )
 }
 
