@@ -80,7 +80,7 @@ function groupsOf(chart, reported, book) {
     const lines = Map.groupBy(reported, ([, , lac, ci]) => `${lac}-${ci}`);
     return chart.split("<details open").slice(1).map((part) => {
         const cells = cellsNamed(between(part, "<h2>", "</h2>")).map((key) => ({ key, index: places.get(key) }));
-        const boxes = part.split('<div class="line">').slice(1), said = lines.get(cells[0].key) || [];
+        const boxes = part.split("<div>").slice(1), said = lines.get(cells[0].key) || [];
         const load = between(boxes[said.length], '<path class="load" d="', '"');
         return { cells, messages: said.map((fields, k) => messageOf(fields, boxes[k])), ...loadOf(load) };
     });

@@ -7,6 +7,7 @@ use Rattle.alert_book.specs.declared.book.order.Order.{Order}
 use Rattle.alert_book.specs.declared.network.Origin.TheVariants as origin
 use Rattle.alert_book.specs.Book.{Contents}
 use Rattle.alert_book.specs.Network.{HasGroups, IsGroupBook, RefusesNetwork}
+use Rattle.asked_orders.specs.Asked.{orders_of_run}
 use Rattle.bsc_table.specs.Record.{Record}
 use Rattle.chart.specs.ChartText.{chart_part}
 use Rattle.warnc_run.specs.declared.fault.RunFault.{RunFault}
@@ -33,7 +34,8 @@ octets_of_group product.Tapes slots groups group orders records =
 octets_of_group (product.Report layout) slots groups group orders records =
     octets_of (product.Report layout) (origin.Group group) slots orders records
 octets_of_group (product.Chart view) slots groups group orders records =
-    chart_part slots group (group + 1 == groups) view records (map reading_of_record records)
+    chart_part slots group (group + 1 == groups) view (orders_of_run orders records) records
+    (map reading_of_record records)
 
 -- the part of the group of this number
 pub record IsPartOf (runs : GroupRuns) (group : ℕ) (input output : List ℕ) : Type 0 where

@@ -63,7 +63,7 @@ octets_of product.Tapes from slots orders records = flat_map tape_of_record reco
 octets_of (product.Report layout) from slots orders records =
     text_with layout (is_headed from) (orders_of_run orders records) (own_rows records)
 octets_of (product.Chart view) from slots orders records =
-    chart_text slots view records (map reading_of_record records)
+    chart_text slots view (orders_of_run orders records) records (map reading_of_record records)
 
 -- what is written for the octets that were read: they are a book, or a network book whose group has one, and this is
 -- what is made of its run, and nothing else

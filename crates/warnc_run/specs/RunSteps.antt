@@ -85,9 +85,10 @@ StopsAtTape book slots parts old new other = IsOfTapes book slots parts other
 -- the octets of a text that is made of the orders and the records of a run
 abbrev pub octets_of_text : Text → (slots : ℕ) → Orders → List Record → List ℕ
 octets_of_text (text.Report layout headed) slots orders records = text_with layout headed orders (own_rows records)
-octets_of_text (text.Chart view) slots orders records = chart_text slots view records (map reading_of_record records)
+octets_of_text (text.Chart view) slots orders records =
+    chart_text slots view orders records (map reading_of_record records)
 octets_of_text (text.ChartPart group last view) slots orders records =
-    chart_part slots group last view records (map reading_of_record records)
+    chart_part slots group last view orders records (map reading_of_record records)
 
 -- this is such a text of such a run
 pub record IsTextOf (made : Text) (book : Contents) (slots parts : ℕ) (octets : List ℕ) : Type 0 where

@@ -122,7 +122,7 @@ pub(crate) fn text_of_book<T: AllocGlobal + Threads + Wait + Sync, G: Gate>(
     Ok(octets)
 }
 
-/// What a text says of the orders of a book, and which of them asked each cell of its run: nothing but in a full report.
+/// The orders of a book, and which of them asked each cell of its run: none for a plain report, which names no order.
 fn orders_for(
     alloc: Global,
     text: Text,
@@ -138,8 +138,7 @@ fn orders_for(
             Columns::Full => Ok(orders_of_run(alloc, orders, records)?),
             Columns::Plain => Ok(BookOrders::none(alloc)),
         },
-        Text::Chart(_) => Ok(BookOrders::none(alloc)),
-        Text::ChartPart(..) => Ok(BookOrders::none(alloc)),
+        Text::Chart(_) | Text::ChartPart(..) => Ok(orders_of_run(alloc, orders, records)?),
     }
 }
 
@@ -165,14 +164,23 @@ fn text_of_records<T: AllocGlobal + Threads + Wait + Sync>(
         }
         Text::Chart(view) => {
             let readings = readings_by(rt, records, workers)?;
-            match chart_octets(rt.alloc(), slots, view, records, &readings) {
+            match chart_octets(rt.alloc(), slots, view, orders, records, &readings) {
                 Ok(octets) => Ok(octets),
                 Err(fault) => Err(of_memory(fault)),
             }
         }
         Text::ChartPart(group, is_last, view) => {
             let readings = readings_by(rt, records, workers)?;
-            match part_octets(rt.alloc(), slots, group, is_last, view, records, &readings) {
+            match part_octets(
+                rt.alloc(),
+                slots,
+                group,
+                is_last,
+                view,
+                orders,
+                records,
+                &readings,
+            ) {
                 Ok(octets) => Ok(octets),
                 Err(fault) => Err(of_memory(fault)),
             }
