@@ -164,6 +164,17 @@ class Direction:
             self.taken += length
 
 
+def may_be_messages(octets):
+    """Whether data may be messages: of the types that there are, with lengths that fit."""
+    if not octets:
+        return False
+    while octets:
+        if not 1 <= octets[0] <= 0x17:
+            return False
+        octets = octets[4 + int.from_bytes(octets[1:4], "big"):]
+    return True
+
+
 def messages_of(octets):
     """Yields the messages of the link in a capture file."""
     directions = {}
@@ -172,7 +183,7 @@ def messages_of(octets):
         if it is None:
             continue
         first = (it.sequence + it.syn) % ROUND
-        if it.syn or it.way not in directions and it.octets and 1 <= it.octets[0] <= 0x17:
+        if it.syn or it.way not in directions and may_be_messages(it.octets):
             directions[it.way] = Direction(first)
         if it.way in directions:
             for message in directions[it.way].take(first, it.octets):

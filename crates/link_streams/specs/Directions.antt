@@ -30,8 +30,8 @@ direction_for segment direction = if segment.syn then begun_by segment else dire
 abbrev pub is_type : ℕ → Bool
 is_type number = nat_le 0x01 number && nat_le number 0x17
 
--- octets may be messages from the first one on: each has a type that there is, and its length leads to the next one, but
--- that the last one needn't be whole. There are at most as many messages as octets
+-- octets may be messages from the first one on: each has a type that there is, and its length leads to the next one,
+-- but that the last one needn't be whole. There are at most as many messages as octets
 unfoldable pub may_be_messages : (most : ℕ) → List ℕ → Bool
 may_be_messages most [] = true
 may_be_messages zero (number ∷ rest) = true

@@ -6,6 +6,9 @@
 //! the other way, and `)` and `(` the same to and from 10.0.0.3. Packet N comes N seconds after 1970 began. `fill N
 //! FIRST STEP DIGITS` adds N packets as `>` does, with the sequence numbers FIRST, FIRST + STEP, ..
 //!
+//! `want WORDS ..` adds a text, eight words at most with a space between two; an answer that is all of what was added is
+//! `as wanted`, and nothing more is wanted.
+//!
 //! `messages` returns the messages of the file: `2>16000000;` is one that became whole in packet 2, on the way of `>`;
 //! of other ways the source's last octet stands there. `count` says how many there are, and how many octets they have.
 //! `whole` says all of each: its packet, its time, source and destination, the addresses of controller and centre, and
@@ -27,6 +30,7 @@ use test_support::{Drought, Row, Words, after_refusals, digits_of, octets_of};
 pub struct Bench {
     octets: Vec<u8>,
     packets: u32,
+    wanted: String,
     drought: Drought,
     is_scarce: bool,
 }
@@ -43,10 +47,12 @@ const CENTRE: End = End {
     address: 0x0A00_0001,
     port: 40_000,
 };
+
 const CONTROLLER: End = End {
     address: 0x0A00_0002,
     port: 48_049,
 };
+
 const OTHER: End = End {
     address: 0x0A00_0003,
     port: 48_049,
@@ -68,6 +74,28 @@ fn add_hex(alloc: Global, octets: &mut Vec<u8>, words: &mut Words) -> Result<(),
         octets.extend_from_slice(&octets_of(alloc, words.word())?)?;
     }
     Ok(())
+}
+
+/// Adds the text of words, at most eight.
+fn add_text(text: &mut String, words: &mut Words) -> Result<(), Fail> {
+    text.push_str(words.word())?;
+    for _ in 0..7 {
+        let word = words.word();
+        if !word.is_empty() {
+            text.push_str(" ")?;
+            text.push_str(word)?;
+        }
+    }
+    Ok(())
+}
+
+/// What an answer is.
+fn judged(alloc: Global, bench: &mut Bench, answer: String) -> Result<String, Fail> {
+    if bench.wanted.is_empty() || answer.as_str() != bench.wanted.as_str() {
+        return Ok(answer);
+    }
+    bench.wanted.clear();
+    Ok(String::from_str(alloc, "as wanted")?)
 }
 
 /// Adds a packet.
@@ -177,11 +205,7 @@ fn are_same(some: &[LinkPacket], others: &[LinkPacket]) -> bool {
 }
 
 /// Whether a file comes to the same messages in parts as whole.
-fn is_same_in_parts(
-    alloc: Global,
-    octets: &[u8],
-    whole: &Result<Vec<LinkPacket>, AirFault>,
-) -> bool
+fn is_same_in_parts(alloc: Global, octets: &[u8], whole: &Result<Vec<LinkPacket>, AirFault>) -> bool
     requires { length octets.now ≤ 10000000 }
 {
     for size in PARTS {
@@ -237,7 +261,7 @@ fn list(alloc: Global, bench: &mut Bench) -> Result<String, Fail> {
         let digits = digits_of(alloc, &one.octets.list)?;
         all.push_str(&format!(in alloc; "{number}{sign}{digits};")?)?;
     }
-    Ok(all)
+    judged(alloc, bench, all)
 }
 
 /// Says how many messages there are, and how many octets they have.
@@ -279,7 +303,10 @@ fn said(alloc: Global, message: &LinkPacket) -> Result<String, Fail> {
     let (from, from_port) = (way.source, way.source_port);
     let (to, to_port) = (way.destination, way.destination_port);
     let ends = format!(in alloc; "{from:08x}:{from_port} {to:08x}:{to_port}")?;
-    Ok(format!(in alloc; "{} {time} {ends} {port} {side} {controller} {centre};", message.number)?)
+    Ok(format!(in alloc;
+        "{} {time} {ends} {port} {side} {controller} {centre};",
+        message.number
+    )?)
 }
 
 /// Says all of each message.
@@ -292,7 +319,7 @@ fn whole(alloc: Global, bench: &mut Bench) -> Result<String, Fail> {
     for one in &messages {
         all.push_str(&said(alloc, one)?)?;
     }
-    Ok(all)
+    judged(alloc, bench, all)
 }
 
 /// What comes of a verb and the words after it.
@@ -306,6 +333,7 @@ fn done(alloc: Global, bench: &mut Bench, verb: &str, words: &mut Words) -> Resu
         ")" => add_packet(alloc, bench, CENTRE, OTHER, words)?,
         "(" => add_packet(alloc, bench, OTHER, CENTRE, words)?,
         "fill" => fill(alloc, bench, words)?,
+        "want" => add_text(&mut bench.wanted, words)?,
         "messages" => return list(alloc, bench),
         "count" => return count(alloc, bench),
         "whole" => return whole(alloc, bench),
@@ -340,6 +368,7 @@ pub fn expect_rows(rt: &impl Abort, alloc: Global, table: &str, count: u16) -> R
     let mut bench = Bench {
         octets: Vec::new(alloc),
         packets: 0,
+        wanted: String::new(alloc),
         drought: Drought::new(alloc)?,
         is_scarce: false,
     };
