@@ -8,6 +8,7 @@ pub mod ByName
 pub mod Names
 pub mod Rows
 pub mod RowText
+pub mod Times
 pub mod Found
 pub mod FoundSteps
 pub mod Explained

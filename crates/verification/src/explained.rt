@@ -25,6 +25,7 @@ use crate::text::kind_text;
 use bsc_table::CellRecord;
 use cbs_page::PAGE_OCTETS;
 use cbsp_wire::Cell;
+use slot_times::Start;
 use std::alloc::{AllocError, Global};
 use std::marker::Model;
 
@@ -152,15 +153,16 @@ fn explained(
 fn push_lines(
     alloc: Global,
     text: &mut Vec<u8>,
+    start: Option<Start>,
     cell: Cell,
     difference: &Difference,
     told: &Option<Explanation>,
 ) -> Result<(), AllocError>
     ensures { OnOk result (text.new.items
-        ≡ text.old.items ++ flat_map (told_line cell difference.now) (option_to_list told.now)) }
+        ≡ text.old.items ++ flat_map (told_line start cell difference.now) (option_to_list told.now)) }
 {
     match told {
-        Some(told) => text.extend_from_slice(&told_line(alloc, cell, difference, told)?),
+        Some(told) => text.extend_from_slice(&told_line(alloc, start, cell, difference, told)?),
         None => Ok(()),
     }
 }
@@ -182,6 +184,7 @@ fn came_in<'a>(
 /// The line of the shift of all pages, if they have one, or no lines. The only error is out of memory.
 fn shift_lines(
     alloc: Global,
+    start: Option<Start>,
     run: &CellRecord,
     messages: &[Asked],
     came: &[Came],
@@ -190,10 +193,10 @@ fn shift_lines(
     requires log { map asked_kept messages.now ≡ asked_of_log run.now.log }
     requires same { map came_asked came.now ≡ map asked_kept messages.now }
     requires pages { AllHavePages (sent_in blocks.now) came.now }
-    ensures { IfOk result (λ lines. lines.items ≡ shift_lines run.now blocks.now) }
+    ensures { IfOk result (λ lines. lines.items ≡ shift_lines start run.now blocks.now) }
 {
     match shift_of(alloc, run.slots(), messages, came, blocks)? {
-        Some(shift) => shift_line(alloc, run.cell(), shift),
+        Some(shift) => shift_line(alloc, start, run.cell(), shift),
         None => Ok(Vec::new(alloc)),
     }
 }
@@ -201,6 +204,7 @@ fn shift_lines(
 /// The same where the differences are such that a shift may be why. The only error is out of memory.
 fn shift_lines_for(
     alloc: Global,
+    start: Option<Start>,
     run: &CellRecord,
     messages: &[Asked],
     came: &[Came],
@@ -210,10 +214,10 @@ fn shift_lines_for(
     requires log { map asked_kept messages.now ≡ asked_of_log run.now.log }
     requires same { map came_asked came.now ≡ map asked_kept messages.now }
     requires pages { AllHavePages (sent_in blocks.now) came.now }
-    ensures { IfOk result (λ lines. lines.items ≡ shift_lines_for run.now blocks.now found.now) }
+    ensures { IfOk result (λ lines. lines.items ≡ shift_lines_for start run.now blocks.now found.now) }
 {
     if any_is_untimely(found) {
-        return shift_lines(alloc, run, messages, came, blocks);
+        return shift_lines(alloc, start, run, messages, came, blocks);
     }
     Ok(Vec::new(alloc))
 }
@@ -222,6 +226,7 @@ fn shift_lines_for(
 fn push_all_lines(
     alloc: Global,
     text: &mut Vec<u8>,
+    start: Option<Start>,
     run: &CellRecord,
     came: &[Came],
     blocks: &[[u8; 23]],
@@ -230,34 +235,36 @@ fn push_all_lines(
     requires asked { map came_asked came.now ≡ asked_of_log run.now.log }
     requires pages { AllHavePages (sent_in blocks.now) came.now }
     ensures { OnOk result (text.new.items
-        ≡ text.old.items ++ flat_map (difference_lines run.now blocks.now) found.now) }
+        ≡ text.old.items ++ flat_map (difference_lines start run.now blocks.now) found.now) }
 {
     for difference in found {
         let told = explained(alloc, run.slots(), came, blocks, difference)?;
-        push_lines(alloc, text, run.cell(), difference, &told)?;
+        push_lines(alloc, text, start, run.cell(), difference, &told)?;
     }
     Ok(())
 }
 
-/// The lines that the explained table has of differences between a cell's record and the blocks of its tape.
+/// The lines that the explained table has of differences between a cell's record and the blocks of its tape, with times
+/// if slot 0 has one.
 ///
 /// # Errors
 ///
 /// Out of memory.
 pub fn explained_lines(
     alloc: Global,
+    start: Option<Start>,
     run: &CellRecord,
     blocks: &[[u8; 23]],
     found: &[Difference],
 ) -> Result<Vec<u8>, AllocError>
-    ensures { IfOk result (λ lines. lines.items ≡ explained_lines run.now blocks.now found.now) }
+    ensures { IfOk result (λ lines. lines.items ≡ explained_lines start run.now blocks.now found.now) }
 {
     if found.is_empty() {
         return Ok(Vec::new(alloc));
     }
     let messages = asked_messages(alloc, run.log())?;
     let came = came_in(alloc, &messages, blocks)?;
-    let mut lines = shift_lines_for(alloc, run, &messages, &came, blocks, found)?;
-    push_all_lines(alloc, &mut lines, run, &came, blocks, found)?;
+    let mut lines = shift_lines_for(alloc, start, run, &messages, &came, blocks, found)?;
+    push_all_lines(alloc, &mut lines, start, run, &came, blocks, found)?;
     Ok(lines)
 }

@@ -12,14 +12,15 @@ ghost use Rattle.verification.specs.Rows.{difference_row, is_known, tape_of};
 ghost use Rattle.verification.specs.Table.{other_line};
 
 use crate::cell::differences;
-use crate::detail::Detail;
+use crate::detail::{Detail, TableLayout};
 use crate::difference::Difference;
 use crate::explained::explained_lines;
 use crate::lines::{finding_line, header_line};
 use crate::row::{Finding, Row};
-use crate::text::text_of;
+use crate::timed::plain_table;
 use bsc_table::CellRecord;
 use cbsp_wire::Cell;
+use slot_times::Start;
 use std::alloc::{AllocError, Global};
 use std::marker::Model;
 
@@ -47,7 +48,7 @@ pub struct CellState {
 #[derive(Drop)]
 pub struct Findings {
     alloc: Global,
-    told: Detail,
+    layout: TableLayout,
     cells: Vec<CellState>,
     seen: Vec<Cell>,
     others: Vec<Row>,
@@ -59,7 +60,7 @@ impl Model for Findings {
     ghost Value = { FindingsState };
 
     ghost view = { λ f. record {
-      told = f.told;
+      layout = f.layout;
       cells = f.cells.items;
       seen = f.seen.items;
       others = f.others.items;
@@ -78,34 +79,34 @@ pub struct Table {
 /// The lines that the explained table has of a cell's differences, if that is wanted. The only error is out of memory.
 fn told_lines(
     alloc: Global,
-    told: Detail,
+    layout: TableLayout,
     run: &CellRecord,
     blocks: &[[u8; 23]],
     found: &[Difference],
 ) -> Result<Vec<u8>, AllocError>
-    ensures { IfOk result (λ lines. lines.items ≡ lines_told told run.now blocks.now found.now) }
+    ensures { IfOk result (λ lines. lines.items ≡ lines_told layout run.now blocks.now found.now) }
 {
-    match told {
+    match layout.detail {
         Detail::Plain => Ok(Vec::new(alloc)),
-        Detail::Explained => explained_lines(alloc, run, blocks, found),
+        Detail::Explained => explained_lines(alloc, layout.start, run, blocks, found),
     }
 }
 
 /// What was found of a cell by a tape of this many slots, with these blocks. The only error is out of memory.
 fn judge(
     alloc: Global,
-    told: Detail,
+    layout: TableLayout,
     run: &CellRecord,
     slots: u32,
     blocks: &[[u8; 23]],
 ) -> Result<CellFinding, AllocError>
-    ensures { IfOk result (IsFoundIn told run.now slots blocks.now) }
+    ensures { IfOk result (IsFoundIn layout run.now slots blocks.now) }
 {
     if slots != u32::from(run.slots()) {
         return Ok(CellFinding::OtherSlots);
     }
     let found = differences(alloc, run, blocks)?;
-    let lines = told_lines(alloc, told, run, blocks, &found)?;
+    let lines = told_lines(alloc, layout, run, blocks, &found)?;
     Ok(CellFinding::Judged(found, lines))
 }
 
@@ -138,16 +139,16 @@ fn is_among(cells: &[Cell], cell: Cell) -> bool
 /// Judges a tape, if it is of a cell. The only error is out of memory.
 fn judge_cell(
     alloc: Global,
-    told: Detail,
+    layout: TableLayout,
     state: &mut CellState,
     cell: Cell,
     slots: u32,
     blocks: &[[u8; 23]],
 ) -> Result<(), AllocError>
-    ensures { OnOk result (IsJudgedBy told (tape_of cell slots blocks.now) state.old state.new) }
+    ensures { OnOk result (IsJudgedBy layout (tape_of cell slots blocks.now) state.old state.new) }
 {
     if state.run.cell() == cell {
-        state.finding = judge(alloc, told, &state.run, slots, blocks)?;
+        state.finding = judge(alloc, layout, &state.run, slots, blocks)?;
     }
     Ok(())
 }
@@ -155,16 +156,16 @@ fn judge_cell(
 /// Judges a tape in each of some cells of which it is. The only error is out of memory.
 fn judge_cells(
     alloc: Global,
-    told: Detail,
+    layout: TableLayout,
     cells: &mut [CellState],
     cell: Cell,
     slots: u32,
     blocks: &[[u8; 23]],
 ) -> Result<(), AllocError>
-    ensures { OnOk result (AreJudgedBy told (tape_of cell slots blocks.now) cells.old cells.new) }
+    ensures { OnOk result (AreJudgedBy layout (tape_of cell slots blocks.now) cells.old cells.new) }
 {
     for place in 0..cells.len() {
-        judge_cell(alloc, told, &mut cells[place], cell, slots, blocks)?;
+        judge_cell(alloc, layout, &mut cells[place], cell, slots, blocks)?;
     }
     Ok(())
 }
@@ -224,22 +225,22 @@ fn rows_of_cells(alloc: Global, cells: &[CellState]) -> Result<Vec<Row>, AllocEr
 }
 
 impl Findings {
-    /// Of no tapes, in a run with these records; `told` is how much the table is to tell.
+    /// Of no tapes, in a run with these records, for a table that is laid out so.
     ///
     /// # Errors
     ///
     /// Out of memory.
     pub fn new(
         alloc: Global,
-        told: Detail,
+        layout: TableLayout,
         records: Vec<CellRecord>,
     ) -> Result<Findings, AllocError>
-        ensures { IfOk result (λ findings. HasTaken told records.items findings []) }
+        ensures { IfOk result (λ findings. HasTaken layout records.items findings []) }
     {
         let cells = unjudged_cells(alloc, records)?;
         Ok(Findings {
             alloc,
-            told,
+            layout,
             cells,
             seen: Vec::new(alloc),
             others: Vec::new(alloc),
@@ -268,7 +269,7 @@ impl Findings {
         } else {
             judge_cells(
                 self.alloc,
-                self.told,
+                self.layout,
                 self.cells.as_mut_slice(),
                 cell,
                 slots,
@@ -294,7 +295,7 @@ impl Findings {
         Ok(rows)
     }
 
-    /// The rows, and the text of their table, with as much detail as was wanted.
+    /// The rows, and the text of their table, as it was to be laid out.
     ///
     /// # Errors
     ///
@@ -311,29 +312,31 @@ impl Findings {
     fn text(&self, rows: &[Row]) -> Result<Vec<u8>, AllocError>
         ensures { IfOk result (λ text. text.items ≡ text_of_found self.now rows.now) }
     {
-        match self.told {
-            Detail::Plain => {
-                let text = text_of(self.alloc, rows)?;
-                Ok(text.into_bytes())
-            }
-            Detail::Explained => self.explained(),
+        match self.layout.detail {
+            Detail::Plain => plain_table(self.alloc, self.layout.start, rows),
+            Detail::Explained => self.explained(self.layout.start),
         }
     }
 
     /// The explained table. The only error is out of memory.
-    fn explained(&self) -> Result<Vec<u8>, AllocError>
-        ensures { IfOk result (λ text. text.items ≡ explained_found self.now) }
+    fn explained(&self, start: Option<Start>) -> Result<Vec<u8>, AllocError>
+        ensures { IfOk result (λ text. text.items ≡ explained_found start self.now) }
     {
-        let mut text = header_line(self.alloc)?;
-        push_cells(self.alloc, &mut text, &self.cells)?;
-        push_others(self.alloc, &mut text, &self.others)?;
+        let mut text = header_line(self.alloc, start)?;
+        push_cells(self.alloc, &mut text, start, &self.cells)?;
+        push_others(self.alloc, &mut text, start, &self.others)?;
         Ok(text)
     }
 }
 
 /// Appends the lines of a cell. The only error is out of memory.
-fn push_lines(alloc: Global, text: &mut Vec<u8>, state: &CellState) -> Result<(), AllocError>
-    ensures { OnOk result (text.new.items ≡ text.old.items ++ lines_of_state state.now) }
+fn push_lines(
+    alloc: Global,
+    text: &mut Vec<u8>,
+    start: Option<Start>,
+    state: &CellState,
+) -> Result<(), AllocError>
+    ensures { OnOk result (text.new.items ≡ text.old.items ++ lines_of_state start state.now) }
 {
     let cell = state.run.cell();
     let finding = match &state.finding {
@@ -341,25 +344,35 @@ fn push_lines(alloc: Global, text: &mut Vec<u8>, state: &CellState) -> Result<()
         CellFinding::OtherSlots => Finding::OtherSlots,
         CellFinding::Judged(_, lines) => return text.extend_from_slice(lines),
     };
-    text.extend_from_slice(&finding_line(alloc, cell, &finding)?)
+    text.extend_from_slice(&finding_line(alloc, start, cell, &finding)?)
 }
 
 /// Appends the lines of cells, one after another. The only error is out of memory.
-fn push_cells(alloc: Global, text: &mut Vec<u8>, cells: &[CellState]) -> Result<(), AllocError>
-    ensures { OnOk result (text.new.items ≡ text.old.items ++ flat_map lines_of_state cells.now) }
+fn push_cells(
+    alloc: Global,
+    text: &mut Vec<u8>,
+    start: Option<Start>,
+    cells: &[CellState],
+) -> Result<(), AllocError>
+    ensures { OnOk result (text.new.items ≡ text.old.items ++ flat_map (lines_of_state start) cells.now) }
 {
     for state in cells {
-        push_lines(alloc, text, state)?;
+        push_lines(alloc, text, start, state)?;
     }
     Ok(())
 }
 
 /// Appends the lines of rows that tell of whole tapes. The only error is out of memory.
-fn push_others(alloc: Global, text: &mut Vec<u8>, rows: &[Row]) -> Result<(), AllocError>
-    ensures { OnOk result (text.new.items ≡ text.old.items ++ flat_map other_line rows.now) }
+fn push_others(
+    alloc: Global,
+    text: &mut Vec<u8>,
+    start: Option<Start>,
+    rows: &[Row],
+) -> Result<(), AllocError>
+    ensures { OnOk result (text.new.items ≡ text.old.items ++ flat_map (other_line start) rows.now) }
 {
     for row in rows {
-        let line = finding_line(alloc, row.cell, &row.finding)?;
+        let line = finding_line(alloc, start, row.cell, &row.finding)?;
         text.extend_from_slice(&line)?;
     }
     Ok(())

@@ -23,9 +23,10 @@ mod row;
 mod sent;
 mod shift;
 mod text;
+mod timed;
 
 pub use cell::differences;
-pub use detail::Detail;
+pub use detail::{Detail, TableLayout};
 pub use difference::{Difference, Kind};
 pub use findings::{Findings, Table};
 pub use row::{Finding, Row};

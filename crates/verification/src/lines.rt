@@ -1,6 +1,6 @@
 //! Lines of the explained table, as CSV.
 
-ghost use Rattle.std.specs.Prelude.{◌≡◌, ◌++◌, ℕ, List, [], IfOk, OnOk, map, string_bytes};
+ghost use Rattle.std.specs.Prelude.{◌≡◌, ◌++◌, ℕ, List, [], IfOk, None, OnOk, map, string_bytes};
 ghost use Rattle.csv.specs.Writing.{default_writer, row_text};
 ghost use Rattle.verification.specs.LineSteps.{HasWritten};
 ghost use Rattle.verification.specs.Table.{explained_header, finding_line, finding_name, shift_line, shift_name};
@@ -11,9 +11,11 @@ use crate::explained::Explanation;
 use crate::row::Finding;
 use crate::shift::Shift;
 use crate::text::kind_text;
+use crate::timed::{timed_header, timed_told, timed_whole};
 use cbsp_wire::Cell;
 use csv::{Writer, WriterBuilder};
 use itoa::Buffer;
+use slot_times::Start;
 use std::alloc::{AllocError, Global};
 
 /// A writer that has written nothing.
@@ -45,7 +47,7 @@ fn written(writer: Writer<Vec<u8>>) -> Result<Vec<u8>, AllocError>
 }
 
 /// The line of some fields. The only error is out of memory.
-fn line(alloc: Global, fields: &[&[u8]]) -> Result<Vec<u8>, AllocError>
+pub(crate) fn line(alloc: Global, fields: &[&[u8]]) -> Result<Vec<u8>, AllocError>
     ensures { IfOk result (λ octets. octets.items ≡ row_text default_writer (map (λ f. f.now) fields.now)) }
 {
     let mut writer = nothing_written(alloc);
@@ -54,9 +56,19 @@ fn line(alloc: Global, fields: &[&[u8]]) -> Result<Vec<u8>, AllocError>
     Ok(octets)
 }
 
-/// The line of the columns' names. The only error is out of memory.
-pub fn header_line(alloc: Global) -> Result<Vec<u8>, AllocError>
-    ensures { IfOk result (λ octets. octets.items ≡ explained_header) }
+/// The line of the columns' names, with one for times if slot 0 has one. The only error is out of memory.
+pub fn header_line(alloc: Global, start: Option<Start>) -> Result<Vec<u8>, AllocError>
+    ensures { IfOk result (λ octets. octets.items ≡ explained_header start) }
+{
+    match start {
+        None => untimed_header(alloc),
+        Some(_) => timed_header(alloc),
+    }
+}
+
+/// The line of the columns' names without times. The only error is out of memory.
+fn untimed_header(alloc: Global) -> Result<Vec<u8>, AllocError>
+    ensures { IfOk result (λ octets. octets.items ≡ explained_header None) }
 {
     line(
         alloc,
@@ -74,7 +86,7 @@ pub fn header_line(alloc: Global) -> Result<Vec<u8>, AllocError>
 }
 
 /// What a finding is called. The only error is out of memory.
-fn finding_name(alloc: Global, finding: &Finding) -> Result<String, AllocError>
+pub(crate) fn finding_name(alloc: Global, finding: &Finding) -> Result<String, AllocError>
     ensures { IfOk result (λ text. string_bytes text ≡ finding_name finding.now) }
 {
     match finding {
@@ -86,9 +98,25 @@ fn finding_name(alloc: Global, finding: &Finding) -> Result<String, AllocError>
     }
 }
 
-/// The line of a finding of a whole cell or tape. The only error is out of memory.
-fn whole_line(alloc: Global, cell: Cell, name: &str) -> Result<Vec<u8>, AllocError>
-    ensures { IfOk result (λ octets. octets.items ≡ whole_line cell name.now) }
+/// The line of a finding of a whole cell or tape, whose column of times is empty if there is one. The only error is out
+/// of memory.
+fn whole_line(
+    alloc: Global,
+    start: Option<Start>,
+    cell: Cell,
+    name: &str,
+) -> Result<Vec<u8>, AllocError>
+    ensures { IfOk result (λ octets. octets.items ≡ whole_line start cell name.now) }
+{
+    match start {
+        None => untimed_whole(alloc, cell, name),
+        Some(_) => timed_whole(alloc, cell, name),
+    }
+}
+
+/// The line of a finding of a whole cell or tape, in a table without times. The only error is out of memory.
+fn untimed_whole(alloc: Global, cell: Cell, name: &str) -> Result<Vec<u8>, AllocError>
+    ensures { IfOk result (λ octets. octets.items ≡ whole_line None cell name.now) }
 {
     let (mut lac, mut ci) = (Buffer::new(), Buffer::new());
     line(
@@ -107,11 +135,16 @@ fn whole_line(alloc: Global, cell: Cell, name: &str) -> Result<Vec<u8>, AllocErr
 }
 
 /// The line of a finding that tells of a whole cell or tape. The only error is out of memory.
-pub fn finding_line(alloc: Global, cell: Cell, finding: &Finding) -> Result<Vec<u8>, AllocError>
-    ensures { IfOk result (λ octets. octets.items ≡ finding_line cell finding.now) }
+pub fn finding_line(
+    alloc: Global,
+    start: Option<Start>,
+    cell: Cell,
+    finding: &Finding,
+) -> Result<Vec<u8>, AllocError>
+    ensures { IfOk result (λ octets. octets.items ≡ finding_line start cell finding.now) }
 {
     let name = finding_name(alloc, finding)?;
-    whole_line(alloc, cell, &name)
+    whole_line(alloc, start, cell, &name)
 }
 
 /// A number of slots. The only error is out of memory.
@@ -141,21 +174,43 @@ fn shift_name(alloc: Global, shift: Shift) -> Result<String, AllocError>
 }
 
 /// The line of a cell whose pages are all shifted. The only error is out of memory.
-pub fn shift_line(alloc: Global, cell: Cell, shift: Shift) -> Result<Vec<u8>, AllocError>
-    ensures { IfOk result (λ octets. octets.items ≡ shift_line cell shift) }
+pub fn shift_line(
+    alloc: Global,
+    start: Option<Start>,
+    cell: Cell,
+    shift: Shift,
+) -> Result<Vec<u8>, AllocError>
+    ensures { IfOk result (λ octets. octets.items ≡ shift_line start cell shift) }
 {
     let name = shift_name(alloc, shift)?;
-    whole_line(alloc, cell, &name)
+    whole_line(alloc, start, cell, &name)
 }
 
-/// The line of what is told of a difference. The only error is out of memory.
+/// The line of what is told of a difference, with the time at which its slot begins if slot 0 has one. The only error
+/// is out of memory.
 pub fn told_line(
+    alloc: Global,
+    start: Option<Start>,
+    cell: Cell,
+    difference: &Difference,
+    told: &Explanation,
+) -> Result<Vec<u8>, AllocError>
+    ensures { IfOk result (λ octets. octets.items ≡ told_line start cell difference.now told.now) }
+{
+    match start {
+        None => untimed_told(alloc, cell, difference, told),
+        Some(start) => timed_told(alloc, start, cell, difference, told),
+    }
+}
+
+/// The line of what is told of a difference, without a time. The only error is out of memory.
+fn untimed_told(
     alloc: Global,
     cell: Cell,
     difference: &Difference,
     told: &Explanation,
 ) -> Result<Vec<u8>, AllocError>
-    ensures { IfOk result (λ octets. octets.items ≡ told_line cell difference.now told.now) }
+    ensures { IfOk result (λ octets. octets.items ≡ told_line None cell difference.now told.now) }
 {
     let (mut lac, mut ci) = (Buffer::new(), Buffer::new());
     let (mut id, mut slot) = (Buffer::new(), Buffer::new());

@@ -5,4 +5,5 @@ use Rattle.verification.proofs.explained.push_all_lines.Given as goal
 
 abbrev pub invariant-loop-difference : goal.invariant-loop-difference
 invariant-loop-difference l =
-    l.text.items ≡ l.fn.text.items ++ flat_map (difference_lines l.run l.blocks) (take l.difference-index l.found)
+    l.text.items ≡ l.fn.text.items ++ flat_map (difference_lines l.start l.run l.blocks)
+    (take l.difference-index l.found)

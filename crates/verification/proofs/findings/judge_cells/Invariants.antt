@@ -9,7 +9,7 @@ abbrev pub invariant-loop-place : goal.invariant-loop-place
 invariant-loop-place l = record {
   long : length l.cells ≡ length l.fn.cells;
   passed : (k : ℕ) (d : CellState) → k < l.place
-      → IsJudgedBy l.told (tape_of l.cell l.slots l.blocks) (slice_index_or l.fn.cells k d)
+      → IsJudgedBy l.layout (tape_of l.cell l.slots l.blocks) (slice_index_or l.fn.cells k d)
       (slice_index_or l.cells k d);
   left : (k : ℕ) (d : CellState) → l.place ≤ k → slice_index_or l.cells k d ≡ slice_index_or l.fn.cells k d;
 }

@@ -4,9 +4,9 @@ use Rattle.verification.proofs.findings.Findings.new.Goals as goal
 
 pub returns : goal.returns
 returns c =
-    taken-none c.args.told c.args.records.items
+    taken-none c.args.layout c.args.records.items
     (record {
-      told = c.args.told;
+      layout = c.args.layout;
       cells = c.in_ok-cells.cells.items;
       seen = c.new.result.items;
       others =

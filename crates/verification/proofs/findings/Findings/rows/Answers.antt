@@ -14,8 +14,8 @@ same c =
     ∙ ap (λ (f : FindingsState). flat_map rows_of_state f.cells ++ f.others) c.self.view_is
 
 pub returns-clause-taken : goal.returns-clause-taken
-returns-clause-taken c = λ told records tapes taken.
-    rows-are told records c.args.self.now tapes c.extend_from_slice.new.self.items taken (same c)
+returns-clause-taken c = λ layout records tapes taken.
+    rows-are layout records c.args.self.now tapes c.extend_from_slice.new.self.items taken (same c)
 
 pub returns-clause-found : goal.returns-clause-found
 returns-clause-found c = same c
