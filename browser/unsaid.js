@@ -1,7 +1,7 @@
-// In a worker: what the page shows and the program doesn't say yet. Which row of the book a line of the report is of,
-// and so in how many cells an order's message is shown, or never is; texts with spaces at an end, and orders of all
-// cells with cells after them; the load as numbers, the text of each page, and which page is on the channel in a slot.
-// All of it is read of the program's report, chart and tapes (docs/formats.md).
+// In a worker: what the page shows and the program doesn't say yet. In how many cells an order's message is shown, or
+// never is; texts with spaces at an end, and orders of all cells with cells after them; the load as numbers, the text of
+// each page, and which page is on the channel in a slot. All of it is read of the program's report, chart and tapes
+// (docs/formats.md).
 const SLOT_OCTETS = 92, HEADER_OCTETS = 8, FIRST_BLOCK = 0x20;
 
 // Returns what a phone shows of each page alone: to `read` each goes as page 1 of 1, with a serial number of its own.
@@ -38,9 +38,9 @@ function between(text, front, end) {
 
 // Returns a message or a refused order: a line of the full report, and the chart's line of it. A phone shows a message
 // after a slot, and so does a mark stand; one whose marks would be too close has none.
-function messageOf([, , id, serial, start, end, whole, , first, , period, , cause], box) {
+function messageOf([row, name, , , id, serial, start, end, whole, , first, , period, , cause], box) {
     return {
-        id: +id, serial, start: +start, end: +end, whole: +whole, period: +period, cause,
+        row: +row, name, id: +id, serial, start: +start, end: +end, whole: +whole, period: +period, cause,
         first: first === "" ? -1 : +first + 1, level: between(box, '<rect class="', '"'),
         category: between(box, "<i>", "</i>"), text: plain(between(box, "<bdi>", "</bdi>")),
         marks: between(box, '<path class="whole" d="', '"'),
@@ -67,46 +67,34 @@ function cellsNamed(heading) {
     return Array.from({ length: last - first + 1 }, (_, k) => `${lac}-${+first + k}`);
 }
 
+// Returns the lines of a report, each with its fields. Most reports quote nothing, and are split in no time.
+function linesOf(report) {
+    const lines = report.includes('"') ? parseCsv(report).map(({ fields }) => fields)
+        : report.split("\n").map((line) => line.split(","));
+    return lines.filter((fields) => fields.length > 1).slice(1);
+}
+
 // Returns the groups of cells that the chart draws once, with their messages and loads.
-function groupsOf(chart, report, book) {
+function groupsOf(chart, reported, book) {
     const places = new Map(book.cells.map(({ key }, index) => [key, index]));
-    const rows = report.split("\n").slice(1, -1).map((line) => line.split(","));
-    const lines = Map.groupBy(rows, ([lac, ci]) => `${lac}-${ci}`);
+    const lines = Map.groupBy(reported, ([, , lac, ci]) => `${lac}-${ci}`);
     return chart.split("<details open").slice(1).map((part) => {
         const cells = cellsNamed(between(part, "<h2>", "</h2>")).map((key) => ({ key, index: places.get(key) }));
-        const boxes = part.split('<div class="line">').slice(1), said = lines.get(cells[0].key) || [];
+        const boxes = part.split("<div>").slice(1), said = lines.get(cells[0].key) || [];
         const load = between(boxes[said.length], '<path class="load" d="', '"');
         return { cells, messages: said.map((fields, k) => messageOf(fields, boxes[k])), ...loadOf(load) };
     });
 }
 
-// Whether a line can be of an order. That of a refused stop has no period, and the serial number of what it would stop.
-function isOf({ id, serial, period, text }, order) {
-    if (id !== +order.id) return false;
-    if (!period) return order.verb === "stop" && serial.slice(0, 3) === order.serial.slice(0, 3);
-    return period === +order.period && serial === order.serial && (text === "" || text === order.text);
-}
-
-// Gives each message the row and the name of its order, and returns of each order in how many cells its message is
-// shown, and which cells refused it, by the cause. A cell's lines stand in the order of the rows: each is of the first
-// order after that of the line before it that names the cell and that it can be of.
-function fatesOf(groups, book) {
-    const fates = book.orders.map(({ row }) => ({ row, shown: 0, refused: {} }));
-    const named = new Map(book.cells.map(({ key }) => [key, []]));
-    book.orders.forEach((order, k) => order.where.forEach((key) => named.get(key)?.push({ order, fate: fates[k] })));
-    for (const { cells, messages } of groups) for (const { key } of cells) {
-        const orders = named.get(key);
-        let next = 0;
-        for (const message of messages) {
-            while (next < orders.length && !isOf(message, orders[next].order)) next++;
-            if (next === orders.length) break;
-            const { order, fate } = orders[next++];
-            if (key === cells[0].key) Object.assign(message, { row: order.row, name: order.name });
-            if (message.cause) (fate.refused[message.cause] ||= []).push(key);
-            else if (message.first >= 0) fate.shown++;
-        }
+// Returns of each order in how many cells its message is shown, and which cells refused it, by the cause.
+function fatesOf(reported, book) {
+    const fates = new Map(book.orders.map(({ row }) => [row, { row, shown: 0, refused: {} }]));
+    for (const [row, , lac, ci, , , , , , , first, , , , cause] of reported) {
+        const fate = fates.get(+row);
+        if (cause) (fate.refused[cause] ||= []).push(`${lac}-${ci}`);
+        else if (first !== "") fate.shown++;
     }
-    return fates;
+    return [...fates.values()];
 }
 
 // Returns what the program doesn't remark yet, as `check --slots` would.

@@ -41,8 +41,9 @@ const jobs = {
         const chart = run(["chart", ...words], text);
         if (chart.status) return { fault: chart.says };
         say(3);
-        const book = readBook(text), groups = groupsOf(decode(chart.out), decode(report.out), book);
-        const fates = fatesOf(groups, book), own = ownRemarks(book);
+        const book = readBook(text), reported = linesOf(decode(report.out));
+        const groups = groupsOf(decode(chart.out), reported, book), fates = fatesOf(reported, book);
+        const own = ownRemarks(book);
         return { told: JSON.stringify({ groups, fates, own }) }; // so large a text is passed on faster than its objects
     },
 

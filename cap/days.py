@@ -378,7 +378,7 @@ def network_differs(seed, program):
     runner = Runner(program, SLOTS)
     book = rounds.made(plan, messages, runner)
     whole = {}
-    for row in said(program, ["report", "--full", "--network"], book.octets):
+    for _, _, *row in said(program, ["report", "--full", "--network"], book.octets):
         which = (int(row[3], 16) >> 4 & 1023, int(row[3], 16) & 15 if row[9] else "stop")
         whole.setdefault(which, []).append((row[7] if row[7].startswith("refused") else "", row[8]))
     made = {}

@@ -113,8 +113,8 @@ class Page(html.parser.HTMLParser):
             self.strips.append({"to": values["href"], "name": "", "facts": ""})
         if tag == "details":
             self.cells.append({"id": values.get("id"), "name": "", "facts": "", "lines": []})
-        if tag == "div" and kind == "line":
-            self.cells[-1]["lines"].append({"text": "", "cause": "", "title": "", "number": ""})
+        if tag == "div":
+            self.cells[-1]["lines"].append({"name": "", "text": "", "cause": "", "title": "", "number": ""})
         if tag == "span" and "style" in values:
             self.cells[-1]["lines"][-1].setdefault("ticks", []).append([values["style"], ""])
         if tag == "rect":
@@ -140,8 +140,8 @@ class Page(html.parser.HTMLParser):
             self.title += text
         elif inside == "span" and "ticks" in self.cells[-1]["lines"][-1]:
             self.cells[-1]["lines"][-1]["ticks"][-1][1] += text
-        elif inside in ("bdi", "span", "title", "small"):
-            name = {"bdi": "text", "span": "cause", "title": "title", "small": "number"}[inside]
+        elif inside in ("b", "bdi", "span", "title", "small") and "div" in self.inside:
+            name = {"b": "name", "bdi": "text", "span": "cause", "title": "title", "small": "number"}[inside]
             self.cells[-1]["lines"][-1][name] += text
 
 
@@ -288,7 +288,7 @@ def has_marks(period, whole, slots):
 
 def expected(rows, shown, asked, slots):
     """Returns by cell what the lines of its rows have to be: a title, and a bar, its marks or their number, and its
-    text, or a refusal."""
+    text, or a refusal; and the name of the alert."""
     cells = {}
     for row in rows:
         cell = f"Cell {row['lac']}-{row['ci']}"
@@ -297,12 +297,12 @@ def expected(rows, shown, asked, slots):
         text = shown.get((row["lac"], row["ci"], *name)) if row["shown"] == "yes" else asked.get(name)
         title = title_of(row)
         if row["shown"].startswith("refused"):
-            line = (title, "refusal", start, f"refused: {row['cause']} ({row['shown'][-2:]})")
+            line = (title, "refusal", start, f"refused: {row['cause']} ({row['shown'][-2:]})", row["name"])
         else:
             first = int(row["first_shown"]) + 1 if row["first_shown"] else None
             whole = int(row["completed"])
             line = (title, (start, max(0, end - start)), pace_of(row),
-                    (has_marks(int(row["period"]), whole, slots), whole), first, text, row["shown"] == "yes")
+                    (has_marks(int(row["period"]), whole, slots), whole), first, text, row["shown"] == "yes", row["name"])
         cells.setdefault(cell, []).append(line)
     return cells
 
@@ -337,10 +337,10 @@ def found(page):
         for line in cell["lines"]:
             if "bar" in line:
                 lines.append((line["title"], line["bar"], line["kind"], broadcasts_of(line), first_mark_of(line),
-                              line["text"], not line["number"].endswith(UNSEEN)))
+                              line["text"], not line["number"].endswith(UNSEEN), line["name"]))
             elif "refusal" in line:
                 slot = re.fullmatch(r"M(\d+) 0v10", line["refusal"])[1]
-                lines.append((line["title"], "refusal", int(slot), line["cause"]))
+                lines.append((line["title"], "refusal", int(slot), line["cause"], line["name"]))
         if lines:
             cells.update((name, lines) for name in names_of(cell["name"]))
     return cells

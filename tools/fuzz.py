@@ -138,6 +138,7 @@ STARTS = ("1970-01-01T00:00:00Z", "2026-11-28T20:00:00.5+01:00", "2099-12-31T23:
           "2105-12-31T23:59:59.999999Z")
 EPOCH = datetime.datetime(1970, 1, 1, tzinfo=datetime.timezone.utc)
 REPORT_ROW = re.compile(rb"\d+,\d+,\d+,[0-9a-f]{4},\d+,\d+,\d+,(?:yes|no|refused [0-9a-f]{2})")
+REPORT_ORDER = re.compile(rb'\d+,(?:[^",\n]*|"(?:[^"\n]|"")*"),')
 REPORT_MORE = re.compile(rb"(?:\d*,\d+,\d+,\d+|,,,),[A-Za-z ]*")
 
 
@@ -408,7 +409,7 @@ def slot_time(start, slot):
 
 def has_times(start, row, times):
     """Whether a row of a report has these times behind it, the third that of the first showing."""
-    fields = row.split(b",")
+    fields = row.split(b",") if len(times) == 2 else next(csv.reader([row.decode()]))[2:]
     shown = [slot_time(start, int(fields[8]) + 1) if fields[8] else b""] if len(times) > 2 else []
     return times == [slot_time(start, int(it)) for it in fields[4:6]] + shown
 
@@ -418,8 +419,8 @@ def is_report(run, out):
     names, form = b"lac,ci,id,serial,start,end,completed,shown", REPORT_ROW
     is_full, start = "--full" in run.words, run.value("--start")
     if is_full:
-        names, form = names + b",first_shown,pages,period,share,cause", re.compile(
-            REPORT_ROW.pattern + b"," + REPORT_MORE.pattern)
+        names, form = b"row,name," + names + b",first_shown,pages,period,share,cause", re.compile(
+            REPORT_ORDER.pattern + REPORT_ROW.pattern + b"," + REPORT_MORE.pattern)
     rows = out.split(b"\n")
     heading, *rows, last = rows if len(rows) > 1 else (rows[0], b"lacks a line feed")
     if start is not None:

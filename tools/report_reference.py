@@ -21,6 +21,7 @@ import books
 import gsm
 from random_runs import judged
 
+ORDER = ["row", "name"]
 PLAIN = "lac,ci,id,serial,start,end,completed,shown".split(",")
 MORE = "first_shown,pages,period,share,cause".split(",")
 TIMES, SHOWN_TIME = ["start_time", "end_time"], "first_shown_time"
@@ -97,11 +98,11 @@ def more_of(line, sent, first):
     return ["" if first is None else str(first), str(pages), str(sent.period), str(share), words]
 
 
-def full_lines(lines, cell, orders, blocks, slots):
+def full_lines(lines, cell, orders, first_row, blocks, slots):
     """Yields the full lines of a cell: the book's one session asks the cell row by row. A write always asks it, an
     update or a stop where a version of its alert is live there. A stop that was accepted has no line."""
     lines, shown, live, clock = Lines(lines), shown_in(blocks), {}, 0
-    for order in orders:
+    for row, order in enumerate(orders, first_row):
         alert, sent = order.alert, order.sending
         if order.cells is not None and cell not in order.cells or order.verb != "write" and alert.name not in live:
             continue
@@ -118,7 +119,7 @@ def full_lines(lines, cell, orders, blocks, slots):
         elif cause == NOT_LIVE:
             live.pop(alert.name, None)
         first = shown.get((alert.identifier, serial)) if cause is None else None
-        yield line + more_of(line, sent, first)
+        yield [str(row), alert.name] + line + more_of(line, sent, first)
     if lines.left:
         raise Wrong(f"lines of no order: {lines.left}")
 
@@ -146,8 +147,9 @@ def timed(rows, start):
     is_full = len(names) > len(PLAIN)
     wanted = [names + TIMES + [SHOWN_TIME] * is_full]
     for line in lines:
-        shown = [time_of(start, int(line[8]) + 1) if line[8] else ""] if is_full else []
-        wanted.append(line + [time_of(start, int(it)) for it in line[4:6]] + shown)
+        own = line[len(ORDER) * is_full:]
+        shown = [time_of(start, int(own[8]) + 1) if own[8] else ""] if is_full else []
+        wanted.append(line + [time_of(start, int(it)) for it in own[4:6]] + shown)
     return wanted
 
 
@@ -174,10 +176,10 @@ def differs(program, seed):
         return True
     names, *lines = table(plain.stdout)
     try:
-        wanted = [PLAIN + MORE]
+        wanted = [ORDER + PLAIN + MORE]
         for lac, ci, blocks in gsm.tapes_of(tapes.stdout):
             own = [it for it in lines if it[:2] == [str(lac), str(ci)]]
-            wanted += full_lines(own, (lac, ci), orders, blocks, slots)
+            wanted += full_lines(own, (lac, ci), orders, len(cells) + 1, blocks, slots)
     except Wrong as why:
         wanted = [[str(why)]]
     found = table(full.stdout)
@@ -185,7 +187,7 @@ def differs(program, seed):
     if times != [timed(it, start) for it in ([names, *lines], found)]:
         print(f"report_reference: run {seed}: {options}: {time}: other times {times}")
         return True
-    if names == PLAIN and found == wanted and [it[:len(PLAIN)] for it in found] == [names, *lines]:
+    if names == PLAIN and found == wanted and [it[2:len(PLAIN) + 2] for it in found] == [names, *lines]:
         return False
     print(f"report_reference: run {seed}: {options}: wanted {wanted}, but it was {found}")
     return True

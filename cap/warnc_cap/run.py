@@ -165,7 +165,7 @@ class Runner:
     def reported(self, part):
         """Runs some cells, and returns what became of the rows of each, by code and update number."""
         found = {name: {} for name in part.cells}
-        for row in self.said(["report", "--full"], part.octets):
+        for _, _, *row in self.said(["report", "--full"], part.octets):
             serial, pages = int(row[3], 16), row[9]
             cause = row[7].removeprefix("refused ") if row[7].startswith("refused ") else ""
             # a stop has no pages

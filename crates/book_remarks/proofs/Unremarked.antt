@@ -24,8 +24,9 @@ use Rattle.book_remarks.specs.declared.mark.Mark.TheVariants as marks
 use Rattle.book_remarks.specs.declared.says.CellMark.{CellMark}
 use Rattle.book_remarks.specs.declared.says.Says.{Says}
 use Rattle.book_remarks.specs.declared.says.Says.TheVariants as says
-use Rattle.book_remarks.specs.Answers.{Column, accepted_after, asks, column_of, is_entry_of, is_unseen, mark_by}
-use Rattle.book_remarks.specs.Answers.{mark_of, mark_of_entry, marks_from, may_ask, names, one_if}
+use Rattle.asked_orders.specs.Asked.{asks, is_entry_of, may_ask, names}
+use Rattle.book_remarks.specs.Answers.{Column, accepted_after, column_of, is_unseen, mark_by, mark_of, mark_of_entry}
+use Rattle.book_remarks.specs.Answers.{marks_from, one_if}
 use Rattle.book_remarks.specs.Laws.{IsKept}
 use Rattle.book_remarks.specs.Remarks.{cause_says, cause_says_of, cell_remarks, cells_left_out, is_answered}
 use Rattle.book_remarks.specs.Remarks.{is_in_vain, is_left_out, is_refusal, is_refused, is_unshown, late_says, latest}

@@ -7,7 +7,8 @@ use Rattle.bsc_table.specs.Record.{Record}
 use Rattle.book_check.specs.Checked.{IsChecked}
 use Rattle.book_remarks.specs.declared.mark.Mark.{Mark}
 use Rattle.book_remarks.specs.declared.mark.Mark.TheVariants as marks
-use Rattle.book_remarks.specs.Answers.{column_of, names}
+use Rattle.asked_orders.specs.Asked.{names}
+use Rattle.book_remarks.specs.Answers.{column_of}
 use Rattle.book_remarks.specs.Remarks.{remarks_in}
 use Rattle.book_remarks.specs.Remarked.{IsRemarked}
 use Rattle.book_remarks.specs.RemarksText.{checked_run_text, column_names, line, remark_fields, run_fields}

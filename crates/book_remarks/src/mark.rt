@@ -1,22 +1,20 @@
 //! What became of each order of a book in a cell of its run.
 
-ghost use Rattle.std.specs.Prelude.{◌≡◌, ◌≤◌, ◌==◌, [], is_some, length, slice_index_or, IfOk, IfSome, None, OnOk};
+ghost use Rattle.std.specs.Prelude.{◌≡◌, ◌≤◌, [], is_some, length, slice_index_or, IfOk, IfSome, None, OnOk};
 ghost use Rattle.std.specs.List.{list_any, slice_get};
 ghost use Rattle.std.specs.Option.{option_copied};
-ghost use Rattle.alert_book.specs.Row.{is_write};
 ghost use Rattle.bsc_table.specs.Book.{air_pairs, aired_pair};
 ghost use Rattle.bsc_table.specs.Record.{start_of};
 ghost use Rattle.report.specs.LastPages.{first_airing, page_count_of};
 ghost use Rattle.scheduler.specs.Pages.{airs_page};
-ghost use Rattle.book_remarks.specs.Answers.{accepted_after, asks, cells_named, column_of, is_done, is_entry_of};
-ghost use Rattle.book_remarks.specs.Answers.{is_never_whole, is_ordered, is_unseen, kills_alert, mark_by, mark_of};
-ghost use Rattle.book_remarks.specs.Answers.{mark_of_entry, marks_from, may_ask, names, sends_page, writes_version};
+ghost use Rattle.book_remarks.specs.Answers.{accepted_after, column_of, is_done, is_never_whole, is_unseen, mark_by};
+ghost use Rattle.book_remarks.specs.Answers.{mark_of, mark_of_entry, marks_from, sends_page};
 ghost use Rattle.book_remarks.specs.MarkSteps.{IsFirstOf};
 
-use alert_book::{Action, Alert, Order};
+use alert_book::Order;
+use asked_orders::{asks, is_entry_of, is_write, may_ask, names};
 use bsc_table::{Aired, Answer, CellRecord, Command, Entry};
 use cbsp_wire::Cell;
-use cbsp_wire::cells::contains;
 use report::first_last_pages;
 use std::alloc::{AllocError, Global};
 use std::marker::Model;
@@ -57,115 +55,6 @@ impl Model for CellColumn {
     ghost Value = { Column };
 
     ghost view = { λ c. record { cell = c.cell; marks = c.marks.items } };
-}
-
-/// The cells that an order names.
-fn cells_named(action: &Action) -> &[Cell]
-    ensures { result.now ≡ cells_named action.now }
-{
-    match action {
-        Action::Write(sending) => sending.cells.list.as_slice(),
-        Action::Update { sending, .. } => sending.cells.list.as_slice(),
-        Action::Stop(cells) => cells.list.as_slice(),
-    }
-}
-
-/// Whether an order names a cell.
-fn names(order: &Order, cell: Cell) -> bool
-    ensures { result ≡ names order.now cell }
-{
-    contains(cells_named(&order.action), cell)
-}
-
-/// Whether a command writes this version of an alert.
-fn writes_version(alert: Alert, version: u8, command: &Command) -> bool
-    ensures { result ≡ writes_version alert version command.now }
-{
-    let Alert { id, scope, code } = alert;
-    let number = u32::from(scope) * 16384 + u32::from(code) * 16 + u32::from(version);
-    match command {
-        Command::Write {
-            id: of_id,
-            serial,
-            ..
-        } => *of_id == id && u32::from(serial.number()) == number,
-        Command::Kill { .. } => false,
-        Command::Status { .. } => false,
-    }
-}
-
-/// Whether a command stops some version of an alert.
-fn kills_alert(alert: Alert, command: &Command) -> bool
-    ensures { result ≡ kills_alert alert command.now }
-{
-    let Alert { id, scope, code } = alert;
-    match command {
-        Command::Write { .. } => false,
-        Command::Kill { id: of_id, serial } => {
-            *of_id == id
-                && u32::from(serial.number()) / 16 == u32::from(scope) * 1024 + u32::from(code)
-        }
-        Command::Status { .. } => false,
-    }
-}
-
-/// Whether a command is one that an order has cells carry out.
-fn is_ordered(alert: Alert, action: &Action, command: &Command) -> bool
-    ensures { result ≡ is_ordered alert action.now command.now }
-{
-    match action {
-        Action::Write(_) => writes_version(alert, 0, command),
-        Action::Update { update, .. } => writes_version(alert, *update, command),
-        Action::Stop(_) => kills_alert(alert, command),
-    }
-}
-
-/// Whether the next entry of a log, if there is one, is an order's.
-fn is_entry_of(order: &Order, next: Option<&Entry>) -> bool
-    ensures { result ≡ is_entry_of order.now (option_copied next.entry) }
-{
-    match next {
-        Some(entry) => is_ordered(order.alert, &order.action, &entry.command),
-        None => false,
-    }
-}
-
-/// Whether an order is a `write`.
-pub(crate) fn is_write(order: &Order) -> bool
-    ensures { result ≡ is_write order.now }
-{
-    match &order.action {
-        Action::Write(_) => true,
-        Action::Update { .. } => false,
-        Action::Stop(_) => false,
-    }
-}
-
-/// Whether a number is among these.
-fn has_number(numbers: &[u16], wanted: u16) -> bool
-    ensures { result ≡ list_any (λ number. number == wanted) numbers.now }
-{
-    for number in numbers {
-        if *number == wanted {
-            return true;
-        }
-    }
-    false
-}
-
-/// Whether an order may ask a cell that has accepted the first versions of these alerts.
-fn may_ask(accepted: &[u16], order: &Order) -> bool
-    ensures { result ≡ may_ask accepted.now order.now }
-{
-    is_write(order) || has_number(accepted, order.number)
-}
-
-/// Whether an order asked a cell whose log goes on with this entry. The entry is looked at first, since most orders of
-/// a long book have another one.
-fn asks(order: &Order, cell: Cell, accepted: &[u16], next: Option<&Entry>) -> bool
-    ensures { result ≡ asks order.now cell accepted.now (option_copied next.entry) }
-{
-    is_entry_of(order, next) && names(order, cell) && may_ask(accepted, order)
 }
 
 /// Whether a slot sends this page of the entry at a place of the log.

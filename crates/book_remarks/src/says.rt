@@ -12,8 +12,9 @@ ghost use Rattle.book_remarks.specs.Remarks.{late_says, latest, new_cause_says, 
 ghost use Rattle.book_remarks.specs.Remarks.{blank_says, coding_says, is_dear, same_says, slot_done, text_says};
 ghost use Rattle.book_remarks.specs.Remarks.{is_in_vain, unasked_says, unshown_count, unshown_says};
 
-use crate::mark::{Mark, is_write};
+use crate::mark::Mark;
 use alert_book::{Action, Alert, Order, Sending};
+use asked_orders::is_write;
 use book_texts::{
     cost_of_text, first_forcing, forcing_count, pages_needed, pages_without_forcing,
     place_of_forcing,

@@ -8,31 +8,32 @@ use Rattle.handset.specs.declared.tape.Reading.{Reading}
 use Rattle.handset.specs.Keeping.{messages_shown}
 use Rattle.handset.specs.Tape.{TapeReading, reading_of, readings_of}
 use Rattle.report.specs.Rows.{AreOfOneCells}
+use Rattle.report.specs.Sources.{Orders}
 use Rattle.chart.specs.declared.panel.Panel.{Panel}
 use Rattle.chart.specs.declared.view.View.{View}
 use Rattle.chart.specs.ChartText.{panel_if, panels_of}
 
 -- a panel that was added, and those after it, are those from it on
-pub panel_added : (view : View) (records : List Record) (readings : List Reading) (place : ℕ) (r : Record)
+pub panel_added : (view : View) (orders : Orders) (records : List Record) (readings : List Reading) (place : ℕ) (r : Record)
     (reading : Reading) (panels after whole : List Panel)
     → place < length records
     → place < length readings
     → r ≡ get_or records place r
     → reading ≡ get_or readings place reading
-    → after ≡ panels ++ panel_if view r (messages_shown reading.shown.items)
-    → panels ++ panels_of view (drop place records) (readings_of (drop place readings)) ≡ whole
-    → after ++ panels_of view (drop (place + 1) records) (readings_of (drop (place + 1) readings)) ≡ whole
-panel_added view records readings place r reading panels after whole in_records in_readings r_is reading_is is
+    → after ≡ panels ++ panel_if view r orders (messages_shown reading.shown.items)
+    → panels ++ panels_of view orders (drop place records) (readings_of (drop place readings)) ≡ whole
+    → after ++ panels_of view orders (drop (place + 1) records) (readings_of (drop (place + 1) readings)) ≡ whole
+panel_added view orders records readings place r reading panels after whole in_records in_readings r_is reading_is is
     so_far =
-    let left = panels_of view (drop (place + 1) records) (readings_of (drop (place + 1) readings)) in
+    let left = panels_of view orders (drop (place + 1) records) (readings_of (drop (place + 1) readings)) in
     let front : drop place records ≡ r ∷ drop (place + 1) records =
     drop_more records place r in_records ∙ ap (λ (x : Record). x ∷ drop (place + 1) records) (sym r_is) in
     let read : drop place readings ≡ reading ∷ drop (place + 1) readings =
     drop_more readings place reading in_readings
     ∙ ap (λ (x : Reading). x ∷ drop (place + 1) readings) (sym reading_is) in
     ap (λ (ps : List Panel). ps ++ left) is
-    ∙ append_assoc panels (panel_if view r (messages_shown reading.shown.items)) left
-    ∙ ap₂ (λ (rs : List Record) (xs : List Reading). panels ++ panels_of view rs (readings_of xs)) (sym front)
+    ∙ append_assoc panels (panel_if view r orders (messages_shown reading.shown.items)) left
+    ∙ ap₂ (λ (rs : List Record) (xs : List Reading). panels ++ panels_of view orders rs (readings_of xs)) (sym front)
     (sym read)
     ∙ so_far
 

@@ -4,17 +4,13 @@ use Rattle.std.specs.Prelude.{ℕ, ◌+◌, ◌==◌, ◌&&◌, Bool, true, if�
 use Rattle.std.specs.Prelude.{[], ◌∷◌, ◌++◌, filter}
 use Rattle.std.specs.Fmt.{decimal}
 use Rattle.std.specs.List.{flat_map}
-use Rattle.std.specs.Io.KnownBytes.{Appends}
-use Rattle.device_ends.specs.Moves.{AppendsFront}
-use Rattle.device_ends.specs.Stream.{Writes}
-use Rattle.device_ends.specs.declared.writing.Sink.{Sink}
 use Rattle.cbsp_wire.specs.declared.message.Cell.{Cell}
 use Rattle.bsc_table.specs.Record.{Record, Accepted, accepted_named}
 use Rattle.handset.specs.Reception.{ShownMessage}
-use Rattle.handset.specs.Tape.{TapeReading, readings_of}
-use Rattle.handset.specs.declared.tape.Reading.{Reading}
-use Rattle.report.specs.ReportText.{serial_text}
+use Rattle.handset.specs.Tape.{TapeReading}
+use Rattle.report.specs.ReportText.{order_name, serial_text}
 use Rattle.report.specs.Rows.{cell_rows}
+use Rattle.report.specs.Sources.{Orders, order_of}
 use Rattle.report.specs.declared.row.Row.{Row}
 use Rattle.report.specs.declared.row.Showing.{Showing}
 use Rattle.report.specs.declared.row.Showing.TheVariants as shown_status
@@ -45,6 +41,11 @@ use Rattle.chart.specs.Message.{period_of, text_asked, text_shown}
 -- the name of what a row is of: its identifier, and its serial number in hexadecimal
 unfoldable pub name_text : Row → List ℕ
 name_text row = decimal row.id ++ lines.SPACE.now ++ serial_text row.serial
+
+-- the front of a row's line: the name of the alert that its order is of, and its own
+unfoldable pub line_front : Orders → Row → List ℕ
+line_front orders row =
+    lines.LINE.now ++ escaped (order_name (order_of orders row)) ++ lines.ORDER_END.now ++ name_text row
 
 -- the front of a row's picture, as wide as the slots that are drawn, up to the name in its title and what its
 -- identifier means
@@ -89,11 +90,11 @@ unfoldable pub bar : Stretch → Row → List ℕ
 bar s row =
     bar_front row ++ decimal (bar_from s row) ++ lines.WIDTH.now ++ decimal (bar_width s row) ++ lines.BAR_END.now
 
--- what is said of it: its name, its category, how many broadcasts are whole at the slots that are drawn, where that
+-- what is said of it: its alert's name and its own, its category, how many broadcasts are whole at the slots that are drawn, where that
 -- stands in place of marks, that no phone shows it, where none does, and its text
-unfoldable pub message_name : Language → Row → Option Accepted → List ℕ
-message_name l row found =
-    lines.LINE.now ++ name_text row ++ lines.NAME_END.now ++ category_words l found ++ lines.CATEGORY_END.now
+unfoldable pub message_name : Language → Orders → Row → Option Accepted → List ℕ
+message_name l orders row found =
+    line_front orders row ++ lines.NAME_END.now ++ category_words l found ++ lines.CATEGORY_END.now
 
 abbrev pub number_word : (whole : ℕ) → Word
 number_word whole = if whole == 1 then words.Broadcast else words.Broadcasts
@@ -113,9 +114,10 @@ unseen_text l shown_status.Yes = []
 unseen_text l shown_status.No = not_shown_text l
 unseen_text l (shown_status.Refused number) = []
 
-unfoldable pub message_front : Language → Row → Option Accepted → (number : Option ℕ) → (text : List ℕ) → List ℕ
-message_front l row found number text =
-    message_name l row found ++ number_if l number ++ unseen_text l row.shown ++ lines.TEXT.now ++ escaped text
+unfoldable pub message_front : Language → Orders → Row → Option Accepted → (number : Option ℕ) → (text : List ℕ)
+    → List ℕ
+message_front l orders row found number text =
+    message_name l orders row found ++ number_if l number ++ unseen_text l row.shown ++ lines.TEXT.now ++ escaped text
     ++ lines.TEXT_END.now
 
 -- the end of its line, with the mark where a phone shows it first
@@ -124,15 +126,15 @@ message_end s first = lines.SHOWN_MARK.now ++ first_mark s first ++ lines.LINE_E
 
 -- the line of an accepted message: what is said of it, and its picture, a bar with a mark for each whole broadcast, or
 -- without marks where their number is said
-abbrev pub line_with : Language → Stretch → Row → Option Accepted → (text : List ℕ) → (number : Option ℕ)
+abbrev pub line_with : Language → Stretch → Orders → Row → Option Accepted → (text : List ℕ) → (number : Option ℕ)
     → (marks : List ℕ) → List ℕ
-line_with l s row found text number marks =
-    message_front l row found number text ++ picture_front l s row ++ message_title l row ++ bar s row
+line_with l s orders row found text number marks =
+    message_front l orders row found number text ++ picture_front l s row ++ message_title l row ++ bar s row
     ++ drawn_marks number marks ++ message_end s row.first_shown
 
-abbrev pub message_line : Language → Record → Stretch → Row → Option Accepted → (text : List ℕ) → List ℕ
-message_line l r s row found text =
-    line_with l s row found text (number_instead s r.slots r.air found) (marks_of s r.slots r.air found)
+abbrev pub message_line : Language → Record → Stretch → Orders → Row → Option Accepted → (text : List ℕ) → List ℕ
+message_line l r s orders row found text =
+    line_with l s orders row found text (number_instead s r.slots r.air found) (marks_of s r.slots r.air found)
 
 -- what the title says of a refused order: when
 unfoldable pub refusal_title : Language → Row → List ℕ
@@ -143,27 +145,27 @@ unfoldable pub refusal_picture : Language → Stretch → Row → List ℕ
 refusal_picture l s row =
     picture_front l s row ++ refusal_title l row ++ lines.REFUSAL.now ++ decimal row.start ++ lines.REFUSAL_END.now
 
--- what is said of a refused order: its name, and the cause
-unfoldable pub refusal_front : Language → Row → (number : ℕ) → List ℕ
-refusal_front l row number =
-    lines.LINE.now ++ name_text row ++ lines.CAUSE.now ++ word_in l words.RefusedBecause ++ cause_text l number
+-- what is said of a refused order: its alert's name and its own, and the cause
+unfoldable pub refusal_front : Language → Orders → Row → (number : ℕ) → List ℕ
+refusal_front l orders row number =
+    line_front orders row ++ lines.CAUSE.now ++ word_in l words.RefusedBecause ++ cause_text l number
     ++ lines.CAUSE_END.now
 
 -- the line of a refused order
-abbrev pub refusal_line : Language → Stretch → Row → (number : ℕ) → List ℕ
-refusal_line l s row number = refusal_front l row number ++ refusal_picture l s row
+abbrev pub refusal_line : Language → Stretch → Orders → Row → (number : ℕ) → List ℕ
+refusal_line l s orders row number = refusal_front l orders row number ++ refusal_picture l s row
 
 -- the line of a row. A message that phones show has the text that they show, another one the text that it was to show
-abbrev pub line_by : Language → Record → Stretch → List ShownMessage → Row → Showing → List ℕ
-line_by l r s shown row shown_status.Yes =
-    message_line l r s row (accepted_named row.id row.serial r.log) (text_shown shown row.id row.serial)
-line_by l r s shown row shown_status.No =
-    message_line l r s row (accepted_named row.id row.serial r.log)
+abbrev pub line_by : Language → Record → Stretch → Orders → List ShownMessage → Row → Showing → List ℕ
+line_by l r s orders shown row shown_status.Yes =
+    message_line l r s orders row (accepted_named row.id row.serial r.log) (text_shown shown row.id row.serial)
+line_by l r s orders shown row shown_status.No =
+    message_line l r s orders row (accepted_named row.id row.serial r.log)
     (text_asked r.log (accepted_named row.id row.serial r.log))
-line_by l r s shown row (shown_status.Refused number) = refusal_line l s row number
+line_by l r s orders shown row (shown_status.Refused number) = refusal_line l s orders row number
 
-abbrev pub line_of : Language → Record → Stretch → List ShownMessage → Row → List ℕ
-line_of l r s shown row = line_by l r s shown row row.shown
+abbrev pub line_of : Language → Record → Stretch → Orders → List ShownMessage → Row → List ℕ
+line_of l r s orders shown row = line_by l r s orders shown row row.shown
 
 -- the rows that are drawn
 abbrev pub rows_in : Record → Stretch → List ShownMessage → List Row
@@ -205,44 +207,44 @@ strip_text l r s facts = load_shape l r s ++ strip_facts l facts
 
 -- what its section has after its name: what counts of it, the rows of its report in their order, each a line, then its
 -- loads and the axis
-abbrev pub contents_text : Language → Record → Stretch → List ShownMessage → Facts → List ℕ
-contents_text l r s shown facts =
+abbrev pub contents_text : Language → Record → Stretch → Orders → List ShownMessage → Facts → List ℕ
+contents_text l r s orders shown facts =
     cells.NAME_END.now ++ facts_text l facts ++ cells.FACTS_END.now
-    ++ flat_map (line_of l r s shown) (rows_in r s shown) ++ load_picture l r s ++ axis l s ++ cells.CELL_END.now
+    ++ flat_map (line_of l r s orders shown) (rows_in r s shown) ++ load_picture l r s ++ axis l s ++ cells.CELL_END.now
 
 -- what is drawn of a cell
 abbrev pub facts_in : Record → Stretch → List ShownMessage → Facts
 facts_in r s shown = facts_of (rows_in r s shown) s.from (loads_in r s)
 
-abbrev pub panel_in : Language → Record → Stretch → List ShownMessage → Panel
-panel_in l r s shown = record {
+abbrev pub panel_in : Language → Record → Stretch → Orders → List ShownMessage → Panel
+panel_in l r s orders shown = record {
   cell = r.cell;
   strip = strip_text l r s (facts_in r s shown);
-  contents = contents_text l r s shown (facts_in r s shown);
+  contents = contents_text l r s orders shown (facts_in r s shown);
 }
 
-abbrev pub panel_of : Language → Option Part → Record → List ShownMessage → Panel
-panel_of l part r shown = panel_in l r (stretch_of part r.slots) shown
+abbrev pub panel_of : Language → Option Part → Record → Orders → List ShownMessage → Panel
+panel_of l part r orders shown = panel_in l r (stretch_of part r.slots) orders shown
 
 -- the cells that are drawn: the one that is wanted, or all
 abbrev pub is_wanted : Option Cell → Cell → Bool
 is_wanted None cell = true
 is_wanted (Some wanted) cell = (wanted.lac == cell.lac) && (wanted.ci == cell.ci)
 
-abbrev pub panel_if : View → Record → List ShownMessage → List Panel
-panel_if view r shown =
-    if is_wanted view.cell r.cell then panel_of view.language view.part r shown ∷ [] else []
+abbrev pub panel_if : View → Record → Orders → List ShownMessage → List Panel
+panel_if view r orders shown =
+    if is_wanted view.cell r.cell then panel_of view.language view.part r orders shown ∷ [] else []
 
 -- the panels of cells, each with the reading of its blocks
-abbrev pub panels_of : View → List Record → List TapeReading → List Panel
-panels_of view [] readings = []
-panels_of view (r ∷ records) [] = []
-panels_of view (r ∷ records) (reading ∷ readings) =
-    panel_if view r reading.shown ++ panels_of view records readings
+abbrev pub panels_of : View → Orders → List Record → List TapeReading → List Panel
+panels_of view orders [] readings = []
+panels_of view orders (r ∷ records) [] = []
+panels_of view orders (r ∷ records) (reading ∷ readings) =
+    panel_if view r orders reading.shown ++ panels_of view orders records readings
 
 -- what is drawn of the cells
-abbrev pub sections_of : View → List Record → List TapeReading → List ℕ
-sections_of view records readings = sections_text view.language (panels_of view records readings)
+abbrev pub sections_of : View → Orders → List Record → List TapeReading → List ℕ
+sections_of view orders records readings = sections_text view.language (panels_of view orders records readings)
 
 -- the head of the page, and what its reader is told first
 unfoldable pub head : Language → List ℕ
@@ -272,10 +274,10 @@ part_text l s = if s.is_part then stretch_text l s else []
 unfoldable pub chart_front : Language → (slots : ℕ) → Option Part → List ℕ
 chart_front l slots part = head l ++ run_text l slots ++ part_text l (stretch_of part slots) ++ introduction l
 
--- the chart of records, and of what handsets read of their blocks
-abbrev pub chart_text : (slots : ℕ) → View → List Record → List TapeReading → List ℕ
-chart_text slots view records readings =
-    chart_front view.language slots view.part ++ sections_of view records readings ++ charts.FOOT.now
+-- the chart of records, of the orders that asked their cells, and of what handsets read of their blocks
+abbrev pub chart_text : (slots : ℕ) → View → Orders → List Record → List TapeReading → List ℕ
+chart_text slots view orders records readings =
+    chart_front view.language slots view.part ++ sections_of view orders records readings ++ charts.FOOT.now
 
 -- the sections of a group of a network are folded under its number; there is nothing where no cell of it is drawn
 unfoldable pub group_front : Language → (group : ℕ) → List ℕ
@@ -292,18 +294,7 @@ front_if_first l slots group part = if group == 0 then chart_front l slots part 
 abbrev pub foot_if : (last : Bool) → List ℕ
 foot_if last = if last then charts.FOOT.now else []
 
-abbrev pub chart_part : (slots group : ℕ) → (last : Bool) → View → List Record → List TapeReading → List ℕ
-chart_part slots group last view records readings =
+abbrev pub chart_part : (slots group : ℕ) → (last : Bool) → View → Orders → List Record → List TapeReading → List ℕ
+chart_part slots group last view orders records readings =
     front_if_first view.language slots group view.part
-    ++ folded view.language group (sections_of view records readings) ++ foot_if last
-
--- a writer held so much before a call, and after it that with the chart of records and readings, or with a front of it
-abbrev pub WritesChart : {W : Type 0} → (held : W → Option (List ℕ)) → (slots : ℕ) → View → List Record
-    → List Reading → (old new : Sink W) → Type 0
-WritesChart held slots view records readings old new =
-    Writes held (λ old new. Appends old new (chart_text slots view records (readings_of readings))) old new
-
-abbrev pub WritesFront : {W : Type 0} → (held : W → Option (List ℕ)) → (slots : ℕ) → View → List Record
-    → List Reading → (old new : Sink W) → Type 0
-WritesFront held slots view records readings old new =
-    Writes held (λ old new. AppendsFront old new (chart_text slots view records (readings_of readings))) old new
+    ++ folded view.language group (sections_of view orders records readings) ++ foot_if last

@@ -20,7 +20,7 @@ use crate::view::{Part, Stretch, stretch_of};
 use crate::word::{Language, Word};
 use bsc_table::CellRecord;
 use handset::Reading;
-use report::{ReportFault, Row, rows};
+use report::{BookOrders, ReportFault, Row, rows};
 use std::alloc::{AllocError, Global};
 use std::slice;
 
@@ -88,7 +88,7 @@ fn contents_of(
     ensures { IfOk result (λ contents. rows.now
         ≡ rows_in context.now.run.now context.now.stretch (messages_shown context.now.shown.now)
         → contents ≡ contents_text context.now.language context.now.run.now context.now.stretch
-        (messages_shown context.now.shown.now) facts) }
+        context.now.orders.now (messages_shown context.now.shown.now) facts) }
 {
     let language = context.language;
     let stretch = context.stretch;
@@ -115,11 +115,12 @@ pub(crate) fn panel_of(
     alloc: Global,
     language: Language,
     part: Option<Part>,
+    orders: &BookOrders,
     run: &CellRecord,
     reading: &Reading,
 ) -> Result<Panel, ReportFault>
     ensures panel { IfOk result (λ panel. panel
-        ≡ panel_of language part run.now (messages_shown reading.now.shown.items)) }
+        ≡ panel_of language part run.now orders.now (messages_shown reading.now.shown.items)) }
     ensures cells { IfErr result (λ fault. fault ≡ ReportFault.Cells → run.now.cell ≢ reading.now.cell) }
     ensures faults { IfErr result (λ fault. fault ≢ ReportFault.WriteFailed) }
 {
@@ -140,6 +141,7 @@ pub(crate) fn panel_of(
         alloc,
         language,
         stretch,
+        orders,
         run,
         shown: &reading.shown,
         messages: &messages,

@@ -1,13 +1,12 @@
 //! The page of a chart, and how it is written.
 
-ghost use Rattle.std.specs.Prelude.{◌≡◌, ◌≢◌, ◌↔◌, ◌++◌, ◌∷◌, [], true, length, IfErr, IfOk, IsErrOf, IsTrue, OnOk};
-ghost use Rattle.device_ends.specs.Sink.{sink_failed};
+ghost use Rattle.std.specs.Prelude.{◌≡◌, ◌≢◌, ◌++◌, ◌∷◌, [], length, IfErr, IfOk, IsErrOf, OnOk};
 ghost use Rattle.handset.specs.Keeping.{messages_shown};
 ghost use Rattle.handset.specs.Tape.{readings_of};
 ghost use Rattle.report.specs.Rows.{AreOfOneCells};
 ghost use Rattle.chart.specs.ChartText.{chart_front, chart_part, chart_text, folded, foot_if, front_if_first};
 ghost use Rattle.chart.specs.ChartText.{group_front, head, introduction, is_wanted, part_text, run_text, stretch_text};
-ghost use Rattle.chart.specs.ChartText.{panel_if, panels_of, sections_of, slots_word, WritesChart, WritesFront};
+ghost use Rattle.chart.specs.ChartText.{panel_if, panels_of, sections_of, slots_word};
 
 use crate::cell::panel_of;
 use crate::page::Page;
@@ -18,11 +17,9 @@ use crate::view::{Part, Stretch, View, stretch_of};
 use crate::word::{Language, Word};
 use bsc_table::CellRecord;
 use cbsp_wire::Cell;
-use device_ends::{Failed, Sink, write_all};
 use handset::Reading;
-use report::ReportFault;
+use report::{BookOrders, ReportFault};
 use std::alloc::{AllocError, Global};
-use std::io::Write;
 
 /// The front of the page, up to the code of its language.
 pub const HEAD: &str = "<!DOCTYPE html>\n<html lang=\"";
@@ -54,11 +51,12 @@ nav a{align-items:center;color:inherit;display:grid;gap:.8em;grid-template-colum
 nav a:hover{background:var(--lane)}
 nav a>*{overflow:hidden;text-overflow:ellipsis;white-space:nowrap}
 nav i{color:var(--faint);font-size:.85em;font-style:normal}
-.line{align-items:center;display:grid;gap:.8em;grid-template-columns:minmax(8em,26em) 1fr;margin:.15em 0}
-.line p{display:flex;gap:.3em;margin:0;overflow:hidden;white-space:nowrap}
-.line bdi,.cause{flex:1;min-width:0;overflow:hidden;text-overflow:ellipsis}
-.line:hover p,.line p:active{white-space:normal}
-.line i,.line small{color:var(--faint);font-size:1em}
+div{align-items:center;display:grid;gap:.8em;grid-template-columns:minmax(8em,26em) 1fr;margin:.15em 0}
+div p{display:flex;gap:.3em;margin:0;overflow:hidden;white-space:nowrap}
+div b{max-width:14em;overflow:hidden;text-overflow:ellipsis}
+div bdi,.cause{flex:1;min-width:0;overflow:hidden;text-overflow:ellipsis}
+div:hover p,div p:active{white-space:normal}
+div i,div small{color:var(--faint);font-size:1em}
 details{contain-intrinsic-size:auto 40em;content-visibility:auto}
 svg{background:var(--lane);display:block;height:1.2em;width:100%}
 path{stroke:var(--first);stroke-width:4px;vector-effect:non-scaling-stroke}
@@ -75,24 +73,24 @@ nav .loads{border-top-width:1px;height:1.4em}
 .f5~.whole{stroke:var(--pale)}
 .pace b{display:inline-block;height:.8em;margin:0 .3em 0 .6em;width:1.6em}
 .refusal{stroke:var(--refusal)}
-.line .axis{color:var(--faint);display:block;font-size:.85em;height:3.2em;overflow:visible;position:relative}
+div .axis{color:var(--faint);display:block;font-size:.85em;height:3.2em;overflow:visible;position:relative}
 .axis span{left:var(--at);padding-top:.3em;position:absolute;text-align:center;transform:translateX(calc(-1*var(--at)))}
 .axis span::before{border-left:1px solid;content:"";height:.4em;left:var(--at);position:absolute;top:0}
 @media(max-width:46em){
 body{margin:1em}
 nav a{gap:.1em .5em;grid-template-columns:1fr auto;margin:.2em 0}
 nav .loads{grid-column:1/3;grid-row:2}
-.line{gap:.1em;grid-template-columns:minmax(0,1fr);margin:.5em 0}
-.line p{flex-wrap:wrap;gap:0 .3em}
-.line p.axis{font-size:.75em}
-.line bdi,.cause{flex-basis:100%}
+div{gap:.1em;grid-template-columns:minmax(0,1fr);margin:.5em 0}
+div p{flex-wrap:wrap;gap:0 .3em}
+div p.axis{font-size:.75em}
+div bdi,.cause{flex-basis:100%}
 .cause{white-space:normal}
 }
 @media print{
 :root{--lane:#fff}
 svg{border:1px solid var(--faint);print-color-adjust:exact;-webkit-print-color-adjust:exact}
-.line{break-inside:avoid}
-.line p{white-space:normal}
+div{break-inside:avoid}
+div p{white-space:normal}
 }
 @media(prefers-contrast:more){:root{--faint:var(--text)}svg{outline:1px solid var(--text)}}
 </style>
@@ -136,16 +134,17 @@ fn add_if_wanted(
     alloc: Global,
     panels: &mut Vec<Panel>,
     view: View,
+    orders: &BookOrders,
     run: &CellRecord,
     reading: &Reading,
 ) -> Result<(), ReportFault>
     ensures panel { OnOk result (panels.new.items
-        ≡ panels.old.items ++ panel_if view run.now (messages_shown reading.now.shown.items)) }
+        ≡ panels.old.items ++ panel_if view run.now orders.now (messages_shown reading.now.shown.items)) }
     ensures cells { IfErr result (λ fault. fault ≡ ReportFault.Cells → run.now.cell ≢ reading.now.cell) }
     ensures faults { IfErr result (λ fault. fault ≢ ReportFault.WriteFailed) }
 {
     if is_wanted(view.cell, run.cell()) {
-        let panel = match panel_of(alloc, view.language, view.part, run, reading) {
+        let panel = match panel_of(alloc, view.language, view.part, orders, run, reading) {
             Ok(panel) => panel,
             Err(fault) => return Err(fault),
         };
@@ -166,18 +165,19 @@ fn add(panels: &mut Vec<Panel>, panel: Panel) -> Result<(), AllocError>
 fn panels_of(
     alloc: Global,
     view: View,
+    orders: &BookOrders,
     records: &[CellRecord],
     readings: &[Reading],
 ) -> Result<Vec<Panel>, ReportFault>
     requires { length records.now ≡ length readings.now }
     ensures panels { IfOk result (λ panels. panels.items
-        ≡ panels_of view records.now (readings_of readings.now)) }
+        ≡ panels_of view orders.now records.now (readings_of readings.now)) }
     ensures cells { IsErrOf result ReportFault.Cells → ¬ AreOfOneCells records.now (readings_of readings.now) }
     ensures faults { IfErr result (λ fault. fault ≢ ReportFault.WriteFailed) }
 {
     let mut panels = Vec::new(alloc);
     for (place, record) in records.iter().enumerate() {
-        add_if_wanted(alloc, &mut panels, view, record, &readings[place])?;
+        add_if_wanted(alloc, &mut panels, view, orders, record, &readings[place])?;
     }
     Ok(panels)
 }
@@ -187,16 +187,17 @@ fn push_sections(
     alloc: Global,
     page: &mut Page,
     view: View,
+    orders: &BookOrders,
     records: &[CellRecord],
     readings: &[Reading],
 ) -> Result<(), ReportFault>
     requires { length records.now ≡ length readings.now }
     ensures sections { OnOk result (page.new
-        ≡ page.old ++ sections_of view records.now (readings_of readings.now)) }
+        ≡ page.old ++ sections_of view orders.now records.now (readings_of readings.now)) }
     ensures cells { IsErrOf result ReportFault.Cells → ¬ AreOfOneCells records.now (readings_of readings.now) }
     ensures faults { IfErr result (λ fault. fault ≢ ReportFault.WriteFailed) }
 {
-    let panels = panels_of(alloc, view, records, readings)?;
+    let panels = panels_of(alloc, view, orders, records, readings)?;
     push_all(alloc, page, view.language, &panels)?;
     Ok(())
 }
@@ -286,10 +287,11 @@ fn page_of(
     alloc: Global,
     slots: u16,
     view: View,
+    orders: &BookOrders,
     records: &[CellRecord],
     readings: &[Reading],
 ) -> Result<Page, ReportFault>
-    ensures page { IfOk result (λ page. page ≡ chart_text slots view records.now (readings_of readings.now)) }
+    ensures page { IfOk result (λ page. page ≡ chart_text slots view orders.now records.now (readings_of readings.now)) }
     ensures cells { IsErrOf result ReportFault.Cells → ¬ AreOfOneCells records.now (readings_of readings.now) }
     ensures faults { IfErr result (λ fault. fault ≢ ReportFault.WriteFailed) }
 {
@@ -298,12 +300,15 @@ fn page_of(
     }
     let mut page = Page::new(alloc);
     push_front(&mut page, view.language, slots, view.part)?;
-    push_sections(alloc, &mut page, view, records, readings)?;
+    push_sections(alloc, &mut page, view, orders, records, readings)?;
     page.markup(FOOT)?;
     Ok(page)
 }
 
-/// The chart of a run of `slots` slots, as [`write_chart`] writes it.
+/// The chart of a run of `slots` slots: a page in HTML that stands alone, with a section for each cell, or for the
+/// wanted one alone: by its record and what a handset read of its blocks a line for each row of its report, in order,
+/// with the name that `orders` have of it, and the loads that it had reserved at each slot. Of a part of the run those
+/// rows have a line that touch it, bars, marks and loads are cut to it.
 ///
 /// # Errors
 ///
@@ -313,15 +318,16 @@ pub fn chart_octets(
     alloc: Global,
     slots: u16,
     view: View,
+    orders: &BookOrders,
     records: &[CellRecord],
     readings: &[Reading],
 ) -> Result<Vec<u8>, ReportFault>
     ensures page { IfOk result (λ octets. octets.items
-        ≡ chart_text slots view records.now (readings_of readings.now)) }
+        ≡ chart_text slots view orders.now records.now (readings_of readings.now)) }
     ensures cells { IsErrOf result ReportFault.Cells → ¬ AreOfOneCells records.now (readings_of readings.now) }
     ensures faults { IfErr result (λ fault. fault ≢ ReportFault.WriteFailed) }
 {
-    let page = page_of(alloc, slots, view, records, readings)?;
+    let page = page_of(alloc, slots, view, orders, records, readings)?;
     Ok(page.into_octets())
 }
 
@@ -389,11 +395,12 @@ pub fn part_octets(
     group: u16,
     is_last: bool,
     view: View,
+    orders: &BookOrders,
     records: &[CellRecord],
     readings: &[Reading],
 ) -> Result<Vec<u8>, ReportFault>
     ensures page { IfOk result (λ octets. octets.items
-        ≡ chart_part slots group is_last view records.now (readings_of readings.now)) }
+        ≡ chart_part slots group is_last view orders.now records.now (readings_of readings.now)) }
     ensures cells { IsErrOf result ReportFault.Cells → ¬ AreOfOneCells records.now (readings_of readings.now) }
     ensures faults { IfErr result (λ fault. fault ≢ ReportFault.WriteFailed) }
 {
@@ -401,51 +408,10 @@ pub fn part_octets(
         return Err(ReportFault::Cells);
     }
     let mut sections = Page::new(alloc);
-    push_sections(alloc, &mut sections, view, records, readings)?;
+    push_sections(alloc, &mut sections, view, orders, records, readings)?;
     let mut page = Page::new(alloc);
     push_front_if_first(&mut page, view.language, slots, group, view.part)?;
     push_folded(&mut page, view.language, group, &sections)?;
     push_foot_if(&mut page, is_last)?;
     Ok(page.into_octets())
-}
-
-/// Writes the chart of a run of `slots` slots: a page in HTML that stands alone, with a section for each cell, or for
-/// the wanted one alone: by its record and what a handset read of its blocks a line for each row of its report, in
-/// order, and the loads that it had reserved at each slot. Of a part of the run those rows have a line that touch it,
-/// bars, marks and loads are cut to it. Nothing is written before all of it is made.
-///
-/// # Errors
-///
-/// Returns [`ReportFault::Cells`] only if the readings aren't of the same cells as the records in the same order,
-/// [`ReportFault::WriteFailed`] exactly if the sink has failed, now or earlier, after which a front of the page may be
-/// out, and [`ReportFault::Refused`] if out of memory; after the others nothing is.
-pub fn write_chart<W: Write>(
-    alloc: Global,
-    slots: u16,
-    view: View,
-    records: &[CellRecord],
-    readings: &[Reading],
-    sink: &mut Sink<W>,
-) -> Result<(), ReportFault>
-    ensures ok { OnOk result (WritesChart W.contents slots view records.now readings.now sink.old sink.new) }
-    ensures front { IsErrOf result ReportFault.WriteFailed
-        → WritesFront W.contents slots view records.now readings.now sink.old sink.new }
-    ensures cells { IsErrOf result ReportFault.Cells → ¬ AreOfOneCells records.now (readings_of readings.now) }
-    ensures unwritten { IfErr result (λ fault. fault ≢ ReportFault.WriteFailed → sink.new ≡ sink.old) }
-    ensures failed { IsErrOf result ReportFault.WriteFailed ↔ IsTrue (sink_failed sink.new) }
-
-    // A sink that had failed before is as it was.
-    ensures failed_stays { sink_failed sink.old ≡ true → sink.new ≡ sink.old }
-{
-    if sink.failed() {
-        return Err(ReportFault::WriteFailed);
-    }
-    let page = match page_of(alloc, slots, view, records, readings) {
-        Ok(page) => page,
-        Err(fault) => return Err(fault),
-    };
-    match write_all(sink, page.octets()) {
-        Ok(()) => Ok(()),
-        Err(Failed) => Err(ReportFault::WriteFailed),
-    }
 }

@@ -1,7 +1,7 @@
 //! The chart of a run, for people: one page in HTML, in which each message of a cell is a bar over the slots, each
 //! refused order a mark, and the loads that a cell has reserved a line.
 //!
-//! [`write_chart`] writes it, [`chart_octets`] makes it, and [`part_octets`] makes the part of a network's group.
+//! [`chart_octets`] makes it, and [`part_octets`] makes the part of a network's group.
 //! [`fullest_of`] says how full a cell gets, for other tables.
 //! `specs/ChartText.antt` says which octets: of each cell the lines are those of the rows of its report, in order, and
 //! every text of a message goes through `specs/Escape.antt`. Cells that look the same have one section
@@ -28,7 +28,7 @@ pub mod time;
 pub mod view;
 pub mod word;
 
-pub use chart::{chart_octets, part_octets, write_chart};
+pub use chart::{chart_octets, part_octets};
 pub use fullest::{Fullest, fullest_of};
 pub use laws::chart_laws;
 pub use view::{Part, View};

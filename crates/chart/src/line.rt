@@ -5,9 +5,11 @@ ghost use Rattle.std.specs.List.{flat_map};
 ghost use Rattle.bsc_table.specs.Record.{accepted_named};
 ghost use Rattle.chart.specs.Message.{text_asked, text_shown};
 ghost use Rattle.chart.specs.Kept.{accepted_kept};
-ghost use Rattle.std.specs.Option.{option_map};
+ghost use Rattle.std.specs.Option.{option_copied, option_map};
 ghost use Rattle.handset.specs.Keeping.{messages_shown};
-ghost use Rattle.chart.specs.ChartText.{bar, bar_front, first_text, line_of, message_end, message_front, message_line};
+ghost use Rattle.report.specs.ReportText.{order_name};
+ghost use Rattle.chart.specs.ChartText.{bar, bar_front, first_text, line_front, line_of, message_end, message_front};
+ghost use Rattle.chart.specs.ChartText.{message_line};
 ghost use Rattle.chart.specs.ChartText.{message_name, message_title, name_text, not_shown_text, number_if, number_text};
 ghost use Rattle.chart.specs.ChartText.{number_word};
 ghost use Rattle.chart.specs.ChartText.{picture_front, picture_size, refusal_front, refusal_line};
@@ -27,17 +29,20 @@ use crate::view::Stretch;
 use crate::word::{Language, Word};
 use bsc_table::CellRecord;
 use handset::Shown;
-use report::{Row, Showing};
+use report::{BookOrders, NamedOrder, Row, Showing};
 use std::alloc::{AllocError, Global};
 
 /// The front of a line.
-pub const LINE: &str = "<div class=\"line\"><p><b>";
+pub const LINE: &str = "<div><p><b>";
+
+/// What comes after the name of its alert.
+pub const ORDER_END: &str = "</b> ";
 
 /// Between two numbers.
 pub const SPACE: &str = " ";
 
 /// What comes after the name of a message.
-pub const NAME_END: &str = "</b> <i>";
+pub const NAME_END: &str = " <i>";
 
 /// What comes after its category.
 pub const CATEGORY_END: &str = "</i> ";
@@ -55,7 +60,7 @@ pub const TEXT: &str = "<bdi>";
 pub const TEXT_END: &str = "</bdi></p>\n";
 
 /// What comes after the name of a refused order.
-pub const CAUSE: &str = "</b> <span class=\"cause\">";
+pub const CAUSE: &str = " <span class=\"cause\">";
 
 /// What comes after its cause.
 pub const CAUSE_END: &str = "</span></p>\n";
@@ -101,6 +106,27 @@ fn push_name(page: &mut Page, row: &Row) -> Result<(), AllocError>
     page.number(u64::from(row.id))?;
     page.markup(SPACE)?;
     page.digits(row.serial.number().to_be_bytes().as_slice())
+}
+
+/// The name of an order's alert, if the order is known.
+fn order_name(order: Option<&NamedOrder>) -> &str
+    ensures { result.now ≡ order_name (option_copied order.entry) }
+{
+    match order {
+        Some(order) => order.name.as_str(),
+        None => "",
+    }
+}
+
+/// Appends the front of a row's line: the name of the alert that its order is of, and its own.
+#[tactic(auto, unfolding(crate::specs::ChartText::line_front))]
+fn push_line_front(page: &mut Page, orders: &BookOrders, row: &Row) -> Result<(), AllocError>
+    ensures { OnOk result (page.new ≡ page.old ++ line_front orders.now row.now) }
+{
+    page.markup(LINE)?;
+    page.text(order_name(orders.of_row(row)))?;
+    page.markup(ORDER_END)?;
+    push_name(page, row)
 }
 
 /// Appends the size of a row's picture.
@@ -215,19 +241,19 @@ fn push_bar(page: &mut Page, stretch: Stretch, row: &Row) -> Result<(), AllocErr
     page.markup(BAR_END)
 }
 
-/// Appends the name of an accepted message and its category.
+/// Appends the names of an accepted message and its category.
 #[tactic(auto, unfolding(crate::specs::ChartText::message_name))]
 fn push_message_name(
     page: &mut Page,
     language: Language,
+    orders: &BookOrders,
     row: &Row,
     found: Option<KeptMessage>,
 ) -> Result<(), AllocError>
     ensures { OnOk result (page.new
-        ≡ page.old ++ message_name language row.now (option_map accepted_kept found)) }
+        ≡ page.old ++ message_name language orders.now row.now (option_map accepted_kept found)) }
 {
-    page.markup(LINE)?;
-    push_name(page, row)?;
+    push_line_front(page, orders, row)?;
     page.markup(NAME_END)?;
     page.markup(category_words(language, found))?;
     page.markup(CATEGORY_END)
@@ -294,15 +320,16 @@ fn push_unseen(page: &mut Page, language: Language, shown: Showing) -> Result<()
 fn push_message_front(
     page: &mut Page,
     language: Language,
+    orders: &BookOrders,
     row: &Row,
     found: Option<KeptMessage>,
     number: Option<usize>,
     text: &str,
 ) -> Result<(), AllocError>
     ensures { OnOk result (page.new ≡ page.old
-        ++ message_front language row.now (option_map accepted_kept found) number text.now) }
+        ++ message_front language orders.now row.now (option_map accepted_kept found) number text.now) }
 {
-    push_message_name(page, language, row, found)?;
+    push_message_name(page, language, orders, row, found)?;
     push_number_if(page, language, number)?;
     push_unseen(page, language, row.shown)?;
     page.markup(TEXT)?;
@@ -325,13 +352,13 @@ fn push_message_end(page: &mut Page, stretch: Stretch, first: Option<u16>) -> Re
 fn push_refusal_front(
     page: &mut Page,
     language: Language,
+    orders: &BookOrders,
     row: &Row,
     cause: u8,
 ) -> Result<(), AllocError>
-    ensures { OnOk result (page.new ≡ page.old ++ refusal_front language row.now cause) }
+    ensures { OnOk result (page.new ≡ page.old ++ refusal_front language orders.now row.now cause) }
 {
-    page.markup(LINE)?;
-    push_name(page, row)?;
+    push_line_front(page, orders, row)?;
     page.markup(CAUSE)?;
     page.word(language, Word::RefusedBecause)?;
     push_cause(page, language, cause)?;
@@ -364,13 +391,14 @@ fn push_refusal_picture(
     page.markup(REFUSAL_END)
 }
 
-/// What the lines of a cell have in common: the language, the slots that are drawn, its record, what a handset
-/// shows of its blocks, and the messages that its log accepted.
+/// What the lines of a cell have in common: the language, the slots that are drawn, the orders of the book, the cell's
+/// record, what a handset shows of its blocks, and the messages that its log accepted.
 #[derive(Clone, Copy)]
 pub(crate) struct CellContext<'a> {
     pub(crate) alloc: Global,
     pub(crate) language: Language,
     pub(crate) stretch: Stretch,
+    pub(crate) orders: &'a BookOrders,
     pub(crate) run: &'a CellRecord,
     pub(crate) shown: &'a [Shown],
     pub(crate) messages: &'a [KeptMessage],
@@ -393,7 +421,7 @@ impl<'a> CellContext<'a> {
     fn push_seen(&self, page: &mut Page, row: &Row) -> Result<(), AllocError>
         requires { IsContext self.now }
         ensures { OnOk result (page.new ≡ page.old
-            ++ message_line self.now.language self.now.run.now self.now.stretch row.now
+            ++ message_line self.now.language self.now.run.now self.now.stretch self.now.orders.now row.now
             (accepted_named row.now.id row.now.serial self.now.run.now.log)
             (text_shown (messages_shown self.now.shown.now) row.now.id row.now.serial)) }
     {
@@ -405,7 +433,7 @@ impl<'a> CellContext<'a> {
     fn push_unseen(&self, page: &mut Page, row: &Row) -> Result<(), AllocError>
         requires { IsContext self.now }
         ensures { OnOk result (page.new ≡ page.old
-            ++ message_line self.now.language self.now.run.now self.now.stretch row.now
+            ++ message_line self.now.language self.now.run.now self.now.stretch self.now.orders.now row.now
             (accepted_named row.now.id row.now.serial self.now.run.now.log)
             (text_asked self.now.run.now.log
             (accepted_named row.now.id row.now.serial self.now.run.now.log))) }
@@ -418,12 +446,12 @@ impl<'a> CellContext<'a> {
     fn push_message(&self, page: &mut Page, row: &Row, text: &str) -> Result<(), AllocError>
         requires { IsContext self.now }
         ensures { OnOk result (page.new ≡ page.old
-            ++ message_line self.now.language self.now.run.now self.now.stretch row.now
+            ++ message_line self.now.language self.now.run.now self.now.stretch self.now.orders.now row.now
             (accepted_named row.now.id row.now.serial self.now.run.now.log) text.now) }
     {
         let found = self.named(row);
         let number = number_instead(self.stretch, self.run.air(), found);
-        push_message_front(page, self.language, row, found, number, text)?;
+        push_message_front(page, self.language, self.orders, row, found, number, text)?;
         push_picture_front(page, self.language, self.stretch, row)?;
         push_message_title(page, self.language, row)?;
         push_bar(page, self.stretch, row)?;
@@ -434,9 +462,9 @@ impl<'a> CellContext<'a> {
     /// Appends the line of a refused order.
     fn push_refusal(&self, page: &mut Page, row: &Row, cause: u8) -> Result<(), AllocError>
         ensures { OnOk result (page.new ≡ page.old
-            ++ refusal_line self.now.language self.now.stretch row.now cause) }
+            ++ refusal_line self.now.language self.now.stretch self.now.orders.now row.now cause) }
     {
-        push_refusal_front(page, self.language, row, cause)?;
+        push_refusal_front(page, self.language, self.orders, row, cause)?;
         push_refusal_picture(page, self.language, self.stretch, row)
     }
 
@@ -444,8 +472,8 @@ impl<'a> CellContext<'a> {
     fn push_line(&self, page: &mut Page, row: &Row) -> Result<(), AllocError>
         requires { IsContext self.now }
         ensures { OnOk result (page.new ≡ page.old
-            ++ line_of self.now.language self.now.run.now self.now.stretch (messages_shown self.now.shown.now)
-            row.now) }
+            ++ line_of self.now.language self.now.run.now self.now.stretch self.now.orders.now
+            (messages_shown self.now.shown.now) row.now) }
     {
         match row.shown {
             Showing::Yes => self.push_seen(page, row),
@@ -458,7 +486,7 @@ impl<'a> CellContext<'a> {
     pub(crate) fn push_lines(&self, page: &mut Page, rows: &[Row]) -> Result<(), AllocError>
         requires { IsContext self.now }
         ensures { OnOk result (page.new ≡ page.old
-            ++ flat_map (line_of self.now.language self.now.run.now self.now.stretch
+            ++ flat_map (line_of self.now.language self.now.run.now self.now.stretch self.now.orders.now
             (messages_shown self.now.shown.now)) rows.now) }
     {
         for row in rows {

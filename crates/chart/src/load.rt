@@ -31,7 +31,7 @@ pub const LOAD_HEIGHT: u64 = 1008;
 pub const LOAD_STEP: u64 = SCALE / LOAD_HEIGHT;
 
 /// The front of the line of the loads, up to its name.
-pub const LOAD: &str = "<div class=\"line\"><p>";
+pub const LOAD: &str = "<div><p>";
 
 /// What comes after its name, up to the first slot of the picture.
 pub const LOAD_NAMED: &str = "</p>\n<svg class=\"loads\" viewBox=\"";

@@ -43,7 +43,7 @@ pub const AT: &str = "<br>";
 pub const TICK_END: &str = "</span>\n";
 
 /// The front of the axis, up to its name.
-pub const AXIS: &str = "<div class=\"line\"><p>";
+pub const AXIS: &str = "<div><p>";
 
 /// What comes after its name.
 pub const AXIS_NAMED: &str = "</p><p class=\"axis\">\n";

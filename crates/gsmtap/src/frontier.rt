@@ -83,7 +83,7 @@ fn take_found<T: TakesPackets>(taker: &mut T, before: u64, found: &Found) -> Res
 /// # Errors
 ///
 /// Returns the fault of the first packet or block that has one, and out of memory.
-pub(crate) fn take_all<T: TakesPackets + Drop>(
+pub fn take_all<T: TakesPackets + Drop>(
     reader: Reader,
     octets: &[u8],
     taker: T,

@@ -52,7 +52,7 @@ pub fn sent_in(link: Link, from: Sender, octets: &[u8]) -> Option<Sent>
 
 /// The IPv4 packet in a packet.
 #[tactic(auto, unfolding(crate::specs::Tap::internet_of))]
-fn internet_of(link: Link, octets: &[u8]) -> Option<&[u8]>
+pub fn internet_of(link: Link, octets: &[u8]) -> Option<&[u8]>
     ensures { option_copied result ≡ internet_of link octets.now }
 {
     match link {

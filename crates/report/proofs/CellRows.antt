@@ -92,7 +92,7 @@ started : Laws → (r : Record) (shown : List ShownMessage) → IsLegal r → r.
     ≡ map (stopped_after later) (added_by (accepted_in before) (length before) slot (Some start)
     (commands.Write id serial replaces category dcs period broadcasts contents)) →
     map (message_row r shown) (accepted_at (length before) r.log) ++ []
-    ≡ option_to_list (started_row r.cell r.slots shown (stop_in later (id, serial))
+    ≡ option_to_list (started_row r.cell (length before) r.slots shown (stop_in later (id, serial))
     (times_aired (length before) (length contents) r.air (length r.air))
     (first_airing (length before) (length contents) r.air 0)
     (commands.Write id serial replaces category dcs period broadcasts contents) start)
@@ -122,8 +122,8 @@ by_parts : Laws → (r : Record) (shown : List ShownMessage) → IsLegal r → r
     (before later : List Entry) (slot : ℕ) (command : Command) (answer : Answer) →
     accepted_at (length before) r.log ≡ map (stopped_after later)
     (added_by (accepted_in before) (length before) slot (start_of answer) command) →
-    map (message_row r shown) (accepted_at (length before) r.log) ++ refusal_rows r.cell slot answer command
-    ≡ option_to_list (row_by r.cell r.slots shown (stop_of_command later command)
+    map (message_row r shown) (accepted_at (length before) r.log) ++ refusal_rows r.cell (length before) slot answer command
+    ≡ option_to_list (row_by r.cell (length before) r.slots shown (stop_of_command later command)
     (times_aired (length before) (page_count_of command) r.air (length r.air))
     (first_airing (length before) (page_count_of command) r.air 0) slot command answer)
 by_parts laws r shown legal ended before later slot
@@ -222,12 +222,12 @@ entry-is laws r shown stops counts firsts legal ended noted before e later is =
     let stop_is : Option ℕ = get_or stops (length before) None in
     by_parts laws r shown legal ended before later e.slot e.command e.answer
     (ap (accepted_at (length before)) is ∙ message-at laws.written before e later)
-    ∙ ap (λ (n : Option ℕ). option_to_list (row_by r.cell r.slots shown n
+    ∙ ap (λ (n : Option ℕ). option_to_list (row_by r.cell (length before) r.slots shown n
     (times_aired (length before) (page_count_of e.command) r.air (length r.air))
     (first_airing (length before) (page_count_of e.command) r.air 0) e.slot e.command e.answer)) (sym stop)
-    ∙ ap (λ (n : ℕ). option_to_list (row_by r.cell r.slots shown stop_is n
+    ∙ ap (λ (n : ℕ). option_to_list (row_by r.cell (length before) r.slots shown stop_is n
     (first_airing (length before) (page_count_of e.command) r.air 0) e.slot e.command e.answer)) (sym count)
-    ∙ ap (λ (n : Option ℕ). option_to_list (row_by r.cell r.slots shown stop_is (slice_index counts (length before)) n
+    ∙ ap (λ (n : Option ℕ). option_to_list (row_by r.cell (length before) r.slots shown stop_is (slice_index counts (length before)) n
     e.slot e.command e.answer)) (sym first)
     ∙ ap (row_at r.cell r.slots shown stops counts firsts (length before)) (sym here)
 

@@ -1,4 +1,5 @@
 pub mod Rows
+pub mod Sources
 pub mod Cause
 pub mod ReportText
 pub mod LastPages

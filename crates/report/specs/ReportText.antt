@@ -5,6 +5,7 @@ use Rattle.std.specs.List.{flat_map}
 use Rattle.csv.specs.Writing.{default_writer, row_text}
 use Rattle.hex.specs.Hex.{encode_lower}
 use Rattle.report.specs.Cause.{cause_words}
+use Rattle.report.specs.Sources.{Named, Orders, order_of}
 use Rattle.report.specs.declared.row.Columns.{Columns}
 use Rattle.report.specs.declared.row.Columns.TheVariants as columns
 use Rattle.report.specs.declared.row.Demand.{Demand}
@@ -83,15 +84,25 @@ words_of_showing shown_status.Yes = []
 words_of_showing shown_status.No = []
 words_of_showing (shown_status.Refused cause) = cause_words cause
 
--- the names of all columns, and the fields of a row: the first eight are those of a plain report
+-- the row of the book that gave a row's order, and the name of its alert; nothing where the order isn't known
+abbrev pub order_row : Option Named → List ℕ
+order_row None = []
+order_row (Some named) = decimal named.row
+
+abbrev pub order_name : Option Named → List ℕ
+order_name None = []
+order_name (Some named) = named.name
+
+-- the names of all columns, and the fields of a row: the order's are the first two, and after them come the eight of a
+-- plain report
 abbrev pub full_names : List (List ℕ)
 full_names =
-    codes "lac" ∷ codes "ci" ∷ codes "id" ∷ codes "serial" ∷ codes "start" ∷ codes "end" ∷ codes "completed"
+    codes "row" ∷ codes "name" ∷ codes "lac" ∷ codes "ci" ∷ codes "id" ∷ codes "serial" ∷ codes "start" ∷ codes "end" ∷ codes "completed"
     ∷ codes "shown" ∷ codes "first_shown" ∷ codes "pages" ∷ codes "period" ∷ codes "share" ∷ codes "cause" ∷ []
 
-abbrev pub full_fields : Row → List (List ℕ)
-full_fields r =
-    decimal r.lac ∷ decimal r.ci ∷ decimal r.id ∷ serial_text r.serial ∷ decimal r.start ∷ decimal r.end
+abbrev pub full_fields : Orders → Row → List (List ℕ)
+full_fields orders r =
+    order_row (order_of orders r) ∷ order_name (order_of orders r) ∷ decimal r.lac ∷ decimal r.ci ∷ decimal r.id ∷ serial_text r.serial ∷ decimal r.start ∷ decimal r.end
     ∷ decimal r.completed ∷ showing_text r.shown ∷ number_or_none r.first_shown
     ∷ number_or_none (demand_pages r.demand) ∷ number_or_none (demand_period r.demand)
     ∷ number_or_none (demand_share r.demand) ∷ words_of_showing r.shown ∷ []
@@ -99,16 +110,16 @@ full_fields r =
 abbrev pub full_header_line : List ℕ
 full_header_line = line full_names
 
-abbrev pub full_line : Row → List ℕ
-full_line r = line (full_fields r)
+abbrev pub full_line : Orders → Row → List ℕ
+full_line orders r = line (full_fields orders r)
 
 -- the text of a part of a full report, headed or not
 abbrev pub full_heading : Bool → List ℕ
 full_heading true = full_header_line
 full_heading false = []
 
-abbrev pub full_part_text : (headed : Bool) → List Row → List ℕ
-full_part_text headed rows = full_heading headed ++ flat_map full_line rows
+abbrev pub full_part_text : (headed : Bool) → Orders → List Row → List ℕ
+full_part_text headed orders rows = full_heading headed ++ flat_map (full_line orders) rows
 
 -- where slot 0 has a time on the clock, the columns behind all others have the times at which the slots of the start
 -- and the end begin. A phone shows a message after the last block of the slot of `first_shown`, which is when the next
@@ -131,33 +142,34 @@ abbrev pub untimed_names : Columns → List (List ℕ)
 untimed_names columns.Plain = plain_names
 untimed_names columns.Full = full_names
 
-abbrev pub untimed_fields : Columns → Row → List (List ℕ)
-untimed_fields columns.Plain r = plain_fields r
-untimed_fields columns.Full r = full_fields r
+abbrev pub untimed_fields : Columns → Orders → Row → List (List ℕ)
+untimed_fields columns.Plain orders r = plain_fields r
+untimed_fields columns.Full orders r = full_fields orders r
 
 abbrev pub timed_header_line : Columns → List ℕ
 timed_header_line wanted = line (untimed_names wanted ++ time_names wanted)
 
-abbrev pub timed_line : Columns → Start → Row → List ℕ
-timed_line wanted start r = line (untimed_fields wanted r ++ time_fields wanted start r)
+abbrev pub timed_line : Columns → Start → Orders → Row → List ℕ
+timed_line wanted start orders r = line (untimed_fields wanted orders r ++ time_fields wanted start r)
 
 -- the text of a part of a report with times, headed or not
 abbrev pub timed_heading : Columns → Bool → List ℕ
 timed_heading wanted true = timed_header_line wanted
 timed_heading wanted false = []
 
-abbrev pub timed_part_text : Columns → Start → (headed : Bool) → List Row → List ℕ
-timed_part_text wanted start headed rows = timed_heading wanted headed ++ flat_map (timed_line wanted start) rows
+abbrev pub timed_part_text : Columns → Start → (headed : Bool) → Orders → List Row → List ℕ
+timed_part_text wanted start headed orders rows =
+    timed_heading wanted headed ++ flat_map (timed_line wanted start orders) rows
 
 -- the text of a part of a report without times
-abbrev pub untimed_part_text : Columns → (headed : Bool) → List Row → List ℕ
-untimed_part_text columns.Plain headed rows = part_text headed rows
-untimed_part_text columns.Full headed rows = full_part_text headed rows
+abbrev pub untimed_part_text : Columns → (headed : Bool) → Orders → List Row → List ℕ
+untimed_part_text columns.Plain headed orders rows = part_text headed rows
+untimed_part_text columns.Full headed orders rows = full_part_text headed orders rows
 
--- the text of a part that is laid out so
-abbrev pub text_by : Columns → Option Start → (headed : Bool) → List Row → List ℕ
-text_by wanted None headed rows = untimed_part_text wanted headed rows
-text_by wanted (Some start) headed rows = timed_part_text wanted start headed rows
+-- the text of a part that is laid out so, whose rows are of these orders; plain columns say nothing of the orders
+abbrev pub text_by : Columns → Option Start → (headed : Bool) → Orders → List Row → List ℕ
+text_by wanted None headed orders rows = untimed_part_text wanted headed orders rows
+text_by wanted (Some start) headed orders rows = timed_part_text wanted start headed orders rows
 
-abbrev pub text_with : Layout → (headed : Bool) → List Row → List ℕ
-text_with layout headed rows = text_by layout.columns layout.start headed rows
+abbrev pub text_with : Layout → (headed : Bool) → Orders → List Row → List ℕ
+text_with layout headed orders rows = text_by layout.columns layout.start headed orders rows

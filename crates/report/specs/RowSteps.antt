@@ -63,12 +63,13 @@ abbrev pub end_slot : (slots start period broadcasts : ℕ) → Option ℕ → �
 end_slot slots start period broadcasts stop =
     unwrap_or stop (if broadcasts == 0 then slots else min (start + broadcasts * period) slots)
 
--- the row of a write that was accepted, by its start
-abbrev pub started_row : Cell → (slots : ℕ) → List ShownMessage → (stop : Option ℕ) → (completed : ℕ)
+-- the row of a write that was accepted, which is the entry at a place, by its start
+abbrev pub started_row : Cell → (place slots : ℕ) → List ShownMessage → (stop : Option ℕ) → (completed : ℕ)
     → (first : Option ℕ) → Command → ℕ → Option Row
-started_row cell slots shown stop completed first
+started_row cell place slots shown stop completed first
     (commands.Write id serial replaces category dcs period broadcasts contents) start =
     Some (record {
+      entry = place;
       lac = cell.lac;
       ci = cell.ci;
       id = id;
@@ -80,25 +81,25 @@ started_row cell slots shown stop completed first
       first_shown = first;
       demand = Some (demand_of (rank_of category) (length contents) period);
     })
-started_row cell slots shown stop completed first command start = None
+started_row cell place slots shown stop completed first command start = None
 
 -- the row of a refused command
-abbrev pub refused_row : Cell → (slot cause : ℕ) → Command → Option Row
-refused_row cell slot cause (commands.Write id serial replaces category dcs period broadcasts contents) =
-    Some (refusal_row cell id serial slot cause (Some (demand_of (rank_of category) (length contents) period)))
-refused_row cell slot cause (commands.Kill id serial) = Some (refusal_row cell id serial slot cause None)
-refused_row cell slot cause (commands.Status id serial) = None
+abbrev pub refused_row : Cell → (place slot cause : ℕ) → Command → Option Row
+refused_row cell place slot cause (commands.Write id serial replaces category dcs period broadcasts contents) =
+    Some (refusal_row cell place id serial slot cause (Some (demand_of (rank_of category) (length contents) period)))
+refused_row cell place slot cause (commands.Kill id serial) = Some (refusal_row cell place id serial slot cause None)
+refused_row cell place slot cause (commands.Status id serial) = None
 
 -- the row of an entry, by its answer, its message's stop, how many of its broadcasts were completed, and in which slot
 -- first
-abbrev pub row_by : Cell → (slots : ℕ) → List ShownMessage → (stop : Option ℕ) → (completed : ℕ) → (first : Option ℕ)
+abbrev pub row_by : Cell → (place slots : ℕ) → List ShownMessage → (stop : Option ℕ) → (completed : ℕ) → (first : Option ℕ)
     → (slot : ℕ) → Command → Answer → Option Row
-row_by cell slots shown stop completed first slot command (answers.Started start) =
-    started_row cell slots shown stop completed first command start
-row_by cell slots shown stop completed first slot command (answers.Replaced start others) =
-    started_row cell slots shown stop completed first command start
-row_by cell slots shown stop completed first slot command (answers.Cause cause) = refused_row cell slot cause command
-row_by cell slots shown stop completed first slot command answer = None
+row_by cell place slots shown stop completed first slot command (answers.Started start) =
+    started_row cell place slots shown stop completed first command start
+row_by cell place slots shown stop completed first slot command (answers.Replaced start others) =
+    started_row cell place slots shown stop completed first command start
+row_by cell place slots shown stop completed first slot command (answers.Cause cause) = refused_row cell place slot cause command
+row_by cell place slots shown stop completed first slot command answer = None
 
 -- the row of the entry at a place, by the stops, the completed broadcasts and the slots of the first ones at the places
 abbrev pub row_at : Cell → (slots : ℕ) → List ShownMessage → (stops : List (Option ℕ)) → (completed : List ℕ)
@@ -106,7 +107,7 @@ abbrev pub row_at : Cell → (slots : ℕ) → List ShownMessage → (stops : Li
 row_at cell slots shown stops completed firsts place None = []
 row_at cell slots shown stops completed firsts place (Some e) =
     option_to_list
-    (row_by cell slots shown (slice_index_or stops place None) (slice_index completed place)
+    (row_by cell place slots shown (slice_index_or stops place None) (slice_index completed place)
     (slice_index_or firsts place None) e.slot e.command e.answer)
 
 -- the rows of the entries of a log before a place, and of all

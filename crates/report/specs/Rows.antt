@@ -62,6 +62,7 @@ demand_of rank pages period = record { pages = pages; period = period; share = s
 -- the row of an accepted message: its completed broadcasts are counted at the end of the run
 abbrev pub message_row : Record → List ShownMessage → Accepted → Row
 message_row r shown a = record {
+  entry = a.message.entry;
   lac = r.cell.lac;
   ci = r.cell.ci;
   id = a.id;
@@ -75,8 +76,9 @@ message_row r shown a = record {
 }
 
 -- the row of a write or a kill that was refused: it begins and ends at the slot of the answer
-abbrev pub refusal_row : Cell → (id serial slot cause : ℕ) → Option Demand → Row
-refusal_row cell id serial slot cause demand = record {
+abbrev pub refusal_row : Cell → (place id serial slot cause : ℕ) → Option Demand → Row
+refusal_row cell place id serial slot cause demand = record {
+  entry = place;
   lac = cell.lac;
   ci = cell.ci;
   id = id;
@@ -89,13 +91,14 @@ refusal_row cell id serial slot cause demand = record {
   demand = demand;
 }
 
--- the row of a command, by its answer, where that is a refusal
-abbrev pub refusal_rows : Cell → (slot : ℕ) → Answer → Command → List Row
-refusal_rows cell slot (answers.Cause cause) (commands.Write id serial replaces category dcs period broadcasts contents)
-    = refusal_row cell id serial slot cause (Some (demand_of (rank_of category) (length contents) period)) ∷ []
-refusal_rows cell slot (answers.Cause cause) (commands.Kill id serial) =
-    refusal_row cell id serial slot cause None ∷ []
-refusal_rows cell slot answer command = []
+-- the row of a command, which is the entry at a place, by its answer, where that is a refusal
+abbrev pub refusal_rows : Cell → (place slot : ℕ) → Answer → Command → List Row
+refusal_rows cell place slot (answers.Cause cause)
+    (commands.Write id serial replaces category dcs period broadcasts contents) =
+    refusal_row cell place id serial slot cause (Some (demand_of (rank_of category) (length contents) period)) ∷ []
+refusal_rows cell place slot (answers.Cause cause) (commands.Kill id serial) =
+    refusal_row cell place id serial slot cause None ∷ []
+refusal_rows cell place slot answer command = []
 
 -- the accepted message that the entry at this place of the log is, if it is one
 abbrev pub is_at : (place : ℕ) → Accepted → Bool
@@ -107,7 +110,7 @@ accepted_at place log = filter (is_at place) (accepted_in log)
 -- the row of the entry at this place, if it has one
 abbrev pub entry_rows : Record → List ShownMessage → (place : ℕ) → Entry → List Row
 entry_rows r shown place e =
-    map (message_row r shown) (accepted_at place r.log) ++ refusal_rows r.cell e.slot e.answer e.command
+    map (message_row r shown) (accepted_at place r.log) ++ refusal_rows r.cell place e.slot e.answer e.command
 
 -- the rows of the entries from this place on
 abbrev pub rows_from : Record → List ShownMessage → (place : ℕ) → List Entry → List Row

@@ -69,10 +69,11 @@ impl<'a> CellContext<'a> {
         }
     }
 
-    /// The row of a write that was accepted, by its start, its stop, how many broadcasts were completed, and the slot
-    /// of the first of them.
+    /// The row of a write that was accepted, which is the entry at a place, by its start, its stop, how many broadcasts
+    /// were completed, and the slot of the first of them.
     fn started_row(
         &self,
+        place: usize,
         command: &Command,
         start: u32,
         stop: Option<u16>,
@@ -81,7 +82,7 @@ impl<'a> CellContext<'a> {
     ) -> Option<Row>
         requires { IsWellFormed command.now }
         ensures { (shown : List ShownMessage) → HasNames self.now.shown.now shown
-            → result ≡ started_row self.now.cell self.now.slots shown stop completed first command.now start }
+            → result ≡ started_row self.now.cell place self.now.slots shown stop completed first command.now start }
     {
         match command {
             Command::Write {
@@ -93,6 +94,7 @@ impl<'a> CellContext<'a> {
                 contents,
                 ..
             } => Some(Row {
+                entry: place,
                 lac: self.cell.lac,
                 ci: self.cell.ci,
                 id: *id,
@@ -109,10 +111,10 @@ impl<'a> CellContext<'a> {
         }
     }
 
-    /// The row of a write or a kill that was refused.
-    fn refused_row(&self, command: &Command, slot: u16, cause: u8) -> Option<Row>
+    /// The row of a write or a kill that was refused, which is the entry at a place.
+    fn refused_row(&self, place: usize, command: &Command, slot: u16, cause: u8) -> Option<Row>
         requires { IsWellFormed command.now }
-        ensures { result ≡ refused_row self.now.cell slot cause command.now }
+        ensures { result ≡ refused_row self.now.cell place slot cause command.now }
     {
         let (id, serial, demand) = match command {
             Command::Write {
@@ -130,6 +132,7 @@ impl<'a> CellContext<'a> {
             Command::Status { .. } => return None,
         };
         Some(Row {
+            entry: place,
             lac: self.cell.lac,
             ci: self.cell.ci,
             id,
@@ -143,10 +146,11 @@ impl<'a> CellContext<'a> {
         })
     }
 
-    /// The row of an entry, if it has one, by the stop of its message, how many broadcasts were completed, and the
-    /// slot of the first of them.
+    /// The row of the entry at a place, if it has one, by the stop of its message, how many broadcasts were completed,
+    /// and the slot of the first of them.
     fn row(
         &self,
+        place: usize,
         entry: &Entry,
         stop: Option<u16>,
         completed: u16,
@@ -154,17 +158,18 @@ impl<'a> CellContext<'a> {
     ) -> Option<Row>
         requires { IsWellFormed entry.now.command }
         ensures { (shown : List ShownMessage) → HasNames self.now.shown.now shown
-            → result ≡ row_by self.now.cell self.now.slots shown stop completed first entry.now.slot entry.now.command
-            entry.now.answer }
+            → result ≡ row_by self.now.cell place self.now.slots shown stop completed first entry.now.slot
+            entry.now.command entry.now.answer }
     {
         match entry.answer {
             Answer::Started { slot } => {
-                self.started_row(&entry.command, u32::from(slot), stop, completed, first)
+                let start = u32::from(slot);
+                self.started_row(place, &entry.command, start, stop, completed, first)
             }
             Answer::Replaced { slot, .. } => {
-                self.started_row(&entry.command, slot, stop, completed, first)
+                self.started_row(place, &entry.command, slot, stop, completed, first)
             }
-            Answer::Cause(cause) => self.refused_row(&entry.command, entry.slot, cause),
+            Answer::Cause(cause) => self.refused_row(place, &entry.command, entry.slot, cause),
             Answer::Stopped { .. } => None,
             Answer::Told { .. } => None,
             Answer::Unknown => None,
@@ -191,7 +196,13 @@ impl<'a> CellContext<'a> {
             ++ rows_by self.now.cell self.now.slots shown stops.now completed.now firsts.now log.now) }
     {
         for (place, entry) in log.iter().enumerate() {
-            if let Some(row) = self.row(entry, stops[place], completed[place], firsts[place]) {
+            if let Some(row) = self.row(
+                place,
+                entry,
+                stops[place],
+                completed[place],
+                firsts[place],
+            ) {
                 rows.push(row)?;
             }
         }

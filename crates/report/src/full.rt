@@ -2,10 +2,14 @@
 
 ghost use Rattle.std.specs.Prelude.{◌≡◌, ℕ, List, [], ◌++◌, IfOk, OnOk};
 ghost use Rattle.report.specs.ReportText.{demand_period, demand_pages, demand_share, full_header_line, full_line};
-ghost use Rattle.report.specs.ReportText.{full_part_text, number_or_none, showing_text, words_of_showing};
+ghost use Rattle.report.specs.ReportText.{full_part_text, number_or_none, order_name, order_row, showing_text};
+ghost use Rattle.report.specs.ReportText.{words_of_showing};
+ghost use Rattle.std.specs.Option.{option_copied};
+ghost use Rattle.report.specs.Sources.{Orders};
 
 use crate::cause::cause_words;
 use crate::row::{Demand, Row, Showing};
+use crate::sources::{BookOrders, NamedOrder};
 use crate::table::{Table, refused_text, serial_text};
 use itoa::Buffer;
 use std::alloc::{AllocError, Global};
@@ -16,6 +20,26 @@ pub(crate) fn number_or_none<'a>(buffer: &'a mut Buffer, number: Option<u16>) ->
 {
     match number {
         Some(number) => buffer.format(number).as_bytes(),
+        None => b"",
+    }
+}
+
+/// The text of the row that gives an order, if the order is known.
+pub(crate) fn order_row<'a>(buffer: &'a mut Buffer, order: Option<&NamedOrder>) -> &'a [u8]
+    ensures { result.now ≡ order_row (option_copied order.entry) }
+{
+    match order {
+        Some(order) => buffer.format(order.row).as_bytes(),
+        None => b"",
+    }
+}
+
+/// The name of an order's alert, if the order is known.
+pub(crate) fn order_name(order: Option<&NamedOrder>) -> &[u8]
+    ensures { result.now ≡ order_name (option_copied order.entry) }
+{
+    match order {
+        Some(order) => order.name.as_bytes(),
         None => b"",
     }
 }
@@ -59,7 +83,7 @@ impl Table {
     ///
     /// Out of memory.
     pub fn full(alloc: Global, headed: bool) -> Result<Table, AllocError>
-        ensures { IfOk result (λ table. IsTable table (full_part_text headed [])) }
+        ensures { IfOk result (λ table. (orders : Orders) → IsTable table (full_part_text headed orders [])) }
     {
         let mut table = Table::empty(alloc);
         if !headed {
@@ -75,6 +99,8 @@ impl Table {
             → IsTable self.new (octets ++ full_header_line)) }
     {
         self.push_line(&[
+            b"row",
+            b"name",
             b"lac",
             b"ci",
             b"id",
@@ -96,15 +122,16 @@ impl Table {
     /// # Errors
     ///
     /// Out of memory.
-    pub fn push_full(&mut self, row: &Row) -> Result<(), AllocError>
+    pub fn push_full(&mut self, orders: &BookOrders, row: &Row) -> Result<(), AllocError>
         ensures { OnOk result ((octets : List ℕ) → IsTable self.old octets
-            → IsTable self.new (octets ++ full_line row.now)) }
+            → IsTable self.new (octets ++ full_line orders.now row.now)) }
     {
         match row.shown {
-            Showing::Yes => self.push_full_shown(row, b"yes", b""),
-            Showing::No => self.push_full_shown(row, b"no", b""),
+            Showing::Yes => self.push_full_shown(orders, row, b"yes", b""),
+            Showing::No => self.push_full_shown(orders, row, b"no", b""),
             Showing::Refused(cause) => {
-                self.push_full_shown(row, &refused_text(cause), cause_words(cause).as_bytes())
+                let words = cause_words(cause).as_bytes();
+                self.push_full_shown(orders, row, &refused_text(cause), words)
             }
         }
     }
@@ -112,6 +139,7 @@ impl Table {
     /// Appends the line of a row, by the texts of whether it is shown, and of the cause.
     fn push_full_shown<'a>(
         &mut self,
+        orders: &BookOrders,
         row: &Row,
         shown: &'a [u8],
         cause: &'a [u8],
@@ -119,8 +147,10 @@ impl Table {
         requires shown { shown.now ≡ showing_text row.now.shown }
         requires cause { cause.now ≡ words_of_showing row.now.shown }
         ensures { OnOk result ((octets : List ℕ) → IsTable self.old octets
-            → IsTable self.new (octets ++ full_line row.now)) }
+            → IsTable self.new (octets ++ full_line orders.now row.now)) }
     {
+        let order = orders.of_row(row);
+        let mut book_row = Buffer::new();
         let mut lac = Buffer::new();
         let mut ci = Buffer::new();
         let mut id = Buffer::new();
@@ -133,6 +163,8 @@ impl Table {
         let mut period = Buffer::new();
         let mut share = Buffer::new();
         self.push_line(&[
+            order_row(&mut book_row, order),
+            order_name(order),
             lac.format(row.lac).as_bytes(),
             ci.format(row.ci).as_bytes(),
             id.format(row.id).as_bytes(),

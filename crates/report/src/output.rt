@@ -10,6 +10,7 @@ ghost use Rattle.report.specs.ReportText.{untimed_part_text};
 
 use crate::fault::ReportFault;
 use crate::row::{Columns, Layout, Row};
+use crate::sources::BookOrders;
 use crate::table::Table;
 use device_ends::{Failed, Sink, write_all};
 use slot_times::Start;
@@ -34,12 +35,17 @@ pub fn text_of(alloc: Global, headed: bool, rows: &[Row]) -> Result<Vec<u8>, All
 }
 
 /// The text of a part of a full report, as [`text_of`] makes that of a plain one.
-fn full_text_of(alloc: Global, headed: bool, rows: &[Row]) -> Result<Vec<u8>, AllocError>
-    ensures { IfOk result (λ octets. octets.items ≡ full_part_text headed rows.now) }
+fn full_text_of(
+    alloc: Global,
+    headed: bool,
+    orders: &BookOrders,
+    rows: &[Row],
+) -> Result<Vec<u8>, AllocError>
+    ensures { IfOk result (λ octets. octets.items ≡ full_part_text headed orders.now rows.now) }
 {
     let mut table = Table::full(alloc, headed)?;
     for row in rows {
-        table.push_full(row)?;
+        table.push_full(orders, row)?;
     }
     table.into_octets()
 }
@@ -49,13 +55,14 @@ fn untimed_text_of(
     alloc: Global,
     columns: Columns,
     headed: bool,
+    orders: &BookOrders,
     rows: &[Row],
 ) -> Result<Vec<u8>, AllocError>
-    ensures { IfOk result (λ octets. octets.items ≡ untimed_part_text columns headed rows.now) }
+    ensures { IfOk result (λ octets. octets.items ≡ untimed_part_text columns headed orders.now rows.now) }
 {
     match columns {
         Columns::Plain => text_of(alloc, headed, rows),
-        Columns::Full => full_text_of(alloc, headed, rows),
+        Columns::Full => full_text_of(alloc, headed, orders, rows),
     }
 }
 
@@ -65,20 +72,21 @@ fn timed_text_of(
     columns: Columns,
     start: Start,
     headed: bool,
+    orders: &BookOrders,
     rows: &[Row],
 ) -> Result<Vec<u8>, AllocError>
-    ensures { IfOk result (λ octets. octets.items ≡ timed_part_text columns start headed rows.now) }
+    ensures { IfOk result (λ octets. octets.items ≡ timed_part_text columns start headed orders.now rows.now) }
 {
     let mut table = Table::timed(alloc, columns, headed)?;
     for row in rows {
-        table.push_timed(columns, start, row)?;
+        table.push_timed(columns, start, orders, row)?;
     }
     table.into_octets()
 }
 
-/// The text of a part of a report that is laid out so: with plain columns and no times that of [`text_of`]; full ones
-/// have more after them, and times stand behind all others, so that the text without those is the one that lacks them
-/// ([`report_laws`](crate::report_laws)).
+/// The text of a part of a report that is laid out so: with plain columns and no times that of [`text_of`]. Full ones
+/// have the order of each row before these, by the orders of the book, and more after them. Times are the last ones, so
+/// that the text without those is the one that lacks them ([`report_laws`](crate::report_laws)).
 ///
 /// # Errors
 ///
@@ -87,13 +95,14 @@ pub fn text_with(
     alloc: Global,
     layout: Layout,
     headed: bool,
+    orders: &BookOrders,
     rows: &[Row],
 ) -> Result<Vec<u8>, AllocError>
-    ensures { IfOk result (λ octets. octets.items ≡ text_with layout headed rows.now) }
+    ensures { IfOk result (λ octets. octets.items ≡ text_with layout headed orders.now rows.now) }
 {
     match layout.start {
-        Some(start) => timed_text_of(alloc, layout.columns, start, headed, rows),
-        None => untimed_text_of(alloc, layout.columns, headed, rows),
+        Some(start) => timed_text_of(alloc, layout.columns, start, headed, orders, rows),
+        None => untimed_text_of(alloc, layout.columns, headed, orders, rows),
     }
 }
 

@@ -29,6 +29,8 @@ pub struct Demand {
 /// A row of a report: an accepted message of a cell, or a write or a kill that the cell refused.
 #[derive(Clone, Copy, Debug, PartialEq, Eq)]
 pub struct Row {
+    /// The place of its entry in the cell's log, from 0.
+    pub entry: usize,
     /// The location area code of the cell.
     pub lac: u16,
     /// The cell identity.

@@ -1,13 +1,17 @@
 //! The lines of a report with times on the clock.
 
 ghost use Rattle.std.specs.Prelude.{◌≡◌, ℕ, List, [], ◌++◌, IfOk, OnOk};
-ghost use Rattle.report.specs.ReportText.{showing_text, shown_time, timed_header_line, timed_line, timed_part_text};
-ghost use Rattle.report.specs.ReportText.{words_of_showing};
+ghost use Rattle.report.specs.ReportText.{line, plain_fields, showing_text, shown_time, time_fields};
+ghost use Rattle.report.specs.ReportText.{timed_header_line, timed_line, timed_part_text, words_of_showing};
+ghost use Rattle.report.specs.Sources.{Orders};
 ghost use Rattle.report.specs.declared.row.Columns.TheVariants.{Full, Plain};
 
 use crate::cause::cause_words;
-use crate::full::{demand_pages, demand_period, demand_share, number_or_none};
+use crate::full::{
+    demand_pages, demand_period, demand_share, number_or_none, order_name, order_row,
+};
 use crate::row::{Columns, Row, Showing};
+use crate::sources::BookOrders;
 use crate::table::{Table, refused_text, serial_text};
 use itoa::Buffer;
 use slot_times::{Start, slot_time};
@@ -35,7 +39,8 @@ impl Table {
     ///
     /// Out of memory.
     pub fn timed(alloc: Global, columns: Columns, headed: bool) -> Result<Table, AllocError>
-        ensures { IfOk result (λ table. (start : Start) → IsTable table (timed_part_text columns start headed [])) }
+        ensures { IfOk result (λ table. (start : Start) (orders : Orders)
+            → IsTable table (timed_part_text columns start headed orders [])) }
     {
         let mut table = Table::empty(alloc);
         if !headed {
@@ -81,6 +86,8 @@ impl Table {
             → IsTable self.new (octets ++ timed_header_line Full)) }
     {
         self.push_line(&[
+            b"row",
+            b"name",
             b"lac",
             b"ci",
             b"id",
@@ -109,17 +116,18 @@ impl Table {
         &mut self,
         columns: Columns,
         start: Start,
+        orders: &BookOrders,
         row: &Row,
     ) -> Result<(), AllocError>
         ensures { OnOk result ((octets : List ℕ) → IsTable self.old octets
-            → IsTable self.new (octets ++ timed_line columns start row.now)) }
+            → IsTable self.new (octets ++ timed_line columns start orders.now row.now)) }
     {
         match row.shown {
-            Showing::Yes => self.push_timed_shown(columns, start, row, b"yes", b""),
-            Showing::No => self.push_timed_shown(columns, start, row, b"no", b""),
+            Showing::Yes => self.push_timed_shown(columns, start, orders, row, b"yes", b""),
+            Showing::No => self.push_timed_shown(columns, start, orders, row, b"no", b""),
             Showing::Refused(cause) => {
                 let words = cause_words(cause).as_bytes();
-                self.push_timed_shown(columns, start, row, &refused_text(cause), words)
+                self.push_timed_shown(columns, start, orders, row, &refused_text(cause), words)
             }
         }
     }
@@ -129,6 +137,7 @@ impl Table {
         &mut self,
         columns: Columns,
         start: Start,
+        orders: &BookOrders,
         row: &Row,
         shown: &'a [u8],
         cause: &'a [u8],
@@ -136,11 +145,11 @@ impl Table {
         requires shown { shown.now ≡ showing_text row.now.shown }
         requires cause { cause.now ≡ words_of_showing row.now.shown }
         ensures { OnOk result ((octets : List ℕ) → IsTable self.old octets
-            → IsTable self.new (octets ++ timed_line columns start row.now)) }
+            → IsTable self.new (octets ++ timed_line columns start orders.now row.now)) }
     {
         match columns {
             Columns::Plain => self.push_plain_timed(start, row, shown),
-            Columns::Full => self.push_full_timed(start, row, shown, cause),
+            Columns::Full => self.push_full_timed(start, orders, row, shown, cause),
         }
     }
 
@@ -153,7 +162,7 @@ impl Table {
     ) -> Result<(), AllocError>
         requires shown { shown.now ≡ showing_text row.now.shown }
         ensures { OnOk result ((octets : List ℕ) → IsTable self.old octets
-            → IsTable self.new (octets ++ timed_line Plain start row.now)) }
+            → IsTable self.new (octets ++ line (plain_fields row.now ++ time_fields Plain start row.now))) }
     {
         let mut lac = Buffer::new();
         let mut ci = Buffer::new();
@@ -182,6 +191,7 @@ impl Table {
     fn push_full_timed<'a>(
         &mut self,
         start: Start,
+        orders: &BookOrders,
         row: &Row,
         shown: &'a [u8],
         cause: &'a [u8],
@@ -189,8 +199,10 @@ impl Table {
         requires shown { shown.now ≡ showing_text row.now.shown }
         requires cause { cause.now ≡ words_of_showing row.now.shown }
         ensures { OnOk result ((octets : List ℕ) → IsTable self.old octets
-            → IsTable self.new (octets ++ timed_line Full start row.now)) }
+            → IsTable self.new (octets ++ timed_line Full start orders.now row.now)) }
     {
+        let order = orders.of_row(row);
+        let mut book_row = Buffer::new();
         let mut lac = Buffer::new();
         let mut ci = Buffer::new();
         let mut id = Buffer::new();
@@ -206,6 +218,8 @@ impl Table {
         let end_time = slot_time(start, u32::from(row.end));
         let mut first_time = [0; 24];
         self.push_line(&[
+            order_row(&mut book_row, order),
+            order_name(order),
             lac.format(row.lac).as_bytes(),
             ci.format(row.ci).as_bytes(),
             id.format(row.id).as_bytes(),

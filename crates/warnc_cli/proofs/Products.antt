@@ -28,6 +28,9 @@ use Rattle.warnc_run.specs.Engine.{MayBeWritten}
 use Rattle.warnc_run.specs.Faults.{IsWriteFault}
 use Rattle.warnc_run.specs.Made.{Makes}
 use Rattle.warnc_run.specs.Network.{joined_parts, octets_of_group, AreFirstParts, ArePartsFrom, HasNoPart}
+use Rattle.alert_book.specs.declared.book.order.Order.{Order}
+use Rattle.asked_orders.specs.Asked.{orders_of_run}
+use Rattle.report.specs.Sources.{Orders}
 use Rattle.warnc_run.specs.Products.{own_rows}
 use Rattle.warnc_run.specs.declared.fault.RunFault.{RunFault}
 use Rattle.warnc_run.specs.declared.fault.RunFault.TheVariants as run
@@ -67,22 +70,24 @@ written_of Means (Some book) last old new makes = record {
 }
 
 -- the line of names over a report
-some_text : (c : Columns) (start : Option Start) (rows : List Row) → 0 < length (text_by c start true rows)
-some_text columns.Plain None rows = omega arith
-some_text columns.Full None rows = omega arith
-some_text columns.Plain (Some start) rows = omega arith
-some_text columns.Full (Some start) rows = omega arith
+some_text : (c : Columns) (start : Option Start) (orders : Orders) (rows : List Row)
+    → 0 < length (text_by c start true orders rows)
+some_text columns.Plain None orders rows = omega arith
+some_text columns.Full None orders rows = omega arith
+some_text columns.Plain (Some start) orders rows = omega arith
+some_text columns.Full (Some start) orders rows = omega arith
 
-some_report : (layout : Layout) (rows : List Row) → 0 < length (text_with layout true rows)
-some_report layout rows = some_text layout.columns layout.start rows
+some_report : (layout : Layout) (orders : Orders) (rows : List Row) → 0 < length (text_with layout true orders rows)
+some_report layout orders rows = some_text layout.columns layout.start orders rows
 
 -- what is made of a book, or the part of a first group, that isn't tapes has octets
-some_of_group : (made : Product) (slots groups : ℕ) (records : List Record)
+some_of_group : (made : Product) (slots groups : ℕ) (orders : List Order) (records : List Record)
     → made ≢ product.Tapes
-    → 0 < length (octets_of_group made slots groups 0 records)
-some_of_group product.Tapes slots groups records text = absurd (text refl)
-some_of_group (product.Report layout) slots groups records text = some_report layout (own_rows records)
-some_of_group (product.Chart wanted) slots groups records text = some_part slots _ wanted records _
+    → 0 < length (octets_of_group made slots groups 0 orders records)
+some_of_group product.Tapes slots groups orders records text = absurd (text refl)
+some_of_group (product.Report layout) slots groups orders records text =
+    some_report layout (orders_of_run orders records) (own_rows records)
+some_of_group (product.Chart wanted) slots groups orders records text = some_part slots _ wanted (orders_of_run orders records) records _
 
 some_of_book : (b : Books) (made : Product) (slots parts : ℕ) (input output : List ℕ)
     → IsProductOf made b slots parts input output
@@ -91,14 +96,15 @@ some_of_book : (b : Books) (made : Product) (slots parts : ℕ) (input output : 
     → 0 < length output
 some_of_book (books.One origin.Book) product.Tapes slots parts input output is r same always = absurd always
 some_of_book (books.One origin.Book) (product.Report layout) slots parts input output is r same always =
-    subst (λ (octets : List ℕ). 0 < length octets) (sym is.written) (some_report layout (own_rows is.records))
+    subst (λ (octets : List ℕ). 0 < length octets) (sym is.written) (some_report layout (orders_of_run is.run.book.orders is.records)
+    (own_rows is.records))
 some_of_book (books.One origin.Book) (product.Chart wanted) slots parts input output is r same always =
-    subst (λ (octets : List ℕ). 0 < length octets) (sym is.written) (some_chart slots wanted is.records _)
+    subst (λ (octets : List ℕ). 0 < length octets) (sym is.written) (some_chart slots wanted (orders_of_run is.run.book.orders is.records) is.records _)
 some_of_book (books.One (origin.Group group)) product.Tapes slots parts input output is r same always = absurd always
 some_of_book (books.One (origin.Group group)) (product.Report layout) slots parts input output is r same always =
     absurd (subst IsHeaded same always)
 some_of_book (books.One (origin.Group group)) (product.Chart wanted) slots parts input output is r same always =
-    subst (λ (octets : List ℕ). 0 < length octets) (sym is.written) (some_chart slots wanted is.records _)
+    subst (λ (octets : List ℕ). 0 < length octets) (sym is.written) (some_chart slots wanted (orders_of_run is.run.book.orders is.records) is.records _)
 some_of_book books.EachGroup made slots sessions input output is r same always =
     subst (λ (octets : List ℕ). 0 < length octets) (sym is.written) (by_parts is.parts is.as_many is.each)
   where
@@ -112,7 +118,7 @@ some_of_book books.EachGroup made slots sessions input output is r same always =
         absurd (omega (arith, many, is.counted.count, some_groups (length is.counted.rows.cells)))
     by_parts (part ∷ parts) many each =
         let here : 0 < length part = subst (λ (octets : List ℕ). 0 < length octets) (sym each.0.written)
-        (some_of_group made slots is.groups each.0.records text) in
+        (some_of_group made slots is.groups each.0.run.book.orders each.0.records text) in
         let both = length-append part (joined_parts parts) in
         omega (arith, here, both)
 

@@ -30,7 +30,7 @@ use warnc_air::all::AllWanted;
 use warnc_run::{Books, Product, Run, Sessions, Workers};
 
 /// The version of the program, and on a line of its own what `rt version` says of the toolchain that proved it.
-const VERSION: &str = "1.13.0\nrattle-kit-13f logic dac8208d650f15bf";
+const VERSION: &str = "1.14.0\nrattle-kit-13f logic dac8208d650f15bf";
 
 /// The words for the channel that packets name.
 const CHANNEL_TYPES: &[&str] = &["cbch", "sdcch"];
@@ -1084,7 +1084,7 @@ fn full<'a>(alloc: Global) -> Arg<'a> {
     flag(
         alloc,
         "full",
-        "Adds columns: when a phone shows it first, pages,\nperiod, share of the channel, cause in words",
+        "Adds columns: row and name of the order, when a\nphone shows it first, pages, period, share of the\nchannel, cause in words",
     )
 }
 

@@ -179,12 +179,12 @@ fails -> 1 warnc: row 1: columns
 ";
 
 const FULL: &str = "
-worked lac,ci,id,serial,start,end,completed,shown,first_shown,pages,period,share,cause
-worked 1,1,4370,0010,0,1,1,yes,0,1,2,50,
-worked 1,1,4370,0011,1,4,2,yes,1,1,2,50,
-worked 1,2,4370,0010,0,1,1,yes,0,1,2,50,
-worked 1,2,4371,0020,0,4,2,yes,1,1,2,50,
-worked 1,2,4370,0011,2,4,1,yes,3,1,2,50,
+worked row,name,lac,ci,id,serial,start,end,completed,shown,first_shown,pages,period,share,cause
+worked 3,a,1,1,4370,0010,0,1,1,yes,0,1,2,50,
+worked 5,a,1,1,4370,0011,1,4,2,yes,1,1,2,50,
+worked 3,a,1,2,4370,0010,0,1,1,yes,0,1,2,50,
+worked 4,b,1,2,4371,0020,0,4,2,yes,1,1,2,50,
+worked 5,a,1,2,4370,0011,2,4,1,yes,3,1,2,50,
 # two alerts in two cells; the replacement waits in the second cell, and its first page comes after the other's second
 in cell,1,1
 in cell,1,2
@@ -206,7 +206,7 @@ all -> worked
 writer 10 5
 run -> 3
 err -> warnc: write failed
-all -> 50 of 250
+all -> 50 of 279
 args report --slots 4 --network --full
 run -> 0
 all -> worked
@@ -228,13 +228,13 @@ in write,4,e,5,0,5,en,1,3,0,*,E
 in stop,5,a,*
 args report --slots 8 --full
 run -> 0
-out -> lac,ci,id,serial,start,end,completed,shown,first_shown,pages,period,share,cause
-out -> 1,1,1,0010,0,4,2,yes,0,1,2,50,
-out -> 1,1,2,0020,0,3,0,no,,2,4,50,
-out -> 1,1,3,0030,3,3,0,refused 06,,2,4,50,BSC capacity exceeded
-out -> 1,1,4,0040,4,8,1,yes,5,2,4,50,
-out -> 1,1,5,0050,4,8,2,yes,6,1,3,0,
-out -> 1,1,1,0010,5,5,0,refused 02,,,,,message reference not identified
+out -> row,name,lac,ci,id,serial,start,end,completed,shown,first_shown,pages,period,share,cause
+out -> 2,a,1,1,1,0010,0,4,2,yes,0,1,2,50,
+out -> 3,b,1,1,2,0020,0,3,0,no,,2,4,50,
+out -> 5,c,1,1,3,0030,3,3,0,refused 06,,2,4,50,BSC capacity exceeded
+out -> 6,d,1,1,4,0040,4,8,1,yes,5,2,4,50,
+out -> 7,e,1,1,5,0050,4,8,2,yes,6,1,3,0,
+out -> 8,a,1,1,1,0010,5,5,0,refused 02,,,,,message reference not identified
 
 in cell,1
 fails -> 1 warnc: row 1: columns
@@ -275,13 +275,13 @@ out -> 1,2,4371,0020,0,4,2,yes
 out -> 1,2,4370,0011,2,4,1,yes
 
 # full columns, and the latest start
-worked lac,ci,id,serial,start,end,completed,shown,first_shown,pages,period,share,cause\
+worked row,name,lac,ci,id,serial,start,end,completed,shown,first_shown,pages,period,share,cause\
     ,start_time,end_time,first_shown_time
-worked 1,1,4370,0010,0,1,1,yes,0,1,2,50,,2105-12-31T23:59:59.999Z,2106-01-01T00:00:01.883Z,2106-01-01T00:00:01.883Z
-worked 1,1,4370,0011,1,4,2,yes,1,1,2,50,,2106-01-01T00:00:01.883Z,2106-01-01T00:00:07.532Z,2106-01-01T00:00:03.766Z
-worked 1,2,4370,0010,0,1,1,yes,0,1,2,50,,2105-12-31T23:59:59.999Z,2106-01-01T00:00:01.883Z,2106-01-01T00:00:01.883Z
-worked 1,2,4371,0020,0,4,2,yes,1,1,2,50,,2105-12-31T23:59:59.999Z,2106-01-01T00:00:07.532Z,2106-01-01T00:00:03.766Z
-worked 1,2,4370,0011,2,4,1,yes,3,1,2,50,,2106-01-01T00:00:03.766Z,2106-01-01T00:00:07.532Z,2106-01-01T00:00:07.532Z
+worked 3,a,1,1,4370,0010,0,1,1,yes,0,1,2,50,,2105-12-31T23:59:59.999Z,2106-01-01T00:00:01.883Z,2106-01-01T00:00:01.883Z
+worked 5,a,1,1,4370,0011,1,4,2,yes,1,1,2,50,,2106-01-01T00:00:01.883Z,2106-01-01T00:00:07.532Z,2106-01-01T00:00:03.766Z
+worked 3,a,1,2,4370,0010,0,1,1,yes,0,1,2,50,,2105-12-31T23:59:59.999Z,2106-01-01T00:00:01.883Z,2106-01-01T00:00:01.883Z
+worked 4,b,1,2,4371,0020,0,4,2,yes,1,1,2,50,,2105-12-31T23:59:59.999Z,2106-01-01T00:00:07.532Z,2106-01-01T00:00:03.766Z
+worked 5,a,1,2,4370,0011,2,4,1,yes,3,1,2,50,,2106-01-01T00:00:03.766Z,2106-01-01T00:00:07.532Z,2106-01-01T00:00:07.532Z
 in cell,1,1
 in cell,1,2
 in write,0,a,4370,0,1,en,2,2,0,*,One

@@ -19,19 +19,19 @@ past <p>A run of 4 slots of 1.883 s, 0:00:07 (h:mm:ss).</p> -> yes
 past is full.</p> -> yes
 out -> <details open id=\"c1-1\">
 out -> <summary><h2>Cell 1-1</h2> messages: 1, refused: 1, fullest: 100 % at 0:00:00</summary>
-out -> <div class=\"line\"><p><b>1 0010</b> <i>high</i> <bdi>One</bdi></p>
+out -> <div><p><b>a</b> 1 0010 <i>high</i> <bdi>One</bdi></p>
 out -> <svg viewBox=\"0 0 4 10\" preserveAspectRatio=\"none\"><title>1 0010: slots 0 (0:00:00) to 3 (0:00:05), every slot, \
 broadcasts: 3, first shown after 0 (0:00:01)</title>
 out -> <rect class=\"f5\" x=\"0\" width=\"3\"/>
 out -> <path class=\"whole\" d=\"M1 0v10M2 0v10M3 0v10\"/>
 out -> <path d=\"M1 0v6\"/></svg></div>
-out -> <div class=\"line\"><p><b>2 0020</b> <span class=\"cause\">refused: BSC capacity exceeded (06)</span></p>
+out -> <div><p><b>b</b> 2 0020 <span class=\"cause\">refused: BSC capacity exceeded (06)</span></p>
 out -> <svg viewBox=\"0 0 4 10\" preserveAspectRatio=\"none\"><title>2 0020: refused at slot 1 (0:00:01)</title>
 out -> <path class=\"refusal\" d=\"M1 0v10\"/></svg></div>
-out -> <div class=\"line\"><p>Reserved load</p>
+out -> <div><p>Reserved load</p>
 out -> <svg class=\"loads\" viewBox=\"0 0 4 1008\" preserveAspectRatio=\"none\" role=\"img\"><title>Reserved load</title>
 out -> <path class=\"load\" d=\"M0 1008H0V0H3V1008H4V1008z\"/></svg></div>
-out -> <div class=\"line\"><p>Slot, time</p><p class=\"axis\">
+out -> <div><p>Slot, time</p><p class=\"axis\">
 out -> <span style=\"--at:calc(100%*0.00/4)\">0<br>0:00:00</span>
 out -> </p></div>
 out -> </details>
@@ -43,16 +43,16 @@ out -> </html>
 in cell,1,1
 in cell,1,2
 in write,0,a,4370,0,1,en,2,2,0,*,One
-in write,0,b,4371,0,2,en,1,2,0,1-2,Two
+in write,0,b<&>,4371,0,2,en,1,2,0,1-2,Two
 in update,1,a,en,2,2,0,*,<script>alert(\"1\")</script> & 'so'
 args chart --slots 4 --cell 1-2 --workers 2
 run -> 0
 past is full.</p> -> yes
 out -> <details open id=\"c1-2\">
 out -> <summary><h2>Cell 1-2</h2> messages: 3, refused: 0, fullest: 100 % at 0:00:01</summary>
-past <b>4370 0010</b> <i>normal</i> <bdi>One</bdi> -> yes
+past <b>a</b> 4370 0010 <i>normal</i> <bdi>One</bdi> -> yes
 past <rect class=\"f5\" x=\"0\" width=\"1\"/> -> yes
-past <b>4371 0020</b> <i>background</i> <bdi>Two</bdi> -> yes
+past <b>b&lt;&amp;&gt;</b> 4371 0020 <i>background</i> <bdi>Two</bdi> -> yes
 past <rect class=\"f5\" x=\"0\" width=\"4\"/> -> yes
 past <i>normal</i> <bdi>&lt;script&gt;alert(&quot;1&quot;)&lt;/script&gt; &amp; &#39;so&#39;</bdi> -> yes
 past <rect class=\"f5\" x=\"1\" width=\"3\"/> -> yes
@@ -112,7 +112,7 @@ out -> </p></div>
 out -> </details>
 out -> <details open id=\"c1-4\">
 out -> <summary><h2>Cells 1-4, 1-3, 2-5, 3 cells</h2> messages: 0, refused: 0, fullest: 0 % at 0:00:00</summary>
-out -> <div class=\"line\"><p>Reserved load</p>
+out -> <div><p>Reserved load</p>
 past </details> -> yes
 out -> </body>
 out -> </html>
@@ -162,16 +162,16 @@ args chart --slots 1
 run -> 0
 past is full.</p> -> yes
 out -> <details open id=\"c1-1\">
-past <b>1 0010</b> <i>normal</i> <small>not shown:</small> <bdi>Вода поднимается! Идите в школу на холме. &lt;Не ждите\
+past <b>a</b> 1 0010 <i>normal</i> <small>not shown:</small> <bdi>Вода поднимается! Идите в школу на холме. &lt;Не ждите\
 &gt; &amp; &#39;бегите&#39;!</bdi></p> -> yes
 past every 4, broadcasts: 0, not shown</title> -> yes
 past </html> -> yes
 args chart --slots 2
 run -> 0
-past <b>1 0010</b> <i>normal</i> <bdi>Вода поднимается -> yes
-past <b>2 0020</b> <i>normal</i> <small>not shown:</small> <bdi>Go up!</bdi></p> -> yes
+past <b>a</b> 1 0010 <i>normal</i> <bdi>Вода поднимается -> yes
+past <b>b</b> 2 0020 <i>normal</i> <small>not shown:</small> <bdi>Go up!</bdi></p> -> yes
 past every 4, broadcasts: 0, not shown</title> -> yes
-past <b>3 0030</b> <span class=\"cause\">refused: BSC capacity exceeded (06)</span></p> -> yes
+past <b>c</b> 3 0030 <span class=\"cause\">refused: BSC capacity exceeded (06)</span></p> -> yes
 past refused at slot 1 (0:00:01)</title> -> yes
 past </html> -> yes
 
@@ -345,19 +345,19 @@ past <p>A run of 64 slots of 1.883 s, 0:02:00 (h:mm:ss). Drawn from slot 10 (0:0
 past is full.</p> -> yes
 out -> <details open id=\"c1-1\">
 out -> <summary><h2>Cell 1-1</h2> messages: 1, refused: 1, fullest: 13 % at 0:00:18</summary>
-out -> <div class=\"line\"><p><b>1 0010</b> <i>normal</i> <bdi>One</bdi></p>
+out -> <div><p><b>a</b> 1 0010 <i>normal</i> <bdi>One</bdi></p>
 out -> <svg viewBox=\"10 0 20 10\" preserveAspectRatio=\"none\"><title>1 0010: slots 0 (0:00:00) to 64 (0:02:00), every 8, \
 broadcasts: 8, first shown after 0 (0:00:01)</title>
 out -> <rect class=\"f5\" x=\"10\" width=\"20\"/>
 out -> <path class=\"whole\" d=\"M17 0v10M25 0v10\"/>
 out -> <path d=\"\"/></svg></div>
-out -> <div class=\"line\"><p><b>3 0030</b> <span class=\"cause\">refused: BSC capacity exceeded (06)</span></p>
+out -> <div><p><b>c</b> 3 0030 <span class=\"cause\">refused: BSC capacity exceeded (06)</span></p>
 out -> <svg viewBox=\"10 0 20 10\" preserveAspectRatio=\"none\"><title>3 0030: refused at slot 12 (0:00:22)</title>
 out -> <path class=\"refusal\" d=\"M12 0v10\"/></svg></div>
-out -> <div class=\"line\"><p>Reserved load</p>
+out -> <div><p>Reserved load</p>
 out -> <svg class=\"loads\" viewBox=\"10 0 20 1008\" preserveAspectRatio=\"none\" role=\"img\"><title>Reserved load</title>
 out -> <path class=\"load\" d=\"M10 1008H10V882H30V1008z\"/></svg></div>
-out -> <div class=\"line\"><p>Slot, time</p><p class=\"axis\">
+out -> <div><p>Slot, time</p><p class=\"axis\">
 out -> <span style=\"--at:calc(100%*0.62/20)\">10<br>0:00:20</span>
 out -> <span style=\"--at:calc(100%*5.93/20)\">15<br>0:00:30</span>
 out -> <span style=\"--at:calc(100%*11.24/20)\">21<br>0:00:40</span>
@@ -448,7 +448,7 @@ out -> <i>13 % um 0:00:00, abgelehnt: 1</i></a>
 past </nav> -> yes
 out -> <details open id=\"c1-1\">
 out -> <summary><h2>Zellen 1-1 bis 1-2, 2 Zellen</h2> Nachrichten: 2, abgelehnt: 1, Spitze: 13 % um 0:00:00</summary>
-out -> <div class=\"line\"><p><b>4371 0010</b> <i>hoch</i> <bdi>One</bdi></p>
+out -> <div><p><b>a</b> 4371 0010 <i>hoch</i> <bdi>One</bdi></p>
 out -> <svg viewBox=\"0 0 62 10\" preserveAspectRatio=\"none\"><title>4371 0010 (Stufe 2: extrem, unmittelbar, beobachtet): \
 Slots 0 (0:00:00) bis 64 (0:02:00), alle 8, Aussendungen: 8, zuerst gezeigt nach 0 (0:00:01)</title>
 past <i>Hintergrund</i> <small>nicht gezeigt:</small> <bdi>Two</bdi></p> -> yes
@@ -457,8 +457,8 @@ nicht gezeigt</title> -> yes
 past <span class=\"cause\">abgelehnt: kein Platz mehr in der Zelle (06)</span></p> -> yes
 past <title>4394 0030 (Übung, in weiterer Sprache): abgelehnt bei Slot 2 (0:00:03)</title> -> yes
 out -> <path class=\"refusal\" d=\"M2 0v10\"/></svg></div>
-out -> <div class=\"line\"><p>Reservierte Last</p>
-past <div class=\"line\"><p>Slot, Zeit</p><p class=\"axis\"> -> yes
+out -> <div><p>Reservierte Last</p>
+past <div><p>Slot, Zeit</p><p class=\"axis\"> -> yes
 past <summary><h2>Zelle 1-3</h2> Nachrichten: 0, abgelehnt: 0, Spitze: 0 % um 0:00:00</summary> -> yes
 past </html> -> yes
 # one slot, and one broadcast among several slots

@@ -44,12 +44,12 @@ out -> 1,64,4370,0010,0,2,1,yes
 fronts 0 0 -> 1 warnc: no such group: the network has 1
 args report --slots 2 --group 1 --full
 run -> 0
-out -> 1,64,4370,0010,0,2,1,yes,0,1,2,50,
+out -> 66,a,1,64,4370,0010,0,2,1,yes,0,1,2,50,
 args report --slots 2 --network --full --workers 2
 run -> 0
-out -> lac,ci,id,serial,start,end,completed,shown,first_shown,pages,period,share,cause
-out -> 1,0,4370,0010,0,2,1,yes,0,1,2,50,
-out -> 1,64,4370,0010,0,2,1,yes,0,1,2,50,
+out -> row,name,lac,ci,id,serial,start,end,completed,shown,first_shown,pages,period,share,cause
+out -> 66,a,1,0,4370,0010,0,2,1,yes,0,1,2,50,
+out -> 66,a,1,64,4370,0010,0,2,1,yes,0,1,2,50,
 
 # all groups at once
 args report --slots 2 --network

@@ -5,11 +5,13 @@ use native.Mathlib.Omega.{arith}
 use Rattle.std.proofs.Math.Seq.{take-suc}
 use Rattle.std.proofs.lemmas.List.{get_or-map, length-map, map-append}
 use Rattle.std.specs.Io.KnownBytes.{Keeps}
+use Rattle.alert_book.specs.declared.book.order.Order.{Order}
 use Rattle.alert_book.specs.declared.network.Origin.{Origin}
 use Rattle.alert_book.specs.Book.{Contents}
 use Rattle.alert_book.specs.Origin.{IsBookFrom}
 use Rattle.book_runs.specs.LiveLaws.{LiveRunsAcceptWhatWasOrdered, LiveRunsShowTheBook}
 use Rattle.book_runs.specs.Meant.{IsMeantIn}
+use Rattle.asked_orders.specs.Asked.{orders_of_run}
 use Rattle.bsc_table.specs.Promised.{LegalHistoriesAreServed}
 use Rattle.bsc_table.specs.Record.{Record}
 use Rattle.cbch_blocks.specs.RecordBlocks.{tape_of_record}
@@ -130,13 +132,15 @@ pub text_made : LiveRunsShowTheBook → LiveRunsAcceptWhatWasOrdered → LegalHi
     (octets : List ℕ)
     → slots ≤ 65535
     → IsBookFrom from input book
-    → ((slots : ℕ) (records : List Record) → octets_of_text text slots records ≡ octets_of made from slots records)
+    → ((slots : ℕ) (orders : List Order) (records : List Record)
+        → octets_of_text text slots (orders_of_run orders records) records ≡ octets_of made from slots orders records)
     → IsTextOf text book slots parts octets
     → IsOutput made from slots parts input octets
+unfolding run_of_book
 text_made law orders keeps made text from input book slots parts octets few is_book same is = record {
   records = is.records;
   run = run_of_book law orders keeps from input book slots parts is.records few is_book is.live;
-  written = is.made_of ∙ same slots is.records;
+  written = is.made_of ∙ same slots book.orders is.records;
 }
 
 -- a fault of a run under way, before its text was written

@@ -3,9 +3,11 @@
 use Rattle.std.specs.Prelude.{◌≡◌, ◌==◌, ⊤, ℕ, ◌+◌, ◌<◌, ◌≤◌, List, [], ◌∷◌, length, map, Option}
 use Rattle.std.specs.Io.KnownBytes.{Keeps}
 use Rattle.std.specs.List.{flat_map}
+use Rattle.alert_book.specs.declared.book.order.Order.{Order}
 use Rattle.alert_book.specs.declared.network.Origin.TheVariants as origin
 use Rattle.alert_book.specs.Book.{Contents}
 use Rattle.alert_book.specs.Network.{HasGroups, IsGroupBook, RefusesNetwork}
+use Rattle.asked_orders.specs.Asked.{orders_of_run}
 use Rattle.bsc_table.specs.Record.{Record}
 use Rattle.chart.specs.ChartText.{chart_part}
 use Rattle.warnc_run.specs.declared.fault.RunFault.{RunFault}
@@ -26,18 +28,20 @@ pub record GroupRuns : Type 0 where
   pub groups : ℕ
 
 -- what is made of a group: what is made of it by itself, but a chart of all groups is one page
-abbrev pub octets_of_group : Product → (slots groups group : ℕ) → List Record → List ℕ
-octets_of_group product.Tapes slots groups group records = octets_of product.Tapes (origin.Group group) slots records
-octets_of_group (product.Report layout) slots groups group records =
-    octets_of (product.Report layout) (origin.Group group) slots records
-octets_of_group (product.Chart view) slots groups group records =
-    chart_part slots group (group + 1 == groups) view records (map reading_of_record records)
+abbrev pub octets_of_group : Product → (slots groups group : ℕ) → List Order → List Record → List ℕ
+octets_of_group product.Tapes slots groups group orders records =
+    octets_of product.Tapes (origin.Group group) slots orders records
+octets_of_group (product.Report layout) slots groups group orders records =
+    octets_of (product.Report layout) (origin.Group group) slots orders records
+octets_of_group (product.Chart view) slots groups group orders records =
+    chart_part slots group (group + 1 == groups) view (orders_of_run orders records) records
+    (map reading_of_record records)
 
 -- the part of the group of this number
 pub record IsPartOf (runs : GroupRuns) (group : ℕ) (input output : List ℕ) : Type 0 where
   pub records : List Record
   pub run : RunOf (origin.Group group) runs.slots runs.parts input records
-  pub written : output ≡ octets_of_group runs.made runs.slots runs.groups group records
+  pub written : output ≡ octets_of_group runs.made runs.slots runs.groups group run.book.orders records
 
 -- these are the parts of the groups from this number on, in their order
 abbrev pub ArePartsFrom : GroupRuns → (input : List ℕ) (group : ℕ) → List (List ℕ) → Type 0

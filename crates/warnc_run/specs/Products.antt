@@ -2,10 +2,12 @@
 -- their chart. Own.
 use Rattle.std.specs.Prelude.{◌≡◌, ◌==◌, ℕ, Bool, true, List, All, None, Some, length, map}
 use Rattle.std.specs.List.{flat_map}
+use Rattle.alert_book.specs.declared.book.order.Order.{Order}
 use Rattle.alert_book.specs.declared.network.Origin.{Origin}
 use Rattle.alert_book.specs.declared.network.Origin.TheVariants as origin
 use Rattle.alert_book.specs.Book.{Contents}
 use Rattle.alert_book.specs.Origin.{IsBookFrom}
+use Rattle.asked_orders.specs.Asked.{orders_of_run}
 use Rattle.book_runs.specs.Live.{IsLiveRun}
 use Rattle.book_runs.specs.Meant.{IsMeantIn}
 use Rattle.book_runs.specs.Ordered.{AreThoseStarted}
@@ -55,19 +57,20 @@ abbrev pub is_headed : Origin → Bool
 is_headed origin.Book = true
 is_headed (origin.Group group) = group == 0
 
--- what is made of the records of the run of a book, or of a group by itself
-abbrev pub octets_of : Product → (from : Origin) (slots : ℕ) → List Record → List ℕ
-octets_of product.Tapes from slots records = flat_map tape_of_record records
-octets_of (product.Report layout) from slots records = text_with layout (is_headed from) (own_rows records)
-octets_of (product.Chart view) from slots records =
-    chart_text slots view records (map reading_of_record records)
+-- what is made of the orders and the records of the run of a book, or of a group by itself
+abbrev pub octets_of : Product → (from : Origin) (slots : ℕ) → List Order → List Record → List ℕ
+octets_of product.Tapes from slots orders records = flat_map tape_of_record records
+octets_of (product.Report layout) from slots orders records =
+    text_with layout (is_headed from) (orders_of_run orders records) (own_rows records)
+octets_of (product.Chart view) from slots orders records =
+    chart_text slots view (orders_of_run orders records) records (map reading_of_record records)
 
 -- what is written for the octets that were read: they are a book, or a network book whose group has one, and this is
 -- what is made of its run, and nothing else
 pub record IsOutput (made : Product) (from : Origin) (slots parts : ℕ) (input output : List ℕ) : Type 0 where
   pub records : List Record
   pub run : RunOf from slots parts input records
-  pub written : output ≡ octets_of made from slots records
+  pub written : output ≡ octets_of made from slots run.book.orders records
 
 -- what `warnc live` writes: the tapes of the cells, whose orders came of several sessions side by side
 abbrev pub IsLiveFrom : (from : Origin) (slots parts : ℕ) (input output : List ℕ) → Type 0

@@ -2,19 +2,19 @@
 use Rattle.std.specs.Prelude.{◌≡◌, ℕ, List, map, take}
 use Rattle.std.specs.List.{flat_map}
 use Rattle.alert_book.specs.declared.network.Origin.{Origin}
-use Rattle.report.specs.Laws.{plain_columns, untimed_columns}
+use Rattle.report.specs.Laws.{plain_of, untimed_columns}
 use Rattle.report.specs.ReportText.{line}
 use Rattle.report.specs.declared.row.Columns.{Columns}
 use Rattle.report.specs.declared.row.Columns.TheVariants as columns
 use Rattle.slot_times.specs.declared.start.Start.{Start}
 use Rattle.warnc_run.specs.Products.{IsReportedFrom, timed, untimed}
 
--- a full report is the lines of a table, and the plain one the lines of what is left of the table if the columns after
--- the first eight are left out
+-- a full report is the lines of a table, and the plain one the lines of what is left of the table if the first two
+-- columns, and those after the next eight, are left out
 pub record IsCutFrom (full plain : List ℕ) : Type 0 where
   pub table : List (List (List ℕ))
   pub full_is : full ≡ flat_map line table
-  pub plain_is : plain ≡ flat_map line (map (take plain_columns) table)
+  pub plain_is : plain ≡ flat_map line (map plain_of table)
 
 -- of each book, or group of a network, and each number of slots
 abbrev pub PlainReportIsCut : Type 0

@@ -6,6 +6,7 @@ use Rattle.std.specs.List.{flat_map}
 use Rattle.alert_book.specs.declared.network.Origin.{Origin}
 use Rattle.alert_book.specs.Book.{Contents}
 use Rattle.alert_book.specs.Origin.{IsBookFrom, LacksGroup, RefusesFrom}
+use Rattle.asked_orders.specs.Asked.{orders_of_run}
 use Rattle.bsc_table.specs.Record.{Record}
 use Rattle.cbch_blocks.specs.RecordBlocks.{tape_of_record}
 use Rattle.book_runs.specs.Live.{IsLiveRun}
@@ -13,6 +14,7 @@ use Rattle.book_runs.specs.Run.{Exchange}
 use Rattle.chart.specs.ChartText.{chart_part, chart_text}
 use Rattle.parallel_compile.specs.declared.fault.CompileFault.TheVariants as compile
 use Rattle.report.specs.ReportText.{text_with}
+use Rattle.report.specs.Sources.{Orders}
 use Rattle.warnc_run.specs.Faults.{IsOfBook}
 use Rattle.warnc_run.specs.Products.{own_rows, reading_of_record}
 use Rattle.warnc_run.specs.declared.fault.RunFault.{RunFault}
@@ -80,15 +82,16 @@ abbrev pub StopsAtTape : (book : Contents) (slots parts : ℕ) (old new : Option
 StopsAtTape book slots parts old new (fault.Write failed) = HasWrittenFront book slots parts failed.written old new
 StopsAtTape book slots parts old new other = IsOfTapes book slots parts other
 
--- the octets of a text that is made of the records of a run
-abbrev pub octets_of_text : Text → (slots : ℕ) → List Record → List ℕ
-octets_of_text (text.Report layout headed) slots records = text_with layout headed (own_rows records)
-octets_of_text (text.Chart view) slots records = chart_text slots view records (map reading_of_record records)
-octets_of_text (text.ChartPart group last view) slots records =
-    chart_part slots group last view records (map reading_of_record records)
+-- the octets of a text that is made of the orders and the records of a run
+abbrev pub octets_of_text : Text → (slots : ℕ) → Orders → List Record → List ℕ
+octets_of_text (text.Report layout headed) slots orders records = text_with layout headed orders (own_rows records)
+octets_of_text (text.Chart view) slots orders records =
+    chart_text slots view orders records (map reading_of_record records)
+octets_of_text (text.ChartPart group last view) slots orders records =
+    chart_part slots group last view orders records (map reading_of_record records)
 
 -- this is such a text of such a run
 pub record IsTextOf (made : Text) (book : Contents) (slots parts : ℕ) (octets : List ℕ) : Type 0 where
   pub records : List Record
   pub live : HaveRunLive book slots parts records
-  pub made_of : octets ≡ octets_of_text made slots records
+  pub made_of : octets ≡ octets_of_text made slots (orders_of_run book.orders records) records

@@ -13,6 +13,7 @@ pub fn output_laws()
     // the machine and the day.
     ensures { OutputIsOne }
 {
+    alert_book::book_laws();
     alert_book::network_laws();
     book_runs::one_run_law();
     book_runs::session_laws();
@@ -28,13 +29,14 @@ pub fn whole_laws()
     book_runs::session_laws();
 }
 
-/// States, as its contract, that the plain report of a book, or of a group, is its full report with the columns after
-/// the first eight left out, and its report without times the one with times with these left out. Does nothing: its
-/// body names the laws that carry it.
+/// States, as its contract, that the plain report of a book, or of a group, is its full report with the order's two
+/// columns, and those after the next eight, left out, and its report without times the one with times with these left
+/// out. Does nothing: its body names the laws that carry it.
 pub fn report_column_laws()
     ensures columns { PlainReportIsCut }
     ensures times { UntimedReportIsCut }
 {
+    alert_book::book_laws();
     book_runs::one_run_law();
     book_runs::session_laws();
     report::report_laws();

@@ -5,6 +5,8 @@ ghost use Rattle.std.specs.Prelude.{List};
 ghost use Rattle.std.specs.Prelude.{IfOk, OnErr, OnOk};
 ghost use Rattle.std.specs.Io.KnownBytes.{Appends};
 ghost use Rattle.device_ends.specs.Sink.{sink_failed, writer_of};
+ghost use Rattle.alert_book.specs.declared.book.order.Order.{Order};
+ghost use Rattle.asked_orders.specs.Asked.{orders_of_run};
 ghost use Rattle.bsc_table.specs.Record.{Record};
 ghost use Rattle.warnc_run.specs.Engine.{IsText};
 ghost use Rattle.warnc_run.specs.Network.{joined_parts, octets_of_group};
@@ -91,8 +93,9 @@ impl NetworkRun<'_> {
     fn text(&self, group: u16) -> Text
         requires text { IsText self.now.made }
         requires there { group < self.now.groups }
-        ensures { (records : List Record) → octets_of_text result self.now.slots records
-            ≡ octets_of_group self.now.made self.now.slots self.now.groups group records }
+        ensures { (orders : List Order) (records : List Record)
+            → octets_of_text result self.now.slots (orders_of_run orders records) records
+            ≡ octets_of_group self.now.made self.now.slots self.now.groups group orders records }
     {
         match self.made {
             Product::Tapes => unreachable!(),

@@ -9,6 +9,8 @@ ghost use Rattle.warnc_run.specs.Faults.{IsOfBook, IsOfRun};
 ghost use Rattle.warnc_run.specs.Made.{IsMade, IsUnmade};
 ghost use Rattle.warnc_run.specs.Products.{is_headed, octets_of, own_rows, reading_of_record};
 ghost use Rattle.warnc_run.specs.RunSteps.{octets_of_text, IsSomeBook, IsTextOf};
+ghost use Rattle.alert_book.specs.declared.book.order.Order.{Order};
+ghost use Rattle.asked_orders.specs.Asked.{orders_of_run};
 ghost use Rattle.bsc_table.specs.Record.{Record};
 ghost use Rattle.warnc_run.specs.declared.fault.RunFault.TheVariants as faults;
 
@@ -17,15 +19,16 @@ use crate::fault::RunFault;
 use crate::product::{Product, ProductFault};
 use crate::run::{Books, Run, Sessions, Workers};
 use crate::tapes::records_after;
-use alert_book::{Book, Origin};
+use alert_book::{Book, Order, Origin};
+use asked_orders::orders_of_run;
 use bsc_table::CellRecord;
 use chart::{View, chart_octets, part_octets};
 use device_ends::{Failed, Sink, Source, write_all};
 use handset::{Reading, read_tape};
 use order_desk::{Gate, Open};
 use parallel_compile::compile_all;
-use report::{Layout, ReportFault, Row, text_with};
-use std::alloc::AllocGlobal;
+use report::{BookOrders, Columns, Layout, ReportFault, Row, text_with};
+use std::alloc::{AllocGlobal, Global};
 use std::io::{Read, Write};
 use std::sync::Wait;
 use std::thread::Threads;
@@ -73,8 +76,9 @@ pub(crate) fn write_text_from<T: AllocGlobal + Threads + Wait + Sync, R: Read, W
 /// The text of a book, or of a group by itself.
 fn text_of_product(made: Product, origin: Origin) -> Text
     requires { IsText made }
-    ensures { (slots : ℕ) (records : List Record)
-        → octets_of_text result slots records ≡ octets_of made origin slots records }
+    ensures { (slots : ℕ) (orders : List Order) (records : List Record)
+        → octets_of_text result slots (orders_of_run orders records) records
+        ≡ octets_of made origin slots orders records }
 {
     match made {
         Product::Tapes => unreachable!(),
@@ -111,15 +115,37 @@ pub(crate) fn text_of_book<T: AllocGlobal + Threads + Wait + Sync, G: Gate>(
     alert_book::book_laws();
     book_runs::session_laws();
     let records = records_after(rt, &book, slots, sessions, workers, gate)?;
-    // what the book holds is free for the tapes
+    let orders = orders_for(rt.alloc(), text, book.orders(), &records)?;
+    // what else the book holds is free for the tapes
     drop(book);
-    let octets = text_of_records(rt, &records, text, slots, workers)?;
+    let octets = text_of_records(rt, &orders, &records, text, slots, workers)?;
     Ok(octets)
 }
 
-/// The text of records, by what handsets read of their tapes.
+/// The orders of a book, and which of them asked each cell of its run: none for a plain report, which names no order.
+fn orders_for(
+    alloc: Global,
+    text: Text,
+    orders: &[Order],
+    records: &[CellRecord],
+) -> Result<BookOrders, RunFault>
+    ensures ok { IfOk result (λ made. (slots : ℕ) → octets_of_text text slots made records.now
+        ≡ octets_of_text text slots (orders_of_run orders.now records.now) records.now) }
+    ensures err { IfErr result IsOfRun }
+{
+    match text {
+        Text::Report(layout, _) => match layout.columns {
+            Columns::Full => Ok(orders_of_run(alloc, orders, records)?),
+            Columns::Plain => Ok(BookOrders::none(alloc)),
+        },
+        Text::Chart(_) | Text::ChartPart(..) => Ok(orders_of_run(alloc, orders, records)?),
+    }
+}
+
+/// The text of records, by the orders that asked their cells and by what handsets read of their tapes.
 fn text_of_records<T: AllocGlobal + Threads + Wait + Sync>(
     rt: &T,
+    orders: &BookOrders,
     records: &[CellRecord],
     text: Text,
     slots: u16,
@@ -127,25 +153,34 @@ fn text_of_records<T: AllocGlobal + Threads + Wait + Sync>(
 ) -> Result<Vec<u8>, RunFault>
     requires few { length records.now ≤ max_listed }
     requires tapes { All (λ r. IsTape (tape_of_record r) (reading_of_record r)) records.now }
-    ensures ok { IfOk result (λ octets. octets.items ≡ octets_of_text text slots records.now) }
+    ensures ok { IfOk result (λ octets. octets.items ≡ octets_of_text text slots orders.now records.now) }
     ensures err { IfErr result IsOfRun }
 {
     match text {
         Text::Report(layout, headed) => {
             let rows = rows_by(rt, records, workers)?;
-            let octets = text_with(rt.alloc(), layout, headed, &rows)?;
+            let octets = text_with(rt.alloc(), layout, headed, orders, &rows)?;
             Ok(octets)
         }
         Text::Chart(view) => {
             let readings = readings_by(rt, records, workers)?;
-            match chart_octets(rt.alloc(), slots, view, records, &readings) {
+            match chart_octets(rt.alloc(), slots, view, orders, records, &readings) {
                 Ok(octets) => Ok(octets),
                 Err(fault) => Err(of_memory(fault)),
             }
         }
         Text::ChartPart(group, is_last, view) => {
             let readings = readings_by(rt, records, workers)?;
-            match part_octets(rt.alloc(), slots, group, is_last, view, records, &readings) {
+            match part_octets(
+                rt.alloc(),
+                slots,
+                group,
+                is_last,
+                view,
+                orders,
+                records,
+                &readings,
+            ) {
                 Ok(octets) => Ok(octets),
                 Err(fault) => Err(of_memory(fault)),
             }

@@ -28,7 +28,8 @@ use device_ends::memory::{MemoryReader, MemoryWriter};
 use device_ends::{Sink, Source};
 use handset::{Handset, Reading, Refused, TapeFault, read_tape};
 use report::{
-    Columns, Layout, ReportFault, Row as ReportRow, cause_words, rows, text_with, write_report,
+    AskedCell, BookOrders, Columns, Layout, NamedOrder, ReportFault, Row as ReportRow, cause_words,
+    rows, text_with, write_report,
 };
 use slot_times::Start;
 use std::alloc::{AllocError, Global};
@@ -261,6 +262,7 @@ pub struct Books {
     alloc: Global,
     pub runs: Vec<CellRecord>,
     pub readings: Vec<Reading>,
+    orders: BookOrders,
     report: String,
     told: String,
 }
@@ -272,6 +274,7 @@ impl Books {
             alloc,
             runs: Vec::new(alloc),
             readings: Vec::new(alloc),
+            orders: BookOrders::none(alloc),
             report: String::new(alloc),
             told: String::new(alloc),
         }
@@ -299,6 +302,31 @@ impl Books {
     /// The rows of the runs and their readings.
     fn rows(&self) -> Result<Vec<ReportRow>, ReportFault> {
         rows(self.alloc, &self.runs, &self.readings)
+    }
+
+    /// `named ROW NAME` adds an order of the book.
+    fn add_order(&mut self, words: &mut Words) -> Result<(), Fail> {
+        let row = words.word().parse::<u32>()?;
+        let name = String::from_str(self.alloc, words.word())?;
+        self.orders.named.push(NamedOrder { row, name })?;
+        Ok(())
+    }
+
+    /// `asked CI PLACE..` says which orders asked a cell.
+    fn add_asked(&mut self, words: &mut Words) -> Result<(), Fail> {
+        let cell = Cell {
+            lac: 1,
+            ci: words.number16()?,
+        };
+        let mut places = Vec::new(self.alloc);
+        loop {
+            match words.word() {
+                "" => break,
+                place => places.push(place.parse::<usize>()?)?,
+            }
+        }
+        self.orders.asked.push(AskedCell { cell, places })?;
+        Ok(())
     }
 
     /// `rows` tells how many rows there are, and `row PLACE` the row of a place; or why there are none.
@@ -347,7 +375,8 @@ impl Books {
         headed: bool,
     ) -> Result<(), Fail> {
         let rows = self.rows()?;
-        let octets = text_with(self.alloc, Layout { columns, start }, headed, &rows)?;
+        let layout = Layout { columns, start };
+        let octets = text_with(self.alloc, layout, headed, &self.orders, &rows)?;
         let text = String::from_utf8_lossy(self.alloc, &octets)?;
         for line in text.split('\n') {
             write!(self.told, "|{line}")?;
@@ -382,7 +411,10 @@ impl Books {
             "forget" => {
                 self.runs.clear();
                 self.readings.clear();
+                self.orders = BookOrders::none(self.alloc);
             }
+            "named" => self.add_order(&mut Words::of(rest))?,
+            "asked" => self.add_asked(&mut Words::of(rest))?,
             "read" => self.read()?,
             "swap" => self.readings.reverse(),
             "drop-reading" => self

@@ -3,7 +3,7 @@
 use crate::of_report::books::{Books, expect_each};
 use crate::of_report::tables::TWO_CELLS;
 use device_ends::Sink;
-use report::{Columns, Layout, ReportFault, Row, rows, text_with, write_report};
+use report::{BookOrders, Columns, Layout, ReportFault, Row, rows, text_with, write_report};
 use slot_times::Start;
 use std::alloc::{AllocError, Global};
 use std::process::Abort;
@@ -105,7 +105,7 @@ fn text_of(
     if let Some(blocks) = blocks {
         room.leave(alloc, blocks);
     }
-    let made = text_with(alloc, layout, true, rows);
+    let made = text_with(alloc, layout, true, &BookOrders::none(alloc), rows);
     room.end();
     Ok(made?.len())
 }
@@ -136,9 +136,9 @@ fn refused_texts(
 fn refused_full_reports(alloc: Global, rows: &[Row], room: &mut Room) -> Result<u16, Fail> {
     let columns = Columns::Full;
     let start = None;
-    let untimed = refused_texts(alloc, Layout { columns, start }, 250, rows, room)?;
+    let untimed = refused_texts(alloc, Layout { columns, start }, 269, rows, room)?;
     let start = Start::new(1795977000000000);
-    let timed = refused_texts(alloc, Layout { columns, start }, 662, rows, room)?;
+    let timed = refused_texts(alloc, Layout { columns, start }, 681, rows, room)?;
     Ok(untimed.min(timed))
 }
 

@@ -24,8 +24,8 @@ report -> whole|lac,ci,id,serial,start,end,completed,shown|1,1,4370,0010,0,1,1,y
     |1,2,4370,0010,0,1,1,yes|1,2,4371,0020,0,4,2,yes|1,2,4370,0011,2,4,1,yes|
 rows -> 5
 # serial number 17 is 0011
-row 4 -> Row { lac: 1, ci: 2, id: 4370, serial: Serial { number: 17 }, start: 2, end: 4, completed: 1, shown: Yes, \
-    first_shown: Some(3), demand: Some(Demand { pages: 1, period: 2, share: 50 }) }
+row 4 -> Row { entry: 2, lac: 1, ci: 2, id: 4370, serial: Serial { number: 17 }, start: 2, end: 4, completed: 1, \
+    shown: Yes, first_shown: Some(3), demand: Some(Demand { pages: 1, period: 2, share: 50 }) }
 
 # the report has 163 octets
 writer 10 0 -> WriteFailed, then WriteFailed: 0
@@ -172,7 +172,7 @@ heard -> no more
 const FULL: &str = "
 # no cells
 read
-full -> |lac,ci,id,serial,start,end,completed,shown,first_shown,pages,period,share,cause|
+full -> |row,name,lac,ci,id,serial,start,end,completed,shown,first_shown,pages,period,share,cause|
 full-part -> |
 
 # of two messages with the same due slot that of the lesser number comes first, so the last one comes in slot 3
@@ -183,11 +183,21 @@ cell 2 4; write 4370 0010 - 1 2 0; write 4371 0020 - 1 2 0; play 1; write 4370 0
     Started { slot: 0 }; Started { slot: 0 }; 0..1; Replaced { slot: 2, completed: 1 }
 heard -> block 4 of slot 0: 4370 0010, block 4 of slot 1: 4371 0020, block 4 of slot 3: 4370 0011, no more
 read
-full -> |lac,ci,id,serial,start,end,completed,shown,first_shown,pages,period,share,cause\
-    |1,1,4370,0010,0,1,1,yes,0,1,2,50,|1,1,4370,0011,1,4,2,yes,1,1,2,50,\
-    |1,2,4370,0010,0,1,1,yes,0,1,2,50,|1,2,4371,0020,0,4,2,yes,1,1,2,50,|1,2,4370,0011,2,4,1,yes,3,1,2,50,|
-full-part -> |1,1,4370,0010,0,1,1,yes,0,1,2,50,|1,1,4370,0011,1,4,2,yes,1,1,2,50,\
-    |1,2,4370,0010,0,1,1,yes,0,1,2,50,|1,2,4371,0020,0,4,2,yes,1,1,2,50,|1,2,4370,0011,2,4,1,yes,3,1,2,50,|
+full -> |row,name,lac,ci,id,serial,start,end,completed,shown,first_shown,pages,period,share,cause\
+    |,,1,1,4370,0010,0,1,1,yes,0,1,2,50,|,,1,1,4370,0011,1,4,2,yes,1,1,2,50,\
+    |,,1,2,4370,0010,0,1,1,yes,0,1,2,50,|,,1,2,4371,0020,0,4,2,yes,1,1,2,50,|,,1,2,4370,0011,2,4,1,yes,3,1,2,50,|
+full-part -> |,,1,1,4370,0010,0,1,1,yes,0,1,2,50,|,,1,1,4370,0011,1,4,2,yes,1,1,2,50,\
+    |,,1,2,4370,0010,0,1,1,yes,0,1,2,50,|,,1,2,4371,0020,0,4,2,yes,1,1,2,50,|,,1,2,4370,0011,2,4,1,yes,3,1,2,50,|
+# each row is of the order at its entry's place, in its cell; a name is quoted as CSV has it
+named 3 fire
+named 4 a"b,c
+named 70000 flood
+asked 1 0 2
+asked 2 0 1
+asked 2 2 2 2
+full-part -> |3,fire,1,1,4370,0010,0,1,1,yes,0,1,2,50,|70000,flood,1,1,4370,0011,1,4,2,yes,1,1,2,50,\
+    |3,fire,1,2,4370,0010,0,1,1,yes,0,1,2,50,|4,"a""b,c",1,2,4371,0020,0,4,2,yes,1,1,2,50,\
+    |,,1,2,4370,0011,2,4,1,yes,3,1,2,50,|
 forget
 
 # refused writes have their pages and their share, which is rounded up; refused kills have none
@@ -196,12 +206,12 @@ cell 1 8; kill 4370 0010; write 4370 0010 - 1 3 0; write 4371 0010 - 1 4 0; writ
     Started { slot: 0 }; Started { slot: 0 }; Started { slot: 0 }; 0..3; Stopped { completed: 1 }; 3..4; \
     cause 02; cause 0d; 4..8; cause 0a
 read
-full -> |lac,ci,id,serial,start,end,completed,shown,first_shown,pages,period,share,cause\
-    |1,1,4370,0010,0,0,0,refused 02,,,,,message reference not identified\
-    |1,1,4370,0010,0,3,1,yes,0,1,3,34,|1,1,4371,0010,0,8,2,yes,1,1,4,25,|1,1,4370,0020,0,8,2,yes,2,1,4,25,\
-    |1,1,4370,0010,4,4,0,refused 02,,,,,message reference not identified\
-    |1,1,4370,0010,4,4,0,refused 0d,,2,3,67,message reference already used\
-    |1,1,4371,0010,8,8,0,refused 0a,,,,,cell broadcast not operational|
+full -> |row,name,lac,ci,id,serial,start,end,completed,shown,first_shown,pages,period,share,cause\
+    |,,1,1,4370,0010,0,0,0,refused 02,,,,,message reference not identified\
+    |,,1,1,4370,0010,0,3,1,yes,0,1,3,34,|,,1,1,4371,0010,0,8,2,yes,1,1,4,25,|,,1,1,4370,0020,0,8,2,yes,2,1,4,25,\
+    |,,1,1,4370,0010,4,4,0,refused 02,,,,,message reference not identified\
+    |,,1,1,4370,0010,4,4,0,refused 0d,,2,3,67,message reference already used\
+    |,,1,1,4371,0010,8,8,0,refused 0a,,,,,cell broadcast not operational|
 forget
 
 # a message of which no broadcast is whole is shown after no slot; one of two pages after the slot of its second page
@@ -209,7 +219,7 @@ cell 1 8; write 4370 0001 - 2 4 0; write 4370 0002 - 2 4 0; play 1; write 4370 0
     kill 4370 0003 -> Started { slot: 0 }; Started { slot: 0 }; 0..1; Replaced { slot: 4, completed: 0 }; 1..3; \
     Stopped { completed: 0 }
 read
-full-part -> |1,1,4370,0001,0,1,0,no,,2,4,50,|1,1,4370,0002,0,8,2,yes,2,2,4,50,|1,1,4370,0003,4,3,0,no,,2,4,50,|
+full-part -> |,,1,1,4370,0001,0,1,0,no,,2,4,50,|,,1,1,4370,0002,0,8,2,yes,2,2,4,50,|,,1,1,4370,0003,4,3,0,no,,2,4,50,|
 forget
 
 # no room; background messages reserve nothing, and are shown late
@@ -217,14 +227,14 @@ cell 1 8; write 4370 0010 - 1 1 0; write 4371 0021 - 2 1 0; background 4371 0020
     Started { slot: 0 }; cause 06; Started { slot: 0 }; 0..3; Stopped { completed: 3 }
 heard -> block 4 of slot 0: 4370 0010, block 4 of slot 5: 4371 0020, no more
 read
-full-part -> |1,1,4370,0010,0,3,3,yes,0,1,1,100,|1,1,4371,0021,0,0,0,refused 06,,2,1,200,BSC capacity exceeded\
-    |1,1,4371,0020,0,8,1,yes,5,2,4,0,|
+full-part -> |,,1,1,4370,0010,0,3,3,yes,0,1,1,100,|,,1,1,4371,0021,0,0,0,refused 06,,2,1,200,BSC capacity exceeded\
+    |,,1,1,4371,0020,0,8,1,yes,5,2,4,0,|
 forget
 
 # the least share, and the most slots: the first broadcast of one whose period is the longest comes late
 cell 1 65535; write 4370 0010 - 1 1024 1 -> Started { slot: 0 }
 read
-full-part -> |1,1,4370,0010,0,1024,1,yes,0,1,1024,1,|
+full-part -> |,,1,1,4370,0010,0,1024,1,yes,0,1,1024,1,|
 ";
 
 /// Reports with times, from Python's datetime and fractions: of cells that begin at 2026-11-29T18:30:00Z, and at the
@@ -234,7 +244,7 @@ const TIMES: &str = "
 read
 times 0 -> |lac,ci,id,serial,start,end,completed,shown,start_time,end_time|
 full-times 0 -> \
-    |lac,ci,id,serial,start,end,completed,shown,first_shown,pages,period,share,cause,start_time,end_time,\
+    |row,name,lac,ci,id,serial,start,end,completed,shown,first_shown,pages,period,share,cause,start_time,end_time,\
     first_shown_time\
     |
 times-part 0 -> |
@@ -254,12 +264,14 @@ times 1795977000000000 -> |lac,ci,id,serial,start,end,completed,shown,start_time
     |1,2,4370,0010,0,1,1,yes,2026-11-29T18:30:00.000Z,2026-11-29T18:30:01.883Z\
     |1,2,4371,0020,0,4,2,yes,2026-11-29T18:30:00.000Z,2026-11-29T18:30:07.532Z\
     |1,2,4370,0011,2,4,1,yes,2026-11-29T18:30:03.766Z,2026-11-29T18:30:07.532Z|
+named 2 fire
+asked 1 0 7
 full-times-part 1795977000000000 -> \
-    |1,1,4370,0010,0,1,1,yes,0,1,2,50,,2026-11-29T18:30:00.000Z,2026-11-29T18:30:01.883Z,2026-11-29T18:30:01.883Z\
-    |1,1,4370,0011,1,4,2,yes,1,1,2,50,,2026-11-29T18:30:01.883Z,2026-11-29T18:30:07.532Z,2026-11-29T18:30:03.766Z\
-    |1,2,4370,0010,0,1,1,yes,0,1,2,50,,2026-11-29T18:30:00.000Z,2026-11-29T18:30:01.883Z,2026-11-29T18:30:01.883Z\
-    |1,2,4371,0020,0,4,2,yes,1,1,2,50,,2026-11-29T18:30:00.000Z,2026-11-29T18:30:07.532Z,2026-11-29T18:30:03.766Z\
-    |1,2,4370,0011,2,4,1,yes,3,1,2,50,,2026-11-29T18:30:03.766Z,2026-11-29T18:30:07.532Z,2026-11-29T18:30:07.532Z|
+    |2,fire,1,1,4370,0010,0,1,1,yes,0,1,2,50,,2026-11-29T18:30:00.000Z,2026-11-29T18:30:01.883Z,2026-11-29T18:30:01.883Z\
+    |,,1,1,4370,0011,1,4,2,yes,1,1,2,50,,2026-11-29T18:30:01.883Z,2026-11-29T18:30:07.532Z,2026-11-29T18:30:03.766Z\
+    |,,1,2,4370,0010,0,1,1,yes,0,1,2,50,,2026-11-29T18:30:00.000Z,2026-11-29T18:30:01.883Z,2026-11-29T18:30:01.883Z\
+    |,,1,2,4371,0020,0,4,2,yes,1,1,2,50,,2026-11-29T18:30:00.000Z,2026-11-29T18:30:07.532Z,2026-11-29T18:30:03.766Z\
+    |,,1,2,4370,0011,2,4,1,yes,3,1,2,50,,2026-11-29T18:30:03.766Z,2026-11-29T18:30:07.532Z,2026-11-29T18:30:07.532Z|
 times-part 1709164799999999 -> |1,1,4370,0010,0,1,1,yes,2024-02-28T23:59:59.999Z,2024-02-29T00:00:01.883Z\
     |1,1,4370,0011,1,4,2,yes,2024-02-29T00:00:01.883Z,2024-02-29T00:00:07.532Z\
     |1,2,4370,0010,0,1,1,yes,2024-02-28T23:59:59.999Z,2024-02-29T00:00:01.883Z\
@@ -272,11 +284,11 @@ cell 1 2; write 4370 0001 - 2 4 0; write 4370 0002 - 2 4 0; play 1; write 4370 0
     Started { slot: 0 }; Started { slot: 0 }; 0..1; Replaced { slot: 4, completed: 0 }
 read
 full-times 1795977000000000 -> \
-    |lac,ci,id,serial,start,end,completed,shown,first_shown,pages,period,share,cause,start_time,end_time,\
+    |row,name,lac,ci,id,serial,start,end,completed,shown,first_shown,pages,period,share,cause,start_time,end_time,\
     first_shown_time\
-    |1,1,4370,0001,0,1,0,no,,2,4,50,,2026-11-29T18:30:00.000Z,2026-11-29T18:30:01.883Z,\
-    |1,1,4370,0002,0,2,0,no,,2,4,50,,2026-11-29T18:30:00.000Z,2026-11-29T18:30:03.766Z,\
-    |1,1,4370,0003,4,2,0,no,,2,4,50,,2026-11-29T18:30:07.532Z,2026-11-29T18:30:03.766Z,|
+    |,,1,1,4370,0001,0,1,0,no,,2,4,50,,2026-11-29T18:30:00.000Z,2026-11-29T18:30:01.883Z,\
+    |,,1,1,4370,0002,0,2,0,no,,2,4,50,,2026-11-29T18:30:00.000Z,2026-11-29T18:30:03.766Z,\
+    |,,1,1,4370,0003,4,2,0,no,,2,4,50,,2026-11-29T18:30:07.532Z,2026-11-29T18:30:03.766Z,|
 times-part 1795977000000000 -> |1,1,4370,0001,0,1,0,no,2026-11-29T18:30:00.000Z,2026-11-29T18:30:01.883Z\
     |1,1,4370,0002,0,2,0,no,2026-11-29T18:30:00.000Z,2026-11-29T18:30:03.766Z\
     |1,1,4370,0003,4,2,0,no,2026-11-29T18:30:07.532Z,2026-11-29T18:30:03.766Z|
@@ -286,7 +298,7 @@ forget
 cell 1 3; play 2; kill 4370 0010 -> 0..2; cause 02
 read
 full-times-part 1795977000000000 -> \
-    |1,1,4370,0010,2,2,0,refused 02,,,,,message reference not identified,2026-11-29T18:30:03.766Z,\
+    |,,1,1,4370,0010,2,2,0,refused 02,,,,,message reference not identified,2026-11-29T18:30:03.766Z,\
     2026-11-29T18:30:03.766Z,\
     |
 times-part 1795977000000000 -> |1,1,4370,0010,2,2,0,refused 02,2026-11-29T18:30:03.766Z,2026-11-29T18:30:03.766Z|
@@ -296,7 +308,7 @@ forget
 cell 1 65535; write 4370 0010 - 1 1024 0 -> Started { slot: 0 }
 read
 full-times-part 4291747199999999 -> \
-    |1,1,4370,0010,0,65535,64,yes,0,1,1024,1,,2105-12-31T23:59:59.999Z,2106-01-02T10:16:47.446Z,\
+    |,,1,1,4370,0010,0,65535,64,yes,0,1,1024,1,,2105-12-31T23:59:59.999Z,2106-01-02T10:16:47.446Z,\
     2106-01-01T00:00:01.883Z\
     |
 ";

@@ -7,6 +7,6 @@ use Rattle.report.proofs.output.timed_text_of.Goals as goal
 pub loop-row-preserved : goal.loop-row-preserved
 loop-row-preserved c =
     subst (λ (xs : List ℕ). IsTable c.push_timed.new.self xs)
-    (flat_map-next (timed_line c.args.columns c.args.start) c.args.rows.now c.loop-row.row-index c.row-item.result
-    (timed_heading c.args.columns c.args.headed) (omega arith) c.row-item.is)
+    (flat_map-next (timed_line c.args.columns c.args.start c.args.orders.now) c.args.rows.now c.loop-row.row-index
+    c.row-item.result (timed_heading c.args.columns c.args.headed) (omega arith) c.row-item.is)
     (c.in_ok-push_timed.ensures _ c.loop-row.invariant)

@@ -4,4 +4,4 @@ use Rattle.report.specs.TextSteps.{IsTable}
 use Rattle.report.proofs.output.timed_text_of.Given as goal
 
 abbrev pub invariant-loop-row : goal.invariant-loop-row
-invariant-loop-row l = IsTable l.table (timed_part_text l.columns l.start l.headed (take l.row-index l.rows))
+invariant-loop-row l = IsTable l.table (timed_part_text l.columns l.start l.headed l.orders (take l.row-index l.rows))

@@ -7,4 +7,5 @@ returns-clause-columns c =
 
 pub returns-clause-times : goal.returns-clause-times
 returns-clause-times c =
-    untimed_is_cut c.one_run_law.ensures c.session_laws.ensures.one c.report_laws.ensures.times
+    untimed_is_cut c.book_laws.ensures.one_book c.one_run_law.ensures c.session_laws.ensures.one
+    c.report_laws.ensures.times

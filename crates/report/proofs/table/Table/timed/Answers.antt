@@ -6,8 +6,8 @@ use Rattle.report.proofs.table.Table.timed.Goals as goal
 pub returns : goal.returns
 returns c =
     let headed : c.args.headed ≡ true = search (rules, c.if-not-headed.false) in
-    λ start.
+    λ start orders.
     subst (λ (xs : List ℕ). IsTable c.push_timed_names.new.self xs)
-    (sym (ap (λ (b : Bool). timed_part_text c.args.columns start b []) headed
+    (sym (ap (λ (b : Bool). timed_part_text c.args.columns start b orders []) headed
     ∙ append-nil (timed_header_line c.args.columns)))
     (c.in_ok-push_timed_names.ensures [] c.empty-table.ensures)

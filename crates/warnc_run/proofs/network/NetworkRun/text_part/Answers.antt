@@ -10,6 +10,7 @@ text_of_book-requires-clause-book g c κs within =
     a_book c.args.group read.0 c.in_ok-book.book (c.in_ok-book.ensures read.0 read.1)
 
 pub returns : goal.returns
+unfolding run_of_book
 returns g c = record {
   made = λ input means.
       let is = c.in_ok-octets.ensures.ok in
@@ -20,7 +21,7 @@ returns g c = record {
               c.legal_histories.ensures.legal_histories_are_served (origin.Group c.args.group) input
               c.in_ok-book.book network.slots network.sessions.number is.records network.few_slots
               (c.in_ok-book.ensures input means) is.live;
-          written = is.made_of ∙ c.text-text.ensures is.records;
+          written = is.made_of ∙ c.text-text.ensures c.in_ok-book.book.orders is.records;
         },
         tt,
       );

@@ -1,0 +1,5 @@
+pub mod Naming
+pub mod Exchange
+pub mod Rows
+pub mod Text
+pub mod Steps

@@ -1,0 +1,3 @@
+pub mod Types
+pub mod Octets
+pub mod Following
