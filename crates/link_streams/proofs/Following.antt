@@ -24,11 +24,13 @@ use Rattle.link_streams.specs.declared.streams.LinkStreams.{LinkStreams}
 
 -- A packet
 
+-- of a link type that isn't known
 pub not_linked : (known : Followed) (packet : Packet) → link_numbered packet.link ≡ None →
     follow known packet ≡ Err (kind.OtherLink packet.link)
 unfolding follow
 not_linked known packet none = ap (after_link known packet) none
 
+-- of one that is known
 pub follows : (known : Followed) (packet : Packet) (link : Link) (segment : Option Segment) →
     link_numbered packet.link ≡ Some link → segment_in link packet.octets ≡ segment →
     follow known packet ≡ Ok (after_carrying packet.time known segment)
@@ -67,7 +69,8 @@ pub none_followed : (directions : List Direction) (messages : List LinkPacket) �
 unfolding taken
 none_followed directions messages no_directions no_messages =
     ap Ok
-    (ap (λ (it : List Direction). let known : Followed = record { packets = 0; directions = it; messages = [] } in known)
+    (ap (λ (it : List Direction). let known : Followed =
+    record { packets = 0; directions = it; messages = [] } in known)
     (sym no_directions)
     ∙ ap (λ (it : List LinkPacket). let known : Followed =
     record { packets = 0; directions = directions; messages = it } in known)

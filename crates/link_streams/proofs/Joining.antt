@@ -176,6 +176,7 @@ waiting_later first offset later (part ∷ rest) f near after few =
           (not_past first later part f near.0 (omega (arith, back, after)) few)))
     ]
 
+-- no more wait than came
 pub few_waiting : (test : Waiting → Bool) (parts : List Waiting) → length (filter test parts) ≤ length parts
 few_waiting test [] = omega arith
 few_waiting test (part ∷ rest) = elim (cases_Bool (test part)) [
@@ -183,6 +184,7 @@ few_waiting test (part ∷ rest) = elim (cases_Bool (test part)) [
   | inr isnt ↦ rw isnt (omega (arith, few_waiting test rest))
 ]
 
+-- what is near stays near with more that is
 pub near_both : (first : ℕ) (parts more : List Waiting) → AllByRecursion (IsNear first) parts →
     AllByRecursion (IsNear first) more → AllByRecursion (IsNear first) (parts ++ more)
 near_both first [] more near too = too

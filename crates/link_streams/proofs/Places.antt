@@ -17,9 +17,11 @@ at first offset = (first + offset) % 4294967296
 abbrev pub end_of : (first : ℕ) → Waiting → ℕ
 end_of first part = distance first part.first + length part.octets
 
+-- the next place
 pub at_next : (first offset : ℕ) → sequence_after (at first offset) 1 ≡ at first (offset + 1)
 at_next first offset = omega arith
 
+-- the place so many octets later
 pub at_later : (first offset count : ℕ) → sequence_after (at first offset) count ≡ at first (offset + count)
 at_later first offset count = omega arith
 
@@ -51,6 +53,7 @@ behind first place offset size f p before few = elim (cases_lt (distance first p
   | inr same ↦ inl (omega (arith, f, p, before, same))
 ]
 
+-- a part that ends after those octets has one
 pub past : (first offset : ℕ) (part : Waiting) → first < 4294967296 → IsNear first part → offset < end_of first part →
     is_past (at first offset) part ≡ true
 past first offset part f near after =
@@ -61,6 +64,7 @@ past first offset part f near after =
     ap (λ b. b && nat_lt far 2147483648) (lt-ltb 0 far (omega (arith, is, after)))
     ∙ lt-ltb far 2147483648 (omega (arith, is, near.near))
 
+-- and one that ends before or with them has none
 pub not_past : (first offset : ℕ) (part : Waiting) → first < 4294967296 → IsNear first part →
     end_of first part ≤ offset → offset < 67108864 → is_past (at first offset) part ≡ false
 not_past first offset part f near before few =

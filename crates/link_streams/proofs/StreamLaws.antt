@@ -260,6 +260,7 @@ after_each_one (one ∷ rest) first parts offset stream known f near all few is 
     ∙ ap (λ (it : List Waiting). octets_from most_octets it (at first 0))
     (append_assoc parts (one.part ∷ []) (parts_of rest))
 
+-- whatever order they came in, and however they were cut
 pub stream_is_what_came_first : StreamIsWhatCameFirst
 stream_is_what_came_first segment came few near =
     let first : ℕ = first_place segment in
