@@ -267,7 +267,7 @@ only (x ∷ []) count = (x, refl)
 only (x ∷ (y ∷ rest)) count = absurd (omega (arith, count))
 
 -- the records of a run of the book whose octets were read
-pub run_of_book : LiveRunsShowTheBook → LiveRunsAcceptWhatWasOrdered → LegalHistoriesAreServed
+unfoldable pub run_of_book : LiveRunsShowTheBook → LiveRunsAcceptWhatWasOrdered → LegalHistoriesAreServed
     → (from : Origin) (input : List ℕ) (book : Contents) (slots parts : ℕ) (records : List Record)
     → slots ≤ 65535
     → IsBookFrom from input book
