@@ -151,6 +151,7 @@ others-within slots asked before (page ∷ rest) all =
     (omega (arith, all.0), tt))
     (others-within slots asked (before ++ page ∷ []) rest all.1)
 
+-- so each difference is at a slot of the run, or of the tape
 pub differences-are-within : DifferencesAreWithin
 differences-are-within r blocks found slots few short are =
     let asked : List AskedMessage = asked_of_log r.log in
