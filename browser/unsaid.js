@@ -1,6 +1,6 @@
 // In a worker: what the page shows and the program doesn't say yet. In how many cells an order's message is shown, or
-// never is; texts with spaces at an end, and orders of all cells with cells after them; the load as numbers, the text of
-// each page, and which page is on the channel in a slot. All of it is read of the program's report, chart and tapes
+// never is; texts with spaces at an end, and orders of all cells with cells after them; the load as numbers, the text
+// of each page, and which page is on the channel in a slot. All of it is read of the program's report, chart and tapes
 // (docs/formats.md).
 const SLOT_OCTETS = 92, HEADER_OCTETS = 8, FIRST_BLOCK = 0x20;
 

@@ -302,7 +302,8 @@ def expected(rows, shown, asked, slots):
             first = int(row["first_shown"]) + 1 if row["first_shown"] else None
             whole = int(row["completed"])
             line = (title, (start, max(0, end - start)), pace_of(row),
-                    (has_marks(int(row["period"]), whole, slots), whole), first, text, row["shown"] == "yes", row["name"])
+                    (has_marks(int(row["period"]), whole, slots), whole), first, text, row["shown"] == "yes",
+                    row["name"])
         cells.setdefault(cell, []).append(line)
     return cells
 

@@ -7,7 +7,7 @@ Usage: streams_reference.py [RUNS [SEED]]      200 random captures, if no number
 
 Each random capture has links whose messages are cut into segments anywhere, swapped, repeated with the same and with
 other octets, overlapping, with gaps, begun in the middle and begun again, with sequence numbers that go round. They
-become rows of the crate's tests, which run unproved in a copy, and so take the libraries that `rt lib` built.
+become rows of the crate's tests, which run unproved in a copy.
 """
 import collections
 import os
@@ -296,11 +296,11 @@ def test_of(tables):
     return "".join(source)
 
 
-def crates_below(name):
-    """Returns the crates of the repository that a crate stands on, and itself, as lines of crates.txt."""
+def crates_below(names):
+    """Returns these crates of the repository and those that they stand on, as lines of crates.txt."""
     with open(os.path.join(TOP, "crates.txt"), encoding="utf-8") as it:
         lines = {line.split(":")[0].split()[0]: line for line in it if re.match(r"\w+.*:", line)}
-    found, left = {}, [name]
+    found, left = {}, list(names)
     while left:
         one = left.pop()
         if one in lines and one not in found:
@@ -311,9 +311,12 @@ def crates_below(name):
 
 def run_rows(folder, tables):
     """Runs rows as tests of a copy of recording_tests, and returns whether all hold."""
-    lines = crates_below("recording_tests")
+    needs = ["gsmtap", "link_streams", "test_support"]
+    lines = crates_below(needs)
+    lines["recording_tests"] = f"recording_tests: {' '.join(needs)}\n"
     for crate in lines:
-        shutil.copytree(os.path.join(TOP, "crates", crate), os.path.join(folder, "crates", crate))
+        shutil.copytree(os.path.join(TOP, "crates", crate), os.path.join(folder, "crates", crate),
+                        ignore=shutil.ignore_patterns("out"))
     shutil.copy(os.path.join(TOP, "HANDLES"), folder)
     with open(os.path.join(folder, "crates.txt"), "w", encoding="utf-8") as it:
         it.writelines(lines.values())

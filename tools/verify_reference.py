@@ -304,7 +304,8 @@ def differs(program, seed):
     wanted = table, faults, status
     is_kept = seed % 3 or is_short or is_moved or not count
     is_same = (said.stdout.decode(), said.stderr.decode(), said.returncode) == wanted
-    found = [(list(csv.reader(io.StringIO(it.stdout.decode()))), it.stderr.decode(), it.returncode) for it in with_times]
+    found = [(list(csv.reader(io.StringIO(it.stdout.decode()))), it.stderr.decode(), it.returncode)
+             for it in with_times]
     are_timed = found == [(timed(it, start), faults, status) for it in (table, explained)]
     if is_same and is_kept and are_timed and shifts_in(explained) == shifts:
         return False

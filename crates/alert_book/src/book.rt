@@ -65,14 +65,14 @@ impl Book {
     }
 
     /// The orders that its rows give, in their order.
-    pub fn orders(&self) -> &[Order]
+    pub fn given(&self) -> &[Order]
         ensures { result.now ≡ self.now.orders }
     {
         &self.orders[..]
     }
 
     /// The same, and what the book keeps of them.
-    pub(crate) fn sendable_orders(&self) -> &[Order]
+    pub(crate) fn orders(&self) -> &[Order]
         ensures orders { result.now ≡ self.now.orders }
         ensures sendable { All IsSendable result.now }
         ensures paged { length self.now.pages ≡ length result.now }

@@ -259,7 +259,7 @@ fn next_requests(
     ensures { IfOk result (λ found. next_requests (live_by live.now) (orders_from book.now part parts from)
         ≡ (found.requests.items, orders_from book.now part parts found.place)) }
 {
-    let orders = book.sendable_orders();
+    let orders = book.orders();
     let pages = book.pages();
     for place in from..orders.len() {
         let requests = requests_in(alloc, live, &orders[place], &pages[place], part, parts)?;

@@ -1,16 +1,15 @@
 -- Lists of places: what is added to them, and what is looked for in lists that are seen otherwise.
-use Rattle.std.proofs.Common.{◌≡◌, ◌<◌, ◌≤◌, ◌+◌, ◌∙◌, ℕ, suc, Bool, true, false, cond, not, List, [], ◌∷◌, ◌++◌}
-use Rattle.std.proofs.Common.{Option, Some, None, length, get_or, take, drop, set, refl, sym, ap, arith, inl, inr, map}
+use Rattle.std.proofs.Common.{◌≡◌, ◌<◌, ◌≤◌, ◌+◌, ◌∙◌, ℕ, suc, Bool, cond, not, List, [], ◌∷◌, ◌++◌}
+use Rattle.std.proofs.Common.{Option, Some, None, length, take, drop, refl, sym, ap, arith, inl, inr, map}
 use Rattle.std.proofs.Common.{⊎_elim, append-nil}
-use Rattle.std.specs.Prelude.{position, remove, is_none, filter_map, option_map}
+use Rattle.std.specs.Prelude.{position, remove, is_none, option_map}
 use Rattle.std.specs.List.{position_or_len}
 use Rattle.std.proofs.lemmas.Bool.{cases_lt, cases_Bool}
-use Rattle.std.proofs.lemmas.List.{take-map, drop-map, length-map, map-append}
+use Rattle.std.proofs.lemmas.List.{take-map, drop-map, map-append}
 use Rattle.std.proofs.lemmas.List.Elements.{filter_map-append}
-use Rattle.std.proofs.lemmas.List.Sums.{prefix_len-le-length}
-use Rattle.cell_orders.specs.Exchange.{Exchange}
+use Rattle.cell_orders.specs.Exchange.{LinkExchange}
 use Rattle.cell_orders.specs.declared.heard.Heard.{Heard}
-use Rattle.cell_orders.specs.declared.exchange.Held.{Held}
+use Rattle.cell_orders.specs.declared.exchange.HeldExchange.{HeldExchange}
 use Rattle.cell_orders.specs.Steps.{Wait, wait_at, waits, standing, exchange_of, places_of}
 
 -- the place of the first that passes a test
@@ -18,6 +17,7 @@ pub place_some : {X : Type 0} (p : X → Bool) (xs : List X) (n : ℕ) → posit
     → n ≡ position_or_len p xs
 place_some p xs n e = grind arith
 
+-- it is a place of the list
 pub place_within : {X : Type 0} (p : X → Bool) (xs : List X) (n : ℕ) → position p xs ≡ Some n → n < length xs
 place_within p xs n e = grind arith
 
@@ -42,17 +42,18 @@ remove_seen see xs i =
     ∙ ap (λ ys. take i (map see xs) ++ ys) (sym (drop-map see (suc i) xs))
 
 -- one place more
-pub standing_push : (places : List (Option Exchange)) (e : Exchange)
+pub standing_push : (places : List (Option LinkExchange)) (e : LinkExchange)
     → standing (places ++ Some e ∷ []) ≡ standing places ++ e ∷ []
-standing_push places e = filter_map-append (λ (place : Option Exchange). place) places (Some e ∷ [])
+standing_push places e = filter_map-append (λ (place : Option LinkExchange). place) places (Some e ∷ [])
 
-wait_at-append : (n : ℕ) (e : Exchange) (xs ys : List Wait) → wait_at n e (xs ++ ys) ≡ wait_at n e xs ++ ys
+wait_at-append : (n : ℕ) (e : LinkExchange) (xs ys : List Wait) → wait_at n e (xs ++ ys) ≡ wait_at n e xs ++ ys
 wait_at-append n e xs ys = elim (cases_Bool (is_none e.answer)) [
   | inl waits ↦ rw waits refl
   | inr answered ↦ rw answered refl
 ]
 
-pub waits_push : (n : ℕ) (places : List (Option Exchange)) (e : Exchange)
+-- what waits in one place more
+pub waits_push : (n : ℕ) (places : List (Option LinkExchange)) (e : LinkExchange)
     → waits n (places ++ Some e ∷ []) ≡ waits n places ++ wait_at (n + length places) e []
 waits_push n [] e = let same : n ≡ n + 0 = omega arith in ap (λ m. wait_at m e []) same
 waits_push n (None ∷ places) e =
@@ -65,28 +66,29 @@ waits_push n (Some other ∷ places) e =
     ∙ wait_at-append n other (waits (suc n) places) (wait_at (n + suc (length places)) e [])
 
 -- what is held of one place more
-pub places_more : (held new : List (Option Held)) (x : Held) → new ≡ held ++ Some x ∷ []
+pub places_more : (held new : List (Option HeldExchange)) (x : HeldExchange) → new ≡ held ++ Some x ∷ []
     → places_of new ≡ places_of held ++ Some (exchange_of x) ∷ []
 places_more held new x is = ap places_of is ∙ map-append (option_map exchange_of) held (Some x ∷ [])
 
-pub standing_more : (places new : List (Option Exchange)) (e : Exchange) → new ≡ places ++ Some e ∷ []
+-- what stands in it
+pub standing_more : (places new : List (Option LinkExchange)) (e : LinkExchange) → new ≡ places ++ Some e ∷ []
     → standing new ≡ standing places ++ e ∷ []
 standing_more places new e is = ap standing is ∙ standing_push places e
 
 -- what has an answer doesn't wait
-pub answered_more : (waiting : List Wait) (places new : List (Option Exchange)) (o a : Heard)
+pub answered_more : (waiting : List Wait) (places new : List (Option LinkExchange)) (o a : Heard)
     → new ≡ places ++ Some (record { order = o; answer = Some a }) ∷ [] → waiting ≡ waits 0 places
     → waiting ≡ waits 0 new
 answered_more waiting places new o a is same =
-    let e : Exchange = record { order = o; answer = Some a } in
+    let e : LinkExchange = record { order = o; answer = Some a } in
     same ∙ sym (append-nil (waits 0 places)) ∙ sym (waits_push 0 places e) ∙ ap (waits 0) (sym is)
 
 -- what has none waits at its place
-pub waiting_more : (waiting more : List Wait) (places new : List (Option Exchange)) (o : Heard)
+pub waiting_more : (waiting more : List Wait) (places new : List (Option LinkExchange)) (o : Heard)
     → new ≡ places ++ Some (record { order = o; answer = None }) ∷ [] → waiting ≡ waits 0 places
     → more ≡ waiting ++ record { place = length places; order = o } ∷ [] → more ≡ waits 0 new
 waiting_more waiting more places new o is same added =
-    let e : Exchange = record { order = o; answer = None } in
+    let e : LinkExchange = record { order = o; answer = None } in
     let at : length places ≡ 0 + length places = omega arith in
     added ∙ ap (λ ws. ws ++ record { place = length places; order = o } ∷ []) same
     ∙ ap (λ n. waits 0 places ++ record { place = n; order = o } ∷ []) at

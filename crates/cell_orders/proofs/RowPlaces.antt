@@ -4,7 +4,7 @@ use Rattle.std.specs.Prelude.{filter_map, option_to_list}
 use Rattle.std.specs.List.{cons_option, flat_map}
 use Rattle.cbsp_wire.specs.declared.message.Cell.{Cell}
 use Rattle.cell_orders.specs.declared.row.OrderRow.{OrderRow}
-use Rattle.cell_orders.specs.Exchange.{Exchange}
+use Rattle.cell_orders.specs.Exchange.{LinkExchange}
 use Rattle.cell_orders.specs.Rows.{row_of}
 use Rattle.cell_orders.specs.Steps.{rows_at, standing}
 
@@ -12,7 +12,8 @@ one_more : (row : Option OrderRow) (rows : List OrderRow) → option_to_list row
 one_more None rows = refl
 one_more (Some row) rows = refl
 
-pub rows_standing : (cell : Cell) (places : List (Option Exchange))
+-- the rows of places
+pub rows_standing : (cell : Cell) (places : List (Option LinkExchange))
     → flat_map (rows_at cell) places ≡ filter_map (row_of cell) (standing places)
 rows_standing cell [] = refl
 rows_standing cell (None ∷ places) = rows_standing cell places

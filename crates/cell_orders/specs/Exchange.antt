@@ -46,12 +46,12 @@ brought_by cell (messages.ResetFailed failures cells) = end_if (fails_cell failu
 brought_by cell other = None
 
 -- the same order: equal serial numbers
-abbrev pub same_serial : Option ℕ → Option ℕ → Bool
-same_serial one other = option_eq (λ a b. a == b) one other
+abbrev pub same_old_serial : Option ℕ → Option ℕ → Bool
+same_old_serial one other = option_eq (λ a b. a == b) one other
 
 abbrev pub same_order : Answered → Answered → Bool
 same_order (orders.Write new_serial old_serial) (orders.Write new_other old_other) =
-    (new_serial == new_other) && same_serial old_serial old_other
+    (new_serial == new_other) && same_old_serial old_serial old_other
 same_order (orders.Kill old_serial) (orders.Kill old_other) = old_serial == old_other
 same_order (orders.Write new_serial old_serial) (orders.Kill old_other) = false
 same_order (orders.Kill old_serial) (orders.Write new_other old_other) = false
@@ -75,18 +75,18 @@ answers cell h order =
     (h.connection == order.connection) && is_brought (awaited_by order.message) (brought_by cell h.message)
 
 -- what concerns the cell, and its answer, if it came; RESTART and FAILURE are their own
-pub record Exchange : Type 0 where
+pub record LinkExchange : Type 0 where
   pub order : Heard
   pub answer : Option Heard
 
-abbrev pub begun : Heard → Exchange
-begun h = record { order = h; answer = if is_none (awaited_by h.message) then Some h else None }
+abbrev pub exchange_begun : Heard → LinkExchange
+exchange_begun h = record { order = h; answer = if is_none (awaited_by h.message) then Some h else None }
 
-abbrev pub answered : Heard → Exchange → Exchange
+abbrev pub answered : Heard → LinkExchange → LinkExchange
 answered h e = record { order = e.order; answer = Some h }
 
 -- whether one waits for this message
-abbrev pub waits_for : Cell → Heard → Exchange → Bool
+abbrev pub waits_for : Cell → Heard → LinkExchange → Bool
 waits_for cell h e = is_none e.answer && answers cell h e.order
 
 -- without the first that passes a test
@@ -95,17 +95,17 @@ without_first test [] = []
 without_first test (x ∷ xs) = if test x then xs else x ∷ without_first test xs
 
 -- the first that waits for this message leaves its place, and stands at the end with it
-abbrev pub moved : Cell → Heard → List Exchange → Option Exchange → List Exchange
+abbrev pub moved : Cell → Heard → List LinkExchange → Option LinkExchange → List LinkExchange
 moved cell h es None = es
 moved cell h es (Some e) = without_first (waits_for cell h) es ++ answered h e ∷ []
 
-abbrev pub settled : Cell → Heard → List Exchange → List Exchange
-settled cell h es = moved cell h es (find (waits_for cell h) es)
+abbrev pub after_answer : Cell → Heard → List LinkExchange → List LinkExchange
+after_answer cell h es = moved cell h es (find (waits_for cell h) es)
 
 -- the exchanges after one message more: what concerns the cell stands at the end, and so does what is answered
-abbrev pub after_heard : Cell → List Exchange → Heard → List Exchange
-after_heard cell es h = if concerns cell h.message then es ++ begun h ∷ [] else settled cell h es
+abbrev pub after_heard : Cell → List LinkExchange → Heard → List LinkExchange
+after_heard cell es h = if concerns cell h.message then es ++ exchange_begun h ∷ [] else after_answer cell h es
 
 -- those of a list of messages, in the order of their answers; what has none stands where it came
-abbrev pub exchanges : Cell → List Heard → List Exchange
+abbrev pub exchanges : Cell → List Heard → List LinkExchange
 exchanges cell heard = fold (after_heard cell) [] heard

@@ -3,3 +3,4 @@ pub mod Exchange
 pub mod Rows
 pub mod Text
 pub mod Steps
+pub mod Laws

@@ -27,11 +27,11 @@ lists_cell cells cell = list_any (λ named. names named cell) cells
 abbrev pub failure_of : List LinkFailure → Cell → Option LinkFailure
 failure_of failures cell = find (λ failure. names failure.cell cell) failures
 
-abbrev pub cause_of : List LinkFailure → Cell → Option ℕ
-cause_of failures cell = option_map (λ failure. failure.cause) (failure_of failures cell)
+abbrev pub cell_cause : List LinkFailure → Cell → Option ℕ
+cell_cause failures cell = option_map (λ failure. failure.cause) (failure_of failures cell)
 
 abbrev pub fails_cell : List LinkFailure → Cell → Bool
-fails_cell failures cell = is_some (cause_of failures cell)
+fails_cell failures cell = is_some (cell_cause failures cell)
 
 -- the number of broadcasts that the first item of the cell says, if it says that the number is valid (information 0)
 abbrev pub valid_number : LinkCount → Option ℕ

@@ -5,24 +5,24 @@ use Rattle.csv.specs.Writing.{fields_written, has_written, text_written, writer_
 use Rattle.cbsp_wire.specs.declared.message.Cell.{Cell}
 use Rattle.cell_orders.specs.declared.heard.Heard.{Heard}
 use Rattle.cell_orders.specs.declared.exchange.Exchanges.{Exchanges}
-use Rattle.cell_orders.specs.declared.exchange.Held.{Held}
+use Rattle.cell_orders.specs.declared.exchange.HeldExchange.{HeldExchange}
 use Rattle.cell_orders.specs.declared.exchange.Waiting.{Waiting}
 use Rattle.cell_orders.specs.declared.row.OrderRow.{OrderRow}
 use Rattle.cell_orders.specs.declared.text.OrdersText.{OrdersText}
-use Rattle.cell_orders.specs.Exchange.{Exchange}
+use Rattle.cell_orders.specs.Exchange.{LinkExchange}
 use Rattle.cell_orders.specs.Rows.{row_of}
 use Rattle.cell_orders.specs.Text.{orders_writer}
 
 -- an exchange as it is held, by references
-abbrev pub exchange_of : Held → Exchange
+abbrev pub exchange_of : HeldExchange → LinkExchange
 exchange_of held = record { order = held.order.now; answer = option_map (λ h. h.now) held.answer }
 
 -- the places of all that began: an exchange that left its place left nothing there
-abbrev pub places_of : List (Option Held) → List (Option Exchange)
+abbrev pub places_of : List (Option HeldExchange) → List (Option LinkExchange)
 places_of held = map (option_map exchange_of) held
 
 -- those that are still in their places
-abbrev pub standing : List (Option Exchange) → List Exchange
+abbrev pub standing : List (Option LinkExchange) → List LinkExchange
 standing places = filter_map (λ place. place) places
 
 -- an order that has no answer, and its place
@@ -34,26 +34,26 @@ abbrev pub wait_of : Waiting → Wait
 wait_of waiting = record { place = waiting.place; order = waiting.order.now }
 
 -- the orders in these places, which count from n, that have no answer
-abbrev pub wait_at : ℕ → Exchange → List Wait → List Wait
+abbrev pub wait_at : ℕ → LinkExchange → List Wait → List Wait
 wait_at n e others = if is_none e.answer then record { place = n; order = e.order } ∷ others else others
 
-abbrev pub waits : ℕ → List (Option Exchange) → List Wait
+abbrev pub waits : ℕ → List (Option LinkExchange) → List Wait
 waits n [] = []
 waits n (None ∷ places) = waits (suc n) places
 waits n (Some e ∷ places) = wait_at n e (waits (suc n) places)
 
-abbrev pub waits_of : List Waiting → List Wait
-waits_of waiting = map wait_of waiting
+abbrev pub waits_kept : List Waiting → List Wait
+waits_kept waiting = map wait_of waiting
 
 -- what waits is what has no answer
 abbrev pub IsConsistent : Exchanges → Type 0
-IsConsistent s = waits_of s.waiting.items ≡ waits 0 (places_of s.places.items)
+IsConsistent s = waits_kept s.waiting.items ≡ waits 0 (places_of s.places.items)
 
-abbrev pub standing_of : Exchanges → List Exchange
+abbrev pub standing_of : Exchanges → List LinkExchange
 standing_of s = standing (places_of s.places.items)
 
 -- the row of a place
-abbrev pub rows_at : Cell → Option Exchange → List OrderRow
+abbrev pub rows_at : Cell → Option LinkExchange → List OrderRow
 rows_at cell place = option_to_list (option_and_then (row_of cell) place)
 
 -- the text has these octets, and the last of its rows is ended

@@ -27,12 +27,12 @@ text_if text None = []
 text_if text (Some x) = text x
 
 -- the answer: that the cell took the order, or the cause
-abbrev pub cause_text : Option ℕ → List ℕ
-cause_text None = codes "ok"
-cause_text (Some cause) = octet_text cause
+abbrev pub outcome_text : Option ℕ → List ℕ
+outcome_text None = codes "ok"
+outcome_text (Some cause) = octet_text cause
 
 abbrev pub answer_text : Option CellAnswer → List ℕ
-answer_text answer = text_if (λ a. cause_text a.cause) answer
+answer_text answer = text_if (λ a. outcome_text a.cause) answer
 
 abbrev pub done_text : Option CellAnswer → List ℕ
 done_text answer = text_if (λ a. text_if decimal a.done) answer

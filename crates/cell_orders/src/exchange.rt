@@ -1,10 +1,11 @@
 //! What a centre asked of a cell, each with its answer.
 
 ghost use Rattle.std.specs.Prelude.{◌≡◌, ◌++◌, ◌∷◌, [], position, IfOk, OnOk};
-ghost use Rattle.cell_orders.specs.Exchange.{after_heard, answered, answers, awaited_by, begun, brought_by, concerns};
-ghost use Rattle.cell_orders.specs.Exchange.{end_if, exchanges, is_brought, same_awaited, same_order, same_serial};
-ghost use Rattle.cell_orders.specs.Exchange.{settled};
-ghost use Rattle.cell_orders.specs.Steps.{IsConsistent, standing_of, wait_of, waits_of};
+ghost use Rattle.cell_orders.specs.Exchange.{after_heard, answered, answers, awaited_by, exchange_begun, brought_by};
+ghost use Rattle.cell_orders.specs.Exchange.{concerns};
+ghost use Rattle.cell_orders.specs.Exchange.{end_if, exchanges, is_brought, same_awaited, same_order, same_old_serial};
+ghost use Rattle.cell_orders.specs.Exchange.{after_answer};
+ghost use Rattle.cell_orders.specs.Steps.{IsConsistent, standing_of, wait_of, waits_kept};
 
 use crate::heard::Heard;
 use crate::naming::{fails_cell, lists_cell};
@@ -29,7 +30,7 @@ pub(crate) enum Awaited {
 
 /// What concerns a cell, and its answer, if it came.
 #[derive(Clone, Copy)]
-pub(crate) struct Held<'a> {
+pub(crate) struct HeldExchange<'a> {
     pub(crate) order: &'a Heard,
     pub(crate) answer: Option<&'a Heard>,
 }
@@ -45,7 +46,7 @@ struct Waiting<'a> {
 /// `None` stands in for it, so that the places of what waits stay the same.
 #[derive(Drop)]
 pub(crate) struct Exchanges<'a> {
-    pub(crate) places: Vec<Option<Held<'a>>>,
+    pub(crate) places: Vec<Option<HeldExchange<'a>>>,
     waiting: Vec<Waiting<'a>>,
 }
 
@@ -143,8 +144,8 @@ fn brought_by(cell: Cell, message: &LinkMessage) -> Option<Awaited>
 }
 
 /// Whether two serial numbers are the same, or both are left out.
-fn same_serial(one: Option<Serial>, other: Option<Serial>) -> bool
-    ensures { result ≡ same_serial one other }
+fn same_old_serial(one: Option<Serial>, other: Option<Serial>) -> bool
+    ensures { result ≡ same_old_serial one other }
 {
     match (one, other) {
         (Some(one), Some(other)) => one.number() == other.number(),
@@ -165,7 +166,9 @@ fn same_order(one: Answered, other: Answered) -> bool
             Answered::Write {
                 new_serial: new_other,
                 old_serial: old_other,
-            } => { new_serial.number() == new_other.number() && same_serial(old_serial, old_other) }
+            } => {
+                new_serial.number() == new_other.number() && same_old_serial(old_serial, old_other)
+            }
             Answered::Kill { .. } => false,
         },
         Answered::Kill { old_serial } => match other {
@@ -242,7 +245,7 @@ impl<'a> Exchanges<'a> {
     fn begin(&mut self, heard: &'a Heard) -> Result<(), AllocError>
         requires { IsConsistent self.old }
         ensures consistent { OnOk result (IsConsistent self.new) }
-        ensures added { OnOk result (standing_of self.new ≡ standing_of self.old ++ begun heard.now ∷ []) }
+        ensures added { OnOk result (standing_of self.new ≡ standing_of self.old ++ exchange_begun heard.now ∷ []) }
     {
         match awaited_by(&heard.message) {
             Some(_) => self.begin_waiting(heard),
@@ -262,7 +265,7 @@ impl<'a> Exchanges<'a> {
             place,
             order: heard,
         })?;
-        self.places.push(Some(Held {
+        self.places.push(Some(HeldExchange {
             order: heard,
             answer: None,
         }))?;
@@ -276,7 +279,7 @@ impl<'a> Exchanges<'a> {
         ensures added { OnOk result (standing_of self.new
             ≡ standing_of self.old ++ record { order = heard.now; answer = Some heard.now } ∷ []) }
     {
-        self.places.push(Some(Held {
+        self.places.push(Some(HeldExchange {
             order: heard,
             answer: Some(heard),
         }))?;
@@ -287,13 +290,13 @@ impl<'a> Exchanges<'a> {
     fn settle(&mut self, cell: Cell, heard: &'a Heard) -> Result<(), AllocError>
         requires { IsConsistent self.old }
         ensures consistent { OnOk result (IsConsistent self.new) }
-        ensures moved { OnOk result (standing_of self.new ≡ settled cell heard.now (standing_of self.old)) }
+        ensures moved { OnOk result (standing_of self.new ≡ after_answer cell heard.now (standing_of self.old)) }
     {
         match first_answered(cell, heard, &self.waiting) {
             Some(number) => {
                 let Waiting { place, order } = self.waiting.remove(number);
                 self.places[place] = None;
-                self.places.push(Some(Held {
+                self.places.push(Some(HeldExchange {
                     order,
                     answer: Some(heard),
                 }))?;

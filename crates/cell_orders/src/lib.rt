@@ -7,12 +7,14 @@
 
 mod exchange;
 mod heard;
+mod laws;
 mod naming;
 mod row;
 mod rows;
 mod text;
 
 pub use heard::Heard;
+pub use laws::exchange_laws;
 pub use naming::names;
 pub use row::{CellAnswer, CellOrder, OrderRow};
 pub use rows::{emergencies_to, rows_of};

@@ -2,7 +2,7 @@
 
 ghost use Rattle.std.specs.Prelude.{◌≡◌};
 ghost use Rattle.std.specs.Option.{option_copied};
-ghost use Rattle.cell_orders.specs.Naming.{cause_of, count_of, done_of, fails_cell, failure_of, lists_cell, names};
+ghost use Rattle.cell_orders.specs.Naming.{cell_cause, count_of, done_of, fails_cell, failure_of, lists_cell, names};
 ghost use Rattle.cell_orders.specs.Naming.{valid_number};
 
 use cbsp_link::{LinkCell, LinkCount, LinkFailure};
@@ -44,8 +44,8 @@ fn failure_of(failures: &[LinkFailure], cell: Cell) -> Option<&LinkFailure>
 }
 
 /// The cause of a cell's first failure.
-pub(crate) fn cause_of(failures: &[LinkFailure], cell: Cell) -> Option<u8>
-    ensures { result ≡ cause_of failures.now cell }
+pub(crate) fn cell_cause(failures: &[LinkFailure], cell: Cell) -> Option<u8>
+    ensures { result ≡ cell_cause failures.now cell }
 {
     match failure_of(failures, cell) {
         Some(failure) => Some(failure.cause),
@@ -57,7 +57,7 @@ pub(crate) fn cause_of(failures: &[LinkFailure], cell: Cell) -> Option<u8>
 pub(crate) fn fails_cell(failures: &[LinkFailure], cell: Cell) -> bool
     ensures { result ≡ fails_cell failures.now cell }
 {
-    cause_of(failures, cell).is_some()
+    cell_cause(failures, cell).is_some()
 }
 
 /// The first completed broadcasts of a cell.

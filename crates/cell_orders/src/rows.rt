@@ -1,14 +1,15 @@
 //! The rows of a cell.
 
-ghost use Rattle.std.specs.Prelude.{◌≡◌, ◌++◌, None, Some, option_copied, option_map, flat_map, if◌then◌else◌, IfOk, OnOk};
+ghost use Rattle.std.specs.Prelude.{◌≡◌, ◌++◌, None, Some, option_copied, option_map, flat_map, if◌then◌else◌};
+ghost use Rattle.std.specs.Prelude.{IfOk, OnOk};
 ghost use Rattle.cell_orders.specs.declared.row.CellOrder.TheVariants as orders;
-ghost use Rattle.cell_orders.specs.Rows.{answer_in, answer_of, emergencies_to, goes_on, goes_on_by, is_emergency_message};
-ghost use Rattle.cell_orders.specs.Rows.{order_by, row_of, rows_of};
+ghost use Rattle.cell_orders.specs.Rows.{answer_in, cell_answer, emergencies_to, is_emergency_message, order_by};
+ghost use Rattle.cell_orders.specs.Rows.{row_of, rows_of, runs_on, runs_on_by};
 ghost use Rattle.cell_orders.specs.Steps.{exchange_of, places_of, rows_at};
 
-use crate::exchange::{Held, exchanges_of};
+use crate::exchange::{HeldExchange, exchanges_of};
 use crate::heard::Heard;
-use crate::naming::{cause_of, done_of, fails_cell, lists_cell};
+use crate::naming::{cell_cause, done_of, fails_cell, lists_cell};
 use crate::row::{CellAnswer, CellOrder, OrderRow};
 use cbsp_link::LinkMessage;
 use cbsp_wire::Cell;
@@ -31,7 +32,7 @@ fn answer_in(cell: Cell, message: &LinkMessage) -> CellAnswer
             completed,
             ..
         } => CellAnswer {
-            cause: cause_of(&failures.list, cell),
+            cause: cell_cause(&failures.list, cell),
             done: done_of(&completed.list, cell),
         },
         LinkMessage::Write { .. }
@@ -50,8 +51,8 @@ fn answer_in(cell: Cell, message: &LinkMessage) -> CellAnswer
 }
 
 /// What a cell answered to an order, if it did.
-fn answer_of(cell: Cell, held: &Held<'_>) -> Option<CellAnswer>
-    ensures { result ≡ answer_of cell (exchange_of held.now) }
+fn cell_answer(cell: Cell, held: &HeldExchange<'_>) -> Option<CellAnswer>
+    ensures { result ≡ cell_answer cell (exchange_of held.now) }
 {
     match held.answer {
         Some(heard) => Some(answer_in(cell, &heard.message)),
@@ -60,8 +61,8 @@ fn answer_of(cell: Cell, held: &Held<'_>) -> Option<CellAnswer>
 }
 
 /// Whether a message says that a cell's messages go on after RESET.
-fn goes_on(cell: Cell, message: &LinkMessage) -> bool
-    ensures { result ≡ goes_on cell message.now }
+fn runs_on(cell: Cell, message: &LinkMessage) -> bool
+    ensures { result ≡ runs_on cell message.now }
 {
     match message {
         LinkMessage::ResetFailed { failures, .. } => fails_cell(&failures.list, cell),
@@ -79,11 +80,11 @@ fn goes_on(cell: Cell, message: &LinkMessage) -> bool
 }
 
 /// Whether an answer to RESET says that.
-fn goes_on_by(cell: Cell, answer: Option<&Heard>) -> bool
-    ensures { result ≡ goes_on_by cell (option_copied answer.entry) }
+fn runs_on_by(cell: Cell, answer: Option<&Heard>) -> bool
+    ensures { result ≡ runs_on_by cell (option_copied answer.entry) }
 {
     match answer {
-        Some(heard) => goes_on(cell, &heard.message),
+        Some(heard) => runs_on(cell, &heard.message),
         None => false,
     }
 }
@@ -92,7 +93,7 @@ fn goes_on_by(cell: Cell, answer: Option<&Heard>) -> bool
 fn order_by(
     alloc: Global,
     cell: Cell,
-    held: &Held<'_>,
+    held: &HeldExchange<'_>,
     message: &LinkMessage,
 ) -> Result<Option<CellOrder>, AllocError>
     ensures { IfOk result (λ order. order ≡ order_by cell (exchange_of held.now) message.now) }
@@ -119,15 +120,15 @@ fn order_by(
                 broadcasts: *broadcasts,
                 dcs: *dcs,
                 contents,
-                answer: answer_of(cell, held),
+                answer: cell_answer(cell, held),
             }))
         }
         LinkMessage::Kill { id, old_serial, .. } => Ok(Some(CellOrder::Kill {
             id: *id,
             old_serial: *old_serial,
-            answer: answer_of(cell, held),
+            answer: cell_answer(cell, held),
         })),
-        LinkMessage::Reset { .. } => Ok(clear_unless(goes_on_by(cell, held.answer))),
+        LinkMessage::Reset { .. } => Ok(clear_unless(runs_on_by(cell, held.answer))),
         LinkMessage::Restart { .. } | LinkMessage::Failure { .. } => Ok(Some(CellOrder::Clear)),
         LinkMessage::Emergency { .. }
         | LinkMessage::Done { .. }
@@ -139,10 +140,10 @@ fn order_by(
 }
 
 /// That the cell lost its messages, unless they go on.
-fn clear_unless(goes_on: bool) -> Option<CellOrder>
-    ensures { result ≡ (if goes_on then None else Some orders.Clear) }
+fn clear_unless(runs_on: bool) -> Option<CellOrder>
+    ensures { result ≡ (if runs_on then None else Some orders.Clear) }
 {
-    if goes_on {
+    if runs_on {
         None
     } else {
         Some(CellOrder::Clear)
@@ -150,7 +151,11 @@ fn clear_unless(goes_on: bool) -> Option<CellOrder>
 }
 
 /// The row of an exchange. The only error is out of memory.
-fn row_of(alloc: Global, cell: Cell, held: &Held<'_>) -> Result<Option<OrderRow>, AllocError>
+fn row_of(
+    alloc: Global,
+    cell: Cell,
+    held: &HeldExchange<'_>,
+) -> Result<Option<OrderRow>, AllocError>
     ensures { IfOk result (λ row. row ≡ row_of cell (exchange_of held.now)) }
 {
     let last = match held.answer {
@@ -169,7 +174,7 @@ fn push_row(
     alloc: Global,
     cell: Cell,
     rows: &mut Vec<OrderRow>,
-    place: &Option<Held<'_>>,
+    place: &Option<HeldExchange<'_>>,
 ) -> Result<(), AllocError>
     ensures { OnOk result (rows.new.items ≡ rows.old.items ++ rows_at cell (option_map exchange_of place.now)) }
 {
@@ -189,7 +194,7 @@ fn push_row(
 fn rows_of_places(
     alloc: Global,
     cell: Cell,
-    places: &[Option<Held<'_>>],
+    places: &[Option<HeldExchange<'_>>],
 ) -> Result<Vec<OrderRow>, AllocError>
     ensures { IfOk result (λ rows. rows.items ≡ flat_map (rows_at cell) (places_of places.now)) }
 {

@@ -3,7 +3,8 @@
 ghost use Rattle.std.specs.Prelude.{◌≡◌, ◌++◌, ◌∷◌, ℕ, List, [], IfOk, OnOk, decimal, map, string_bytes};
 ghost use Rattle.csv.specs.Records.{fields_of, partial_of};
 ghost use Rattle.cell_orders.specs.Steps.{IsText};
-ghost use Rattle.cell_orders.specs.Text.{answer_text, cause_text, done_text, fields_of_order, octet_text, orders_text};
+ghost use Rattle.cell_orders.specs.Text.{answer_text, outcome_text, done_text, fields_of_order, octet_text};
+ghost use Rattle.cell_orders.specs.Text.{orders_text};
 ghost use Rattle.cell_orders.specs.Text.{page_text, pair_text, row_fields, row_line, text_if};
 
 use crate::row::{CellAnswer, CellOrder, OrderRow};
@@ -37,8 +38,8 @@ fn serial_text(alloc: Global, serial: Option<Serial>) -> Result<String, AllocErr
 }
 
 /// That a cell took an order, or why it didn't.
-fn cause_text(alloc: Global, cause: Option<u8>) -> Result<String, AllocError>
-    ensures { IfOk result (λ text. string_bytes text ≡ cause_text cause) }
+fn outcome_text(alloc: Global, cause: Option<u8>) -> Result<String, AllocError>
+    ensures { IfOk result (λ text. string_bytes text ≡ outcome_text cause) }
 {
     match cause {
         Some(cause) => octet_text(alloc, cause),
@@ -51,7 +52,7 @@ fn answer_text(alloc: Global, answer: Option<CellAnswer>) -> Result<String, Allo
     ensures { IfOk result (λ text. string_bytes text ≡ answer_text answer) }
 {
     match answer {
-        Some(answer) => cause_text(alloc, answer.cause),
+        Some(answer) => outcome_text(alloc, answer.cause),
         None => Ok(String::new(alloc)),
     }
 }

@@ -14,8 +14,8 @@ use Rattle.chart.specs.declared.view.View.{View}
 use Rattle.chart.specs.ChartText.{panel_if, panels_of}
 
 -- a panel that was added, and those after it, are those from it on
-pub panel_added : (view : View) (orders : Orders) (records : List Record) (readings : List Reading) (place : ℕ) (r : Record)
-    (reading : Reading) (panels after whole : List Panel)
+pub panel_added : (view : View) (orders : Orders) (records : List Record) (readings : List Reading) (place : ℕ)
+    (r : Record) (reading : Reading) (panels after whole : List Panel)
     → place < length records
     → place < length readings
     → r ≡ get_or records place r

@@ -13,7 +13,8 @@ unfolding chart_front head
 some_chart slots view orders records readings = omega arith
 
 -- nor is the part of a first group
-pub some_part : (slots : ℕ) (last : Bool) (view : View) (orders : Orders) (records : List Record) (readings : List TapeReading)
+pub some_part : (slots : ℕ) (last : Bool) (view : View) (orders : Orders) (records : List Record)
+    (readings : List TapeReading)
     → 0 < length (chart_part slots 0 last view orders records readings)
 unfolding chart_front head
 some_part slots last view orders records readings = omega arith

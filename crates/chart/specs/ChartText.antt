@@ -90,8 +90,8 @@ unfoldable pub bar : Stretch → Row → List ℕ
 bar s row =
     bar_front row ++ decimal (bar_from s row) ++ lines.WIDTH.now ++ decimal (bar_width s row) ++ lines.BAR_END.now
 
--- what is said of it: its alert's name and its own, its category, how many broadcasts are whole at the slots that are drawn, where that
--- stands in place of marks, that no phone shows it, where none does, and its text
+-- what is said of it: its alert's name and its own, its category, how many broadcasts are whole at the slots that are
+-- drawn, where that stands in place of marks, that no phone shows it, where none does, and its text
 unfoldable pub message_name : Language → Orders → Row → Option Accepted → List ℕ
 message_name l orders row found =
     line_front orders row ++ lines.NAME_END.now ++ category_words l found ++ lines.CATEGORY_END.now

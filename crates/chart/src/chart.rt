@@ -291,7 +291,8 @@ fn page_of(
     records: &[CellRecord],
     readings: &[Reading],
 ) -> Result<Page, ReportFault>
-    ensures page { IfOk result (λ page. page ≡ chart_text slots view orders.now records.now (readings_of readings.now)) }
+    ensures page { IfOk result (λ page. page
+        ≡ chart_text slots view orders.now records.now (readings_of readings.now)) }
     ensures cells { IsErrOf result ReportFault.Cells → ¬ AreOfOneCells records.now (readings_of readings.now) }
     ensures faults { IfErr result (λ fault. fault ≢ ReportFault.WriteFailed) }
 {

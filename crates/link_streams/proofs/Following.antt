@@ -4,9 +4,8 @@ use Rattle.std.proofs.Common.{subst, sym, Option, Some, None, Result, Ok, Err}
 use Rattle.std.proofs.lemmas.List.{get_or_default, length_push}
 use Rattle.gsmtap.specs.File.{Packet, link_numbered}
 use Rattle.gsmtap.specs.Taken.{taken}
-use Rattle.gsmtap.specs.Taker.{HasTakenAll, IsPacketFault}
+use Rattle.gsmtap.specs.Taker.{IsPacketFault}
 use Rattle.gsmtap.specs.declared.fault.AirFault.{AirFault}
-use Rattle.gsmtap.specs.declared.fault.AirFaultKind.{AirFaultKind}
 use Rattle.gsmtap.specs.declared.fault.AirFaultKind.TheVariants as kind
 use Rattle.gsmtap.specs.declared.file.Link.{Link}
 use Rattle.gsmtap.proofs.PacketSteps.{taken_next}
@@ -14,7 +13,7 @@ use Rattle.gsmtap.proofs.Walks.{comes_to}
 use Rattle.link_streams.specs.Carrying.{segment_in}
 use Rattle.link_streams.specs.Directions.{begun_by, with_segment}
 use Rattle.link_streams.specs.Segment.{Segment}
-use Rattle.link_streams.specs.Stream.{Carried, carried_of}
+use Rattle.link_streams.specs.Stream.{carried_of}
 use Rattle.link_streams.specs.Streams.{AreMessagesIn, Followed, after_carrying, after_link, after_old, after_segment_at}
 use Rattle.link_streams.specs.Streams.{follow, for_messages}
 use Rattle.link_streams.specs.StreamsSteps.{HaveFollowed, HaveFollowedAll, IsUnfollowed, followed_by}
@@ -25,11 +24,13 @@ use Rattle.link_streams.specs.declared.streams.LinkStreams.{LinkStreams}
 
 -- A packet
 
+-- of a link type that isn't known
 pub not_linked : (known : Followed) (packet : Packet) → link_numbered packet.link ≡ None →
     follow known packet ≡ Err (kind.OtherLink packet.link)
 unfolding follow
 not_linked known packet none = ap (after_link known packet) none
 
+-- of one that is known
 pub follows : (known : Followed) (packet : Packet) (link : Link) (segment : Option Segment) →
     link_numbered packet.link ≡ Some link → segment_in link packet.octets ≡ segment →
     follow known packet ≡ Ok (after_carrying packet.time known segment)
@@ -61,6 +62,19 @@ known_is : (packets : List Packet) (known : Followed) (before : ℕ) (streams : 
 known_is packets known before streams has many comes =
     one_state known (followed_by (length packets) streams) (sym comes ∙ has)
     ∙ ap (λ n. followed_by n streams) many
+
+-- before the first packet
+pub none_followed : (directions : List Direction) (messages : List LinkPacket) → directions ≡ [] → messages ≡ [] →
+    taken for_messages [] ≡ Ok (record { packets = 0; directions = directions; messages = messages })
+unfolding taken
+none_followed directions messages no_directions no_messages =
+    ap Ok
+    (ap (λ (it : List Direction). let known : Followed =
+    record { packets = 0; directions = it; messages = [] } in known)
+    (sym no_directions)
+    ∙ ap (λ (it : List LinkPacket). let known : Followed =
+    record { packets = 0; directions = directions; messages = it } in known)
+    (sym no_messages))
 
 -- one packet more
 pub has_next : (packets : List Packet) (packet : Packet) (known : Followed) (before : ℕ) (old new : LinkStreams) →

@@ -18,7 +18,8 @@ octets_more most count parts place octet octets all few here is =
     ∙ ap (λ it. octets ++ it) (sym (ap (λ n. octets_from n parts place) one ∙ step))
     ∙ is
 
-none_there : (most : ℕ) (parts : List Waiting) (place : ℕ) → first_octet_at parts place ≡ None →
+-- none are there from a gap on
+pub none_there : (most : ℕ) (parts : List Waiting) (place : ℕ) → first_octet_at parts place ≡ None →
     octets_from most parts place ≡ []
 unfolding octets_from
 none_there zero parts place none = refl

@@ -5,3 +5,4 @@ pub mod Directions
 pub mod Streams
 pub mod Sides
 pub mod StreamsSteps
+pub mod Laws

@@ -1,6 +1,5 @@
 -- Which of the two sides sends a message (3GPP TS 48.049, 8.1.3 and 8.2.2).
-use Rattle.std.specs.Prelude.{ℕ, ◌==◌, ◌||◌, ◌&&◌, nat_le, Bool, List, [], ◌∷◌, Option, Some, None, if◌then◌else◌}
-use Rattle.link_streams.specs.Carrying.{link_port}
+use Rattle.std.specs.Prelude.{ℕ, ◌==◌, ◌||◌, Bool, List, [], ◌∷◌, Option, Some, None, if◌then◌else◌}
 use Rattle.link_streams.specs.declared.message.LinkPacket.{LinkPacket}
 use Rattle.link_streams.specs.declared.message.Side.{Side}
 use Rattle.link_streams.specs.declared.message.Side.TheVariants.{Centre, Controller}

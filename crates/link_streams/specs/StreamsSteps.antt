@@ -1,5 +1,5 @@
 -- What a taker has of a capture file's packets. Contracts of steps speak of it.
-use Rattle.std.specs.Prelude.{◌≡◌, ℕ, ◌+◌, ◌<◌, ◌^◌, ◌⊎◌, List, length, Result, Ok, Err}
+use Rattle.std.specs.Prelude.{◌≡◌, ℕ, ◌+◌, ◌⊎◌, List, length, Ok, Err}
 use Rattle.gsmtap.specs.File.{Packet}
 use Rattle.gsmtap.specs.Taken.{taken}
 use Rattle.gsmtap.specs.Taker.{HasTakenAll}

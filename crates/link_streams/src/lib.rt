@@ -7,11 +7,13 @@
 #![tactic(auto)]
 
 mod direction;
+mod laws;
 mod message;
 mod messages;
 mod segment;
 mod streams;
 mod waiting;
 
+pub use laws::stream_laws;
 pub use message::{LinkOctets, LinkPacket, Side, Way, sender_of_type};
 pub use streams::{LinkStreams, messages_of_capture, messages_of_walk};

@@ -1,6 +1,6 @@
 //! A message of the link that was captured.
 
-ghost use Rattle.std.specs.Prelude.{◌≡◌};
+ghost use Rattle.std.specs.Prelude.{◌≡◌, ◌==◌};
 ghost use Rattle.link_streams.specs.Carrying.{link_port};
 ghost use Rattle.link_streams.specs.Sides.{centre_of, controller_of, sender_of, sender_of_type};
 

@@ -1,6 +1,9 @@
-//! Tests of `gsmtap`, `link_streams` and `verification`; in one crate, so that their libraries are read once.
+//! Tests of `cell_orders`, `gsmtap`, `link_streams` and `verification`; in one crate, so that their libraries are read
+//! once.
 #![tactic(auto)]
 
+#[cfg(test)]
+mod of_cell_orders;
 #[cfg(test)]
 mod of_gsmtap;
 #[cfg(test)]

@@ -122,7 +122,8 @@ by_parts : Laws → (r : Record) (shown : List ShownMessage) → IsLegal r → r
     (before later : List Entry) (slot : ℕ) (command : Command) (answer : Answer) →
     accepted_at (length before) r.log ≡ map (stopped_after later)
     (added_by (accepted_in before) (length before) slot (start_of answer) command) →
-    map (message_row r shown) (accepted_at (length before) r.log) ++ refusal_rows r.cell (length before) slot answer command
+    map (message_row r shown) (accepted_at (length before) r.log)
+    ++ refusal_rows r.cell (length before) slot answer command
     ≡ option_to_list (row_by r.cell (length before) r.slots shown (stop_of_command later command)
     (times_aired (length before) (page_count_of command) r.air (length r.air))
     (first_airing (length before) (page_count_of command) r.air 0) slot command answer)
@@ -227,8 +228,8 @@ entry-is laws r shown stops counts firsts legal ended noted before e later is =
     (first_airing (length before) (page_count_of e.command) r.air 0) e.slot e.command e.answer)) (sym stop)
     ∙ ap (λ (n : ℕ). option_to_list (row_by r.cell (length before) r.slots shown stop_is n
     (first_airing (length before) (page_count_of e.command) r.air 0) e.slot e.command e.answer)) (sym count)
-    ∙ ap (λ (n : Option ℕ). option_to_list (row_by r.cell (length before) r.slots shown stop_is (slice_index counts (length before)) n
-    e.slot e.command e.answer)) (sym first)
+    ∙ ap (λ (n : Option ℕ). option_to_list (row_by r.cell (length before) r.slots shown stop_is
+    (slice_index counts (length before)) n e.slot e.command e.answer)) (sym first)
     ∙ ap (row_at r.cell r.slots shown stops counts firsts (length before)) (sym here)
 
 rows-from : Laws → (r : Record) (shown : List ShownMessage) (stops : List (Option ℕ)) (counts : List ℕ)

@@ -1,5 +1,5 @@
 -- What reports of the same rows have in common: a full one and a plain one, and one with times and one without (own).
-use Rattle.std.specs.Prelude.{◌≡◌, Bool, true, false, ℕ, List, [], ◌∷◌, ◌++◌, drop, map, take}
+use Rattle.std.specs.Prelude.{◌≡◌, Bool, true, false, ℕ, ◌+◌, List, [], ◌∷◌, ◌++◌, drop, map, take}
 use Rattle.std.specs.List.{flat_map}
 use Rattle.report.specs.ReportText.{full_fields, full_names, full_part_text, line, part_text, time_fields, time_names}
 use Rattle.report.specs.ReportText.{timed_part_text, untimed_fields, untimed_names, untimed_part_text}
@@ -49,7 +49,7 @@ timed_table wanted start headed orders rows =
 -- how many columns a report has without times
 abbrev pub untimed_columns : Columns → ℕ
 untimed_columns columns.Plain = plain_columns
-untimed_columns columns.Full = 15
+untimed_columns columns.Full = order_columns + 13
 
 -- a report with times is the lines of its table, and the report of the same rows without times the lines of what is
 -- left of that table if the columns of times are left out

@@ -97,12 +97,14 @@ order_name (Some named) = named.name
 -- plain report
 abbrev pub full_names : List (List ℕ)
 full_names =
-    codes "row" ∷ codes "name" ∷ codes "lac" ∷ codes "ci" ∷ codes "id" ∷ codes "serial" ∷ codes "start" ∷ codes "end" ∷ codes "completed"
-    ∷ codes "shown" ∷ codes "first_shown" ∷ codes "pages" ∷ codes "period" ∷ codes "share" ∷ codes "cause" ∷ []
+    codes "row" ∷ codes "name" ∷ codes "lac" ∷ codes "ci" ∷ codes "id" ∷ codes "serial" ∷ codes "start" ∷ codes "end"
+    ∷ codes "completed" ∷ codes "shown" ∷ codes "first_shown" ∷ codes "pages" ∷ codes "period" ∷ codes "share"
+    ∷ codes "cause" ∷ []
 
 abbrev pub full_fields : Orders → Row → List (List ℕ)
 full_fields orders r =
-    order_row (order_of orders r) ∷ order_name (order_of orders r) ∷ decimal r.lac ∷ decimal r.ci ∷ decimal r.id ∷ serial_text r.serial ∷ decimal r.start ∷ decimal r.end
+    order_row (order_of orders r) ∷ order_name (order_of orders r) ∷ decimal r.lac ∷ decimal r.ci ∷ decimal r.id
+    ∷ serial_text r.serial ∷ decimal r.start ∷ decimal r.end
     ∷ decimal r.completed ∷ showing_text r.shown ∷ number_or_none r.first_shown
     ∷ number_or_none (demand_pages r.demand) ∷ number_or_none (demand_period r.demand)
     ∷ number_or_none (demand_share r.demand) ∷ words_of_showing r.shown ∷ []

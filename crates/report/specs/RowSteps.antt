@@ -92,13 +92,14 @@ refused_row cell place slot cause (commands.Status id serial) = None
 
 -- the row of an entry, by its answer, its message's stop, how many of its broadcasts were completed, and in which slot
 -- first
-abbrev pub row_by : Cell → (place slots : ℕ) → List ShownMessage → (stop : Option ℕ) → (completed : ℕ) → (first : Option ℕ)
-    → (slot : ℕ) → Command → Answer → Option Row
+abbrev pub row_by : Cell → (place slots : ℕ) → List ShownMessage → (stop : Option ℕ) → (completed : ℕ)
+    → (first : Option ℕ) → (slot : ℕ) → Command → Answer → Option Row
 row_by cell place slots shown stop completed first slot command (answers.Started start) =
     started_row cell place slots shown stop completed first command start
 row_by cell place slots shown stop completed first slot command (answers.Replaced start others) =
     started_row cell place slots shown stop completed first command start
-row_by cell place slots shown stop completed first slot command (answers.Cause cause) = refused_row cell place slot cause command
+row_by cell place slots shown stop completed first slot command (answers.Cause cause) =
+    refused_row cell place slot cause command
 row_by cell place slots shown stop completed first slot command answer = None
 
 -- the row of the entry at a place, by the stops, the completed broadcasts and the slots of the first ones at the places

@@ -87,7 +87,8 @@ some_of_group : (made : Product) (slots groups : ℕ) (orders : List Order) (rec
 some_of_group product.Tapes slots groups orders records text = absurd (text refl)
 some_of_group (product.Report layout) slots groups orders records text =
     some_report layout (orders_of_run orders records) (own_rows records)
-some_of_group (product.Chart wanted) slots groups orders records text = some_part slots _ wanted (orders_of_run orders records) records _
+some_of_group (product.Chart wanted) slots groups orders records text =
+    some_part slots _ wanted (orders_of_run orders records) records _
 
 some_of_book : (b : Books) (made : Product) (slots parts : ℕ) (input output : List ℕ)
     → IsProductOf made b slots parts input output
@@ -96,15 +97,17 @@ some_of_book : (b : Books) (made : Product) (slots parts : ℕ) (input output : 
     → 0 < length output
 some_of_book (books.One origin.Book) product.Tapes slots parts input output is r same always = absurd always
 some_of_book (books.One origin.Book) (product.Report layout) slots parts input output is r same always =
-    subst (λ (octets : List ℕ). 0 < length octets) (sym is.written) (some_report layout (orders_of_run is.run.book.orders is.records)
-    (own_rows is.records))
+    subst (λ (octets : List ℕ). 0 < length octets) (sym is.written)
+    (some_report layout (orders_of_run is.run.book.orders is.records) (own_rows is.records))
 some_of_book (books.One origin.Book) (product.Chart wanted) slots parts input output is r same always =
-    subst (λ (octets : List ℕ). 0 < length octets) (sym is.written) (some_chart slots wanted (orders_of_run is.run.book.orders is.records) is.records _)
+    subst (λ (octets : List ℕ). 0 < length octets) (sym is.written)
+    (some_chart slots wanted (orders_of_run is.run.book.orders is.records) is.records _)
 some_of_book (books.One (origin.Group group)) product.Tapes slots parts input output is r same always = absurd always
 some_of_book (books.One (origin.Group group)) (product.Report layout) slots parts input output is r same always =
     absurd (subst IsHeaded same always)
 some_of_book (books.One (origin.Group group)) (product.Chart wanted) slots parts input output is r same always =
-    subst (λ (octets : List ℕ). 0 < length octets) (sym is.written) (some_chart slots wanted (orders_of_run is.run.book.orders is.records) is.records _)
+    subst (λ (octets : List ℕ). 0 < length octets) (sym is.written)
+    (some_chart slots wanted (orders_of_run is.run.book.orders is.records) is.records _)
 some_of_book books.EachGroup made slots sessions input output is r same always =
     subst (λ (octets : List ℕ). 0 < length octets) (sym is.written) (by_parts is.parts is.as_many is.each)
   where

@@ -162,8 +162,8 @@ args chart --slots 1
 run -> 0
 past is full.</p> -> yes
 out -> <details open id=\"c1-1\">
-past <b>a</b> 1 0010 <i>normal</i> <small>not shown:</small> <bdi>Вода поднимается! Идите в школу на холме. &lt;Не ждите\
-&gt; &amp; &#39;бегите&#39;!</bdi></p> -> yes
+past <b>a</b> 1 0010 <i>normal</i> <small>not shown:</small> <bdi>Вода поднимается! Идите в школу на холме. &lt;Не \
+ждите&gt; &amp; &#39;бегите&#39;!</bdi></p> -> yes
 past every 4, broadcasts: 0, not shown</title> -> yes
 past </html> -> yes
 args chart --slots 2

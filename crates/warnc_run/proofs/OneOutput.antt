@@ -48,7 +48,8 @@ orders_are_one law from slots parts input records others one two =
     (law from input one.book two.book one.is_book two.is_book).1
 
 -- and a group one part
-part_is_one : BooksAreOne → RunsAreOne → OneSessionIsARun → (made : Product) (slots groups group : ℕ) (input output other : List ℕ)
+part_is_one : BooksAreOne → RunsAreOne → OneSessionIsARun → (made : Product) (slots groups group : ℕ)
+    (input output other : List ℕ)
     → IsPartOf (record { made = made; slots = slots; parts = 1; groups = groups }) group input output
     → IsPartOf (record { made = made; slots = slots; parts = 1; groups = groups }) group input other
     → output ≡ other
@@ -61,8 +62,8 @@ part_is_one books_one runs law made slots groups group input output other one tw
     ∙ sym two.written
 
 -- and as many groups from one on have one list of parts
-parts_are_one : BooksAreOne → RunsAreOne → OneSessionIsARun → (made : Product) (slots groups : ℕ) (input : List ℕ) (group : ℕ)
-    (parts others : List (List ℕ))
+parts_are_one : BooksAreOne → RunsAreOne → OneSessionIsARun → (made : Product) (slots groups : ℕ) (input : List ℕ)
+    (group : ℕ) (parts others : List (List ℕ))
     → length parts ≡ length others
     → ArePartsFrom (record { made = made; slots = slots; parts = 1; groups = groups }) input group parts
     → ArePartsFrom (record { made = made; slots = slots; parts = 1; groups = groups }) input group others
@@ -74,8 +75,8 @@ parts_are_one books_one runs law made slots groups input group (part ∷ parts) 
     absurd (omega (arith, as_many))
 parts_are_one books_one runs law made slots groups input group (part ∷ parts) (other ∷ others) as_many each all =
     let here = part_is_one books_one runs law made slots groups group input part other each.0 all.0 in
-    let later = parts_are_one books_one runs law made slots groups input (group + 1) parts others (omega (arith, as_many)) each.1
-    all.1 in
+    let later = parts_are_one books_one runs law made slots groups input (group + 1) parts others
+    (omega (arith, as_many)) each.1 all.1 in
     ap (λ (p : List ℕ). p ∷ parts) here ∙ ap (λ (ps : List (List ℕ)). other ∷ ps) later
 
 -- a network has one number of groups, so one output

@@ -133,7 +133,7 @@ pub text_made : LiveRunsShowTheBook → LiveRunsAcceptWhatWasOrdered → LegalHi
     → slots ≤ 65535
     → IsBookFrom from input book
     → ((slots : ℕ) (orders : List Order) (records : List Record)
-        → octets_of_text text slots (orders_of_run orders records) records ≡ octets_of made from slots orders records)
+    → octets_of_text text slots (orders_of_run orders records) records ≡ octets_of made from slots orders records)
     → IsTextOf text book slots parts octets
     → IsOutput made from slots parts input octets
 unfolding run_of_book

@@ -115,7 +115,7 @@ pub(crate) fn text_of_book<T: AllocGlobal + Threads + Wait + Sync, G: Gate>(
     alert_book::book_laws();
     book_runs::session_laws();
     let records = records_after(rt, &book, slots, sessions, workers, gate)?;
-    let orders = orders_for(rt.alloc(), text, book.orders(), &records)?;
+    let orders = orders_for(rt.alloc(), text, book.given(), &records)?;
     // what else the book holds is free for the tapes
     drop(book);
     let octets = text_of_records(rt, &orders, &records, text, slots, workers)?;

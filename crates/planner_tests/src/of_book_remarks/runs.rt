@@ -8,8 +8,9 @@ use std::alloc::{AllocError, AllocGlobal};
 use std::sync::Wait;
 use std::thread::Threads;
 
-/// How a book is remarked: in runs of how many slots, with which time of slot 0, whether there are to be no remarks, how
-/// many octets a read gives and a write takes at most, one at least, and after how many calls each end fails, if it does.
+/// How a book is remarked: in runs of how many slots, with which time of slot 0, whether there are to be no remarks,
+/// how many octets a read gives and a write takes at most, one at least, and after how many calls each end fails, if it
+/// does.
 #[derive(Clone, Copy)]
 pub struct Manner {
     /// How many slots a run has.

@@ -6,8 +6,8 @@
 //! the other way, and `)` and `(` the same to and from 10.0.0.3. Packet N comes N seconds after 1970 began. `fill N
 //! FIRST STEP DIGITS` adds N packets as `>` does, with the sequence numbers FIRST, FIRST + STEP, ..
 //!
-//! `want WORDS ..` adds a text, eight words at most with a space between two; an answer that is all of what was added is
-//! `as wanted`, and nothing more is wanted.
+//! `want WORDS ..` adds a text, eight words at most with a space between two; an answer that is all of what was added
+//! is `as wanted`, and nothing more is wanted.
 //!
 //! `messages` returns the messages of the file: `2>16000000;` is one that became whole in packet 2, on the way of `>`;
 //! of other ways the source's last octet stands there. `count` says how many there are, and how many octets they have.

@@ -11,9 +11,10 @@
 //! - `found` judges the tape by the last run, and gives the first row; `next` gives the next one, and `none` after the
 //!   last.
 //! - `begin` has all runs await their tapes, `take CI` takes the tape as that cell's, and `rows` gives the first row.
-//!   `explain` is `begin` with an explained table. `start MICROSECONDS` gives times to the tables that are begun after it:
-//!   slot 0 begins so long after 1970-01-01T00:00:00Z. `names` gives the names of columns. `table` makes the rows and
-//!   gives none; `part FROM TO` gives these octets of the row that is next, and `skip` passes over it.
+//!   `explain` is `begin` with an explained table, and `start MICROSECONDS` gives the tables of those that follow
+//!   times, of which slot 0 begins so long after 1970-01-01T00:00:00Z. `names` gives the names of columns. `table`
+//!   makes the rows and gives none; `part FROM TO` gives these octets of the row that is next, and `skip` passes over
+//!   it.
 
 ghost use Rattle.std.specs.Prelude.{◌≡◌, ◌≤◌, length, All, IfOk};
 ghost use Rattle.bsc_table.specs.Orders.{IsWellFormed};

@@ -15,15 +15,15 @@ returns-then-not-is_empty c =
     let some : length c.in_ok-requests.requests.items ≢ 0 = search (rules, c.is_empty.ensures, c.if-not-is_empty.true)
     in
     let within : c.loop-place.place < length book.orders =
-    subst (λ (orders : List Order). c.loop-place.place < length orders) c.sendable_orders-orders.ensures.orders
+    subst (λ (orders : List Order). c.loop-place.place < length orders) c.orders-orders.ensures.orders
     c.loop-place-test.true in
     let order : get_or book.orders c.loop-place.place c.index-orders-place.result ≡ c.index-orders-place.result =
-    search (rules, c.index-orders-place.is, c.sendable_orders-orders.ensures.orders) in
+    search (rules, c.index-orders-place.is, c.orders-orders.ensures.orders) in
     let paged : get_or book.pages c.loop-place.place c.index-pages-place.result ≡ c.index-pages-place.result = search
     (rules, c.index-pages-place.is, c.pages-pages.ensures) in
     c.loop-place.invariant
     ∙ first_from live book c.args.part c.args.parts c.loop-place.place c.index-orders-place.result
-    c.index-pages-place.result within (c.sendable_orders-orders.ensures.paged ∙ ap length c.sendable_orders-orders.ensures.orders)
+    c.index-pages-place.result within (c.orders-orders.ensures.paged ∙ ap length c.orders-orders.ensures.orders)
     ∙ ap (λ (o : Order). found_first (requests_in live c.args.part c.args.parts o
     (get_or book.pages c.loop-place.place c.index-pages-place.result)) left (next_requests live left)) order
     ∙ ap (λ (p : Option Paged). found_first (requests_in live c.args.part c.args.parts c.index-orders-place.result p)

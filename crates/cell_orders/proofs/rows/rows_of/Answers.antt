@@ -1,8 +1,7 @@
 use Rattle.std.proofs.Common.{◌∙◌, List, Option, ap}
 use Rattle.std.specs.Prelude.{filter_map}
 use Rattle.std.specs.List.{flat_map}
-use Rattle.cell_orders.specs.declared.exchange.Held.{Held}
-use Rattle.cell_orders.specs.Exchange.{Exchange}
+use Rattle.cell_orders.specs.declared.exchange.HeldExchange.{HeldExchange}
 use Rattle.cell_orders.specs.Rows.{row_of}
 use Rattle.cell_orders.specs.Steps.{places_of, rows_at}
 use Rattle.cell_orders.proofs.RowPlaces.{rows_standing}
@@ -11,6 +10,6 @@ use Rattle.cell_orders.proofs.rows.rows_of.Goals as goal
 pub returns : goal.returns
 returns c =
     c.in_ok-rows.ensures
-    ∙ ap (λ (held : List (Option Held)). flat_map (rows_at c.args.cell) (places_of held)) c.deref.ensures.value
+    ∙ ap (λ (held : List (Option HeldExchange)). flat_map (rows_at c.args.cell) (places_of held)) c.deref.ensures.value
     ∙ rows_standing c.args.cell (places_of c.in_ok-all.all.places.items)
     ∙ ap (filter_map (row_of c.args.cell)) c.in_ok-all.ensures

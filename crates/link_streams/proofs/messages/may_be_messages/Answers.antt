@@ -1,4 +1,4 @@
-use Rattle.std.proofs.Common.{◌≡◌, ◌+◌, ◌-◌, ◌<◌, ◌∙◌, true, false, ap, arith, length, rules, sym}
+use Rattle.std.proofs.Common.{◌≡◌, ◌+◌, ◌-◌, ◌<◌, ◌∙◌, true, false, ap, length, rules}
 use Rattle.std.specs.Prelude.{slice_index}
 use Rattle.link_streams.specs.Directions.{is_type, may_be_messages}
 use Rattle.link_streams.proofs.Types.{all_looked_at, none_left, not_messages, one_message}

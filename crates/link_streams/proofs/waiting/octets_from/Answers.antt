@@ -1,5 +1,5 @@
-use Rattle.std.proofs.Common.{◌≡◌, ◌+◌, ◌-◌, ◌∙◌, ◌++◌, ◌∷◌, [], ap, arith, rules, subst, sym}
-use Rattle.link_streams.specs.Stream.{most_octets, octets_from, sequence_after}
+use Rattle.std.proofs.Common.{◌≡◌, ◌+◌, ◌-◌, ◌∙◌, ◌++◌, ◌∷◌, [], ap, rules, sym}
+use Rattle.link_streams.specs.Stream.{most_octets, octets_from}
 use Rattle.link_streams.proofs.Octets.{octets_end, octets_full, octets_more}
 use Rattle.link_streams.proofs.waiting.octets_from.Goals as goal
 

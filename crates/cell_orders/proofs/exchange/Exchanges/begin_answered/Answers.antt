@@ -1,11 +1,10 @@
-use Rattle.std.proofs.Common.{◌≡◌, ◌++◌, ◌∷◌, [], List, Option, Some}
-use Rattle.cell_orders.specs.declared.exchange.Held.{Held}
-use Rattle.cell_orders.specs.Exchange.{Exchange}
-use Rattle.cell_orders.specs.Steps.{exchange_of, places_of, waits_of}
+use Rattle.std.proofs.Common.{◌≡◌, ◌++◌, ◌∷◌, [], Some}
+use Rattle.cell_orders.specs.declared.exchange.HeldExchange.{HeldExchange}
+use Rattle.cell_orders.specs.Steps.{exchange_of, places_of, waits_kept}
 use Rattle.cell_orders.proofs.Places.{answered_more, places_more, standing_more}
 use Rattle.cell_orders.proofs.exchange.Exchanges.begin_answered.Goals as goal
 
-held : (c : goal.In_ok-push) → Held
+held : (c : goal.In_ok-push) → HeldExchange
 held c = record { order = c.args.heard; answer = Some c.args.heard }
 
 more : (c : goal.In_ok-push)
@@ -16,7 +15,7 @@ more c = places_more c.args.self.now.places.items c.push.new.self.items (held c)
 pub returns-clause-consistent : goal.returns-clause-consistent
 unfolding held
 returns-clause-consistent c =
-    answered_more (waits_of c.args.self.now.waiting.items) (places_of c.args.self.now.places.items)
+    answered_more (waits_kept c.args.self.now.waiting.items) (places_of c.args.self.now.places.items)
     (places_of c.push.new.self.items) c.args.heard.now c.args.heard.now (more c) c.requires
 
 pub returns-clause-added : goal.returns-clause-added

@@ -1,6 +1,6 @@
-use Rattle.std.proofs.Common.{◌≡◌, ◌<◌, ◌∙◌, ℕ, Option, None, Some, ap, length, refl, sym, rules, arith}
+use Rattle.std.proofs.Common.{◌<◌, ◌∙◌, Some, ap, length, refl, sym, rules}
 use Rattle.std.specs.Prelude.{position}
-use Rattle.cell_orders.specs.declared.exchange.Held.{Held}
+use Rattle.cell_orders.specs.declared.exchange.HeldExchange.{HeldExchange}
 use Rattle.cell_orders.specs.declared.exchange.Waiting.{Waiting}
 use Rattle.cell_orders.specs.Exchange.{answers, moved}
 use Rattle.cell_orders.specs.Steps.{places_of, standing, wait_of}
@@ -26,7 +26,7 @@ taken c =
     (ap (position (λ (w : Waiting). answers c.args.cell c.args.heard.now w.order.now)) (sym c.deref.ensures.value)
     ∙ sym c.first_answered.ensures ∙ c.in-Some.is) c.remove-place.ensures.value
 
-held : (c : goal.In_ok-push-in-Some) → Held
+held : (c : goal.In_ok-push-in-Some) → HeldExchange
 held c = record { order = c.remove-place.result.order; answer = Some c.args.heard }
 
 pub returns-in_ok-push-in-Some-clause-consistent : goal.returns-in_ok-push-in-Some-clause-consistent

@@ -1,7 +1,8 @@
-use Rattle.std.proofs.Common.{◌+◌, ◌∙◌, ap, inr, refl, subst, sym, Some, None, Ok}
+use Rattle.std.proofs.Common.{◌+◌, ◌∙◌, ap, inr, refl, subst, sym, None, Ok}
+use Rattle.std.specs.Option.{option_map}
 use Rattle.gsmtap.specs.PieceSteps.{packet_of}
 use Rattle.gsmtap.specs.declared.fault.AirFault.{AirFault}
-use Rattle.link_streams.specs.Segment.{Segment, segment_found}
+use Rattle.link_streams.specs.Segment.{segment_found}
 use Rattle.link_streams.specs.Streams.{Followed, counted}
 use Rattle.link_streams.specs.StreamsSteps.{IsUnfollowed, followed_by}
 use Rattle.link_streams.proofs.Following.{follows, not_linked}
@@ -19,7 +20,14 @@ returns-in_default-clause-fault c =
     ))
 
 pub returns-in_default-segment_in-clause-followed : goal.returns-in_default-segment_in-clause-followed
-returns-in_default-segment_in-clause-followed c = ?
+returns-in_default-segment_in-clause-followed c =
+    follows (followed_by c.args.before c.args.self.now) (packet_of c.args.packet.now) c.in-Some.link None
+    (sym c.link_numbered.ensures ∙ c.in-Some.is)
+    (sym c.segment_in.ensures ∙ ap (option_map segment_found) c.in_default-segment_in.is)
 
 pub returns-clause-followed : goal.returns-clause-followed
-returns-clause-followed c = ?
+returns-clause-followed c =
+    follows (followed_by c.args.before c.args.self.now) (packet_of c.args.packet.now) c.in-Some.link _
+    (sym c.link_numbered.ensures ∙ c.in-Some.is)
+    (sym c.segment_in.ensures ∙ ap (option_map segment_found) c.in-Some-segment_in.is)
+    ∙ ap (λ (it : Followed). Ok (counted (c.args.before + 1) it)) (sym (c.in_ok-take_segment.ensures c.args.before))

@@ -25,7 +25,8 @@ returns g c = record {
           run = made.run;
           written = made.written
               ∙ ap (λ (m : Product).
-              octets_of_group m network.slots network.groups c.args.group made.run.book.orders made.records) (sym c.requires.tapes);
+              octets_of_group m network.slots network.groups c.args.group made.run.book.orders made.records)
+              (sym c.requires.tapes);
         },
         tapes_have_octets c.in_ok-tapes.tapes.items are.records are.made,
       );

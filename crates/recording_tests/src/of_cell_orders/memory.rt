@@ -1,0 +1,17 @@
+//! Rows and their text with scarce memory: they are refused until there is enough.
+
+use crate::of_cell_orders::table::expect_rows;
+use std::test::Fail;
+
+const SCARCE: &str = "
+scarce orders 1-1 @4.10.0 13000008 04000106 1600 0d01 @4.11.0 0100006e 0e0001 030010 04000501 00010001 1200 060004 0\
+    70000 1301 0c0f 0105 82*41 @6.12.0 02000006 0e0001 030010 @6.13.0 0400000e 0e0001 020010 04000501 00010001 @7.14\
+    .0 0600000f 0e0001 020010 09000601 00010001 06 -> refused; 10:clear,4 12:write,6,1,0010,,2,4,0,0f,ok,,5-41414141\
+    4141414141414141414141414141414141414141414141414141414141414141414141414141414141414141414141414141414141414141\
+    41414141414141414141414141414141414141414141 14:kill,7,1,0010,06,
+";
+
+#[test]
+fn rows_come_once_there_is_memory(rt: HostRuntime) -> Result<(), Fail> {
+    expect_rows(&rt, rt.alloc(), SCARCE, 1)
+}
