@@ -1,6 +1,6 @@
 //! A table of remarks, as CSV, in memory.
 
-ghost use Rattle.std.specs.Prelude.{◌≡◌, ℕ, List, [], ◌∷◌, ◌++◌, map, IfOk, OnOk};
+ghost use Rattle.std.specs.Prelude.{◌≡◌, ℕ, List, [], ◌∷◌, ◌++◌, codes, map, IfOk, None, OnOk};
 ghost use Rattle.book_remarks.specs.TableSteps.{IsTable};
 ghost use Rattle.book_remarks.specs.RemarksText.{header_line, line, time_field, time_text};
 
@@ -43,9 +43,25 @@ impl Table {
             → IsTable self.new (octets ++ header_line start)) }
     {
         match start {
-            None => self.push_line(&[b"row", b"name", b"cell", b"says"]),
-            Some(_) => self.push_line(&[b"row", b"name", b"cell", b"says", b"time"]),
+            None => self.push_untimed_names(),
+            Some(_) => self.push_timed_names(),
         }
+    }
+
+    /// Appends the line of the columns' names without times.
+    fn push_untimed_names(&mut self) -> Result<(), AllocError>
+        ensures { OnOk result ((octets : List ℕ) → IsTable self.old octets
+            → IsTable self.new (octets ++ header_line None)) }
+    {
+        self.push_line(&[b"row", b"name", b"cell", b"says"])
+    }
+
+    /// Appends the line of the columns' names with times.
+    fn push_timed_names(&mut self) -> Result<(), AllocError>
+        ensures { OnOk result ((octets : List ℕ) → IsTable self.old octets → IsTable self.new (octets
+            ++ line (codes "row" ∷ codes "name" ∷ codes "cell" ∷ codes "says" ∷ codes "time" ∷ []))) }
+    {
+        self.push_line(&[b"row", b"name", b"cell", b"says", b"time"])
     }
 
     /// A table with no line.
@@ -83,32 +99,30 @@ impl Table {
     {
         match start {
             None => self.push_untimed(row, name, cell, says),
-            Some(start) => {
-                let mut buffer = [0; 24];
-                let time = time_text(&mut buffer, start, slot);
-                self.push_timed(row, name, cell, says, time)
-            }
+            Some(start) => self.push_timed(start, slot, row, name, cell, says),
         }
     }
 
-    /// Appends a line with a time.
+    /// Appends a line with the time at which its slot begins, if there is a slot.
     fn push_timed<'a>(
         &mut self,
+        start: Start,
+        slot: Option<u16>,
         row: &'a str,
         name: &'a str,
         cell: &'a str,
         says: &'a str,
-        time: &'a [u8],
     ) -> Result<(), AllocError>
-        ensures { OnOk result ((octets : List ℕ) → IsTable self.old octets
-            → IsTable self.new (octets ++ line (row.now ∷ name.now ∷ cell.now ∷ says.now ∷ time.now ∷ []))) }
+        ensures { OnOk result ((octets : List ℕ) → IsTable self.old octets → IsTable self.new (octets
+            ++ line (row.now ∷ name.now ∷ cell.now ∷ says.now ∷ time_text start slot ∷ []))) }
     {
+        let mut time = [0; 24];
         self.push_line(&[
             row.as_bytes(),
             name.as_bytes(),
             cell.as_bytes(),
             says.as_bytes(),
-            time,
+            time_text(&mut time, start, slot),
         ])
     }
 

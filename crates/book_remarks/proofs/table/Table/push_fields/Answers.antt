@@ -4,4 +4,4 @@ pub returns-in-None : goal.returns-in-None
 returns-in-None c = rw c.in-None.is c.push_untimed.ensures
 
 pub returns-in-Some : goal.returns-in-Some
-returns-in-Some c = rw c.in-Some.is (rw (← c.time_text-time.ensures) c.push_timed.ensures)
+returns-in-Some c = rw c.in-Some.is c.push_timed.ensures
