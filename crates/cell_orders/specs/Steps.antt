@@ -1,6 +1,6 @@
 -- How exchanges are kept while messages are heard (own). The contracts of private functions alone speak of it.
 use Rattle.std.specs.Prelude.{◌≡◌, ℕ, suc, false, List, [], ◌∷◌, map, filter_map, Option, Some, None, is_none}
-use Rattle.std.specs.Prelude.{option_map, option_to_list, option_and_then, if◌then◌else◌}
+use Rattle.std.specs.Prelude.{option_map, option_to_list, option_and_then, if◌then◌else◌, Bool, ◌==◌, ◌&&◌}
 use Rattle.csv.specs.Writing.{fields_written, has_written, text_written, writer_setup}
 use Rattle.cbsp_wire.specs.declared.message.Cell.{Cell}
 use Rattle.cell_orders.specs.declared.heard.Heard.{Heard}
@@ -9,7 +9,8 @@ use Rattle.cell_orders.specs.declared.exchange.HeldExchange.{HeldExchange}
 use Rattle.cell_orders.specs.declared.exchange.Waiting.{Waiting}
 use Rattle.cell_orders.specs.declared.row.OrderRow.{OrderRow}
 use Rattle.cell_orders.specs.declared.text.OrdersText.{OrdersText}
-use Rattle.cell_orders.specs.Exchange.{LinkExchange}
+use Rattle.cell_orders.specs.declared.exchange.Awaited.{Awaited}
+use Rattle.cell_orders.specs.Exchange.{LinkExchange, awaited_by, is_brought}
 use Rattle.cell_orders.specs.Rows.{row_of}
 use Rattle.cell_orders.specs.Text.{orders_writer}
 
@@ -55,6 +56,11 @@ standing_of s = standing (places_of s.places.items)
 -- the row of a place
 abbrev pub rows_at : Cell → Option LinkExchange → List OrderRow
 rows_at cell place = option_to_list (option_and_then (row_of cell) place)
+
+-- whether a message that brings this answers another
+abbrev pub answers_with : Option Awaited → Heard → Heard → Bool
+answers_with brought h order =
+    (h.connection == order.connection) && is_brought (awaited_by order.message) brought
 
 -- the text has these octets, and the last of its rows is ended
 pub record IsText (text : OrdersText) (octets : List ℕ) : Type 0 where

@@ -5,7 +5,7 @@ ghost use Rattle.cell_orders.specs.Exchange.{after_heard, answered, answers, awa
 ghost use Rattle.cell_orders.specs.Exchange.{concerns};
 ghost use Rattle.cell_orders.specs.Exchange.{end_if, exchanges, is_brought, same_awaited, same_order, same_old_serial};
 ghost use Rattle.cell_orders.specs.Exchange.{after_answer};
-ghost use Rattle.cell_orders.specs.Steps.{IsConsistent, standing_of, wait_of, waits_kept};
+ghost use Rattle.cell_orders.specs.Steps.{IsConsistent, answers_with, standing_of, wait_of, waits_kept};
 
 use crate::heard::Heard;
 use crate::naming::{fails_cell, lists_cell};
@@ -212,21 +212,21 @@ fn is_brought(one: Option<Awaited>, other: Option<Awaited>) -> bool
     }
 }
 
-/// Whether a message answers another of its connection.
-fn answers(cell: Cell, heard: &Heard, order: &Heard) -> bool
-    ensures { result ≡ answers cell heard.now order.now }
+/// Whether a message that brings this answers another of its connection.
+fn answers(heard: &Heard, brought: Option<Awaited>, order: &Heard) -> bool
+    ensures { result ≡ answers_with brought heard.now order.now }
 {
-    heard.connection == order.connection
-        && is_brought(awaited_by(&order.message), brought_by(cell, &heard.message))
+    heard.connection == order.connection && is_brought(awaited_by(&order.message), brought)
 }
 
-/// The number of the first of some orders that a message answers.
+/// The number of the first of some orders that a message answers. What it brings is looked for once.
 fn first_answered(cell: Cell, heard: &Heard, waiting: &[Waiting<'_>]) -> Option<usize>
     ensures { result ≡ position (λ w. answers cell heard.now w.order.now) waiting.now }
 {
+    let brought = brought_by(cell, &heard.message);
     waiting
         .iter()
-        .position(|one| answers(cell, heard, one.order))
+        .position(|one| answers(heard, brought, one.order))
 }
 
 impl<'a> Exchanges<'a> {

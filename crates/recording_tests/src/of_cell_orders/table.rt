@@ -25,13 +25,11 @@ fn cell_in(word: &str) -> Result<Cell, Fail> {
     })
 }
 
-/// The message at a place, `@SLOT.PACKET.CONNECTION`, with these digits.
-fn message_at(alloc: Global, place: &str, digits: &str) -> Result<Heard, Fail> {
-    let numbers = place.strip_prefix("@").unwrap_or(place);
-    let (slot, rest) = numbers.split_once('.').unwrap_or((numbers, ""));
+/// The message at a place, `SLOT.PACKET.CONNECTION`, with these octets.
+fn message_at(alloc: Global, place: &str, octets: &[u8]) -> Result<Heard, Fail> {
+    let (slot, rest) = place.split_once('.').unwrap_or((place, ""));
     let (packet, connection) = rest.split_once('.').unwrap_or((rest, ""));
-    let octets = octets_of(alloc, digits)?;
-    match read(alloc, &octets) {
+    match read(alloc, octets) {
         Ok((message, _)) => Ok(Heard {
             slot: slot.parse::<u32>()?,
             packet: packet.parse::<u64>()?,
@@ -42,24 +40,29 @@ fn message_at(alloc: Global, place: &str, digits: &str) -> Result<Heard, Fail> {
     }
 }
 
-/// The messages of all the words that are left.
-fn heard_in(alloc: Global, words: &mut Words<'_>) -> Result<Vec<Heard>, Fail> {
-    let mut heard = Vec::new(alloc);
-    let mut place = "";
+/// The octets of all the words that are left.
+fn octets_in(alloc: Global, words: &mut Words<'_>) -> Result<Vec<u8>, Fail> {
     let mut digits = String::new(alloc);
     for _ in 0..1000_u16 {
         let word = words.word();
-        if word.is_empty() || word.starts_with("@") {
-            if !place.is_empty() {
-                heard.push(message_at(alloc, place, &digits)?)?;
-            }
-            place = word;
-            digits = String::new(alloc);
-        } else {
-            let (times, repeated) = word.split_once('*').unwrap_or(("1", word));
-            for _ in 0..times.parse::<u16>()? {
-                digits.push_str(repeated)?;
-            }
+        let (times, repeated) = word.split_once('*').unwrap_or(("1", word));
+        for _ in 0..times.parse::<u16>()? {
+            digits.push_str(repeated)?;
+        }
+    }
+    octets_of(alloc, &digits)
+}
+
+/// The messages of an action.
+fn heard_in(alloc: Global, action: &str) -> Result<Vec<Heard>, Fail> {
+    let mut heard = Vec::new(alloc);
+    for part in action.split('@') {
+        let mut words = Words::of(part);
+        let place = words.word();
+        // what stands before the first message has no place
+        if place.contains(".") {
+            let octets = octets_in(alloc, &mut words)?;
+            heard.push(message_at(alloc, place, &octets)?)?;
         }
     }
     Ok(heard)
@@ -134,7 +137,7 @@ fn carried_out(
     let mut words = Words::of(action);
     let verb = drought.verb(&mut words, blocks);
     let cell = cell_in(words.word())?;
-    let heard = heard_in(alloc, &mut words)?;
+    let heard = heard_in(alloc, action)?;
     match verb {
         "orders" => orders(alloc, drought, cell, &heard),
         "emergencies" => Ok(format!(in alloc; "{}", emergencies_to(cell, &heard))?),
