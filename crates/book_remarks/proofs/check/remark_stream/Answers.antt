@@ -1,5 +1,6 @@
-use Rattle.std.proofs.Common.{◌≡◌, ℕ, List, false, rules, subst}
+use Rattle.std.proofs.Common.{◌≡◌, ℕ, List, false, inr, rules, subst}
 use Rattle.std.specs.Io.KnownBytes.{Appends}
+use Rattle.device_ends.specs.Moves.{AppendsFront}
 use Rattle.device_ends.specs.Sink.{writer_of}
 use Rattle.book_remarks.specs.Remarked.{IsRemarked, IsRemarkedFor}
 use Rattle.book_remarks.proofs.EngineLaws.{lax, unremarked, wrote}
@@ -35,3 +36,17 @@ returns-in-0-clause-ok g c =
     (subst (λ (xs : List ℕ). Appends (g.W.Write.contents (writer_of c.args.sink.now))
     (g.W.Write.contents (writer_of c.write_all-2.new.sink)) xs) c.deref-3.ensures.value
     c.in_default-write_all-2.ensures.ok)
+
+pub returns-in-Err-write_all-clause-err : goal.returns-in-Err-write_all-clause-err
+returns-in-Err-write_all-clause-err g c = inr (record {
+  input = c.in_ok-octets.octets.items;
+  input_is = c.in_ok-octets.ensures.all;
+  count = c.in_ok-remarked.remarked.count;
+  output = c.in_ok-remarked.remarked.text.items;
+  remarked = subst
+      (λ (xs : List ℕ). IsRemarked c.args.slots c.args.start xs c.in_ok-remarked.remarked.count
+      c.in_ok-remarked.remarked.text.items) c.deref-2.ensures.value c.in_ok-remarked.ensures.ok;
+  written = subst (λ (xs : List ℕ). AppendsFront (g.W.Write.contents (writer_of c.args.sink.now))
+      (g.W.Write.contents (writer_of c.write_all-2.new.sink)) xs) c.deref-3.ensures.value
+      c.in-Err-write_all.ensures.err;
+})
