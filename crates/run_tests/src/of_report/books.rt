@@ -313,19 +313,17 @@ impl Books {
     }
 
     /// `asked CI PLACE..` says which orders asked a cell.
-    fn add_asked(&mut self, words: &mut Words) -> Result<(), Fail> {
-        let cell = Cell {
-            lac: 1,
-            ci: words.number16()?,
+    fn add_asked(&mut self, rest: &str) -> Result<(), Fail> {
+        let (ci, places) = rest.split_once(' ').unwrap_or((rest, ""));
+        let ci = ci.parse::<u16>()?;
+        let mut asked = AskedCell {
+            cell: Cell { lac: 1, ci },
+            places: Vec::new(self.alloc),
         };
-        let mut places = Vec::new(self.alloc);
-        loop {
-            match words.word() {
-                "" => break,
-                place => places.push(place.parse::<usize>()?)?,
-            }
+        for place in places.split(' ') {
+            asked.places.push(place.parse::<usize>()?)?;
         }
-        self.orders.asked.push(AskedCell { cell, places })?;
+        self.orders.asked.push(asked)?;
         Ok(())
     }
 
@@ -414,7 +412,7 @@ impl Books {
                 self.orders = BookOrders::none(self.alloc);
             }
             "named" => self.add_order(&mut Words::of(rest))?,
-            "asked" => self.add_asked(&mut Words::of(rest))?,
+            "asked" => self.add_asked(rest)?,
             "read" => self.read()?,
             "swap" => self.readings.reverse(),
             "drop-reading" => self
