@@ -8,7 +8,7 @@ use std::alloc::{AllocError, Global};
 use std::process::Abort;
 use std::test::Fail;
 use test_support::take_all;
-use verification::{Detail, Findings, differences};
+use verification::{Detail, Findings, TableLayout, differences};
 
 /// How many octets each block of the memory has that is given back.
 const BLOCK: usize = 1024;
