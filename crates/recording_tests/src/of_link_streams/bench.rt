@@ -13,13 +13,9 @@
 //! of other ways the source's last octet stands there. `count` says how many there are, and how many octets they have.
 //! `whole` says all of each: its packet, its time, source and destination, the addresses of controller and centre, and
 //! which side sent it. After `scarce` hardly any memory is left, and more and more until that is enough: the answer is
-//! then `refused; ` and what came in the end. Unless memory is scarce, the file comes in parts of several sizes, too,
-//! and the answer says so if that comes to something else.
+//! then `refused; ` and what came in the end.
 
-ghost use Rattle.std.specs.Prelude.{◌<◌, ◌≤◌, length};
-
-use gsmtap::{AirFault, Walk};
-use link_streams::{LinkPacket, LinkStreams, Side, messages_of_capture, messages_of_walk};
+use link_streams::{LinkPacket, Side, messages_of_capture};
 use std::alloc::Global;
 use std::process::Abort;
 use std::test::Fail;
@@ -32,7 +28,6 @@ pub struct Bench {
     packets: u32,
     wanted: String,
     drought: Drought,
-    is_scarce: bool,
 }
 
 /// An address and a port.
@@ -160,67 +155,6 @@ fn fill(alloc: Global, bench: &mut Bench, words: &mut Words) -> Result<(), Fail>
     Ok(())
 }
 
-/// In parts of how many octets a file comes, too.
-const PARTS: [usize; 4] = [1, 7, 64, 1_000_000];
-
-/// The messages of a file that comes in parts of so many octets.
-fn walked(alloc: Global, octets: &[u8], size: usize) -> Result<Vec<LinkPacket>, AirFault>
-    requires some { 0 < size }
-    requires few { length octets.now ≤ 10000000 }
-{
-    let mut walk = Walk::new(alloc, LinkStreams::new(alloc));
-    let mut came = 0;
-    'parts: while came < octets.len() {
-        let end = octets.len().min(came.saturating_add(size));
-        walk.push(&octets[came..end]);
-        came = end;
-    }
-    messages_of_walk(walk)
-}
-
-/// Whether two messages are one.
-fn is_same(a: &LinkPacket, b: &LinkPacket) -> bool {
-    a.number == b.number
-        && a.time == b.time
-        && a.way == b.way
-        && a.octets.list.as_slice() == b.octets.list.as_slice()
-}
-
-/// Whether the messages of two lists are the same.
-fn are_same(some: &[LinkPacket], others: &[LinkPacket]) -> bool {
-    if some.len() != others.len() {
-        return false;
-    }
-    for (place, one) in some.iter().enumerate() {
-        match others.get(place) {
-            Some(other) => {
-                if !is_same(one, other) {
-                    return false;
-                }
-            }
-            None => return false,
-        }
-    }
-    true
-}
-
-/// Whether a file comes to the same messages in parts as whole.
-fn is_same_in_parts(alloc: Global, octets: &[u8], whole: &Result<Vec<LinkPacket>, AirFault>) -> bool
-    requires { length octets.now ≤ 10000000 }
-{
-    for size in PARTS {
-        let is_same = match (&walked(alloc, octets, size), whole) {
-            (Ok(found), Ok(messages)) => are_same(found, messages),
-            (Err(found), Err(fault)) => found == fault,
-            _ => false,
-        };
-        if !is_same {
-            return false;
-        }
-    }
-    true
-}
-
 /// The messages of the file, or the fault's text.
 fn messages(alloc: Global, bench: &mut Bench) -> Result<Result<Vec<LinkPacket>, String>, Fail> {
     if bench.octets.len() > 10_000_000 {
@@ -229,9 +163,6 @@ fn messages(alloc: Global, bench: &mut Bench) -> Result<Result<Vec<LinkPacket>, 
     bench.drought.begin(alloc);
     let outcome = messages_of_capture(alloc, &bench.octets);
     bench.drought.end();
-    if !bench.is_scarce && !is_same_in_parts(alloc, &bench.octets, &outcome) {
-        return Err(Fail::new("parts come to other messages"));
-    }
     match outcome {
         Ok(messages) => Ok(Ok(messages)),
         Err(fault) => Ok(Err(fault.to_string(alloc)?)),
@@ -346,7 +277,6 @@ fn done(alloc: Global, bench: &mut Bench, verb: &str, words: &mut Words) -> Resu
 fn expect_row(alloc: Global, bench: &mut Bench, row: Row) -> Result<(), Fail> {
     for refused in 0..Drought::MOST {
         let mut words = Words::of(row.action);
-        bench.is_scarce = row.action.starts_with("scarce");
         let verb = bench.drought.verb(&mut words, refused);
         let found = done(alloc, bench, verb, &mut words)?;
         if !words.word().is_empty() {
@@ -370,7 +300,6 @@ pub fn expect_rows(rt: &impl Abort, alloc: Global, table: &str, count: u16) -> R
         packets: 0,
         wanted: String::new(alloc),
         drought: Drought::new(alloc)?,
-        is_scarce: false,
     };
     let mut rows = 0_u16;
     for line in table.split('\n') {
