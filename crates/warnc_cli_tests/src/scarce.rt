@@ -121,11 +121,11 @@ in write,0,a,4370,0,1,en,2,2,0,1-1,@
 worked lac,ci,id,serial,start,end,completed,shown
 worked 1,1,4370,0010,0,2,1,yes
 args report --slots 2
-scarce 23 4700 -> worked
-args report --slots 2 --group 0
 scarce 24 4700 -> worked
-args report --slots 2 --network
+args report --slots 2 --group 0
 scarce 25 4700 -> worked
+args report --slots 2 --network
+scarce 26 4700 -> worked
 ";
 
 const CHART: &str = "
@@ -134,19 +134,19 @@ in write,0,a,4370,0,1,en,2,2,0,1-1,@
 args chart --slots 2
 run -> 0
 keep
-scarce 21 4800 -> worked
+scarce 22 4800 -> worked
 args chart --slots 2 --from 1 --to 2
 run -> 0
 keep
-scarce 21 4800 -> worked
+scarce 22 4800 -> worked
 args chart --slots 2 --group 0
 run -> 0
 keep
-scarce 22 4800 -> worked
+scarce 23 4800 -> worked
 args chart --slots 2 --network
 run -> 0
 keep
-scarce 23 4800 -> worked
+scarce 24 4800 -> worked
 ";
 
 const VERIFY: &str = "
@@ -179,7 +179,7 @@ args report --slots 2 --network
 worked lac,ci,id,serial,start,end,completed,shown
 worked 1,0,4370,0010,0,2,1,yes
 worked 1,64,4370,0010,0,2,1,yes
-scarce-later 278 67 293 2400 -> worked
+scarce-later 279 67 295 2400 -> worked
 ";
 
 /// With so little memory no thread can be made: a session works in the calling thread. Memory ends before there are

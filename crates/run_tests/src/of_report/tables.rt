@@ -359,12 +359,12 @@ fn rows_say_what_became_of_each_order_of_a_cell(rt: HostRuntime) -> Result<(), F
 
 #[test]
 fn full_reports_have_more_columns(rt: HostRuntime) -> Result<(), Fail> {
-    expect_rows(&rt, rt.alloc(), FULL, 27)
+    expect_rows(&rt, rt.alloc(), FULL, 34)
 }
 
 #[test]
 fn reports_have_times(rt: HostRuntime) -> Result<(), Fail> {
-    expect_rows(&rt, rt.alloc(), TIMES, 26)
+    expect_rows(&rt, rt.alloc(), TIMES, 28)
 }
 
 #[test]
