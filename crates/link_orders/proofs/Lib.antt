@@ -1,2 +1,3 @@
 pub mod Overhearing
+pub mod Medians
 mod Worked

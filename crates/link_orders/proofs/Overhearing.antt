@@ -17,8 +17,13 @@ use Rattle.link_streams.specs.StreamsSteps.{IsUnfollowed, followed_by}
 use Rattle.link_streams.specs.declared.streams.LinkStreams.{LinkStreams}
 use Rattle.link_orders.specs.Clock.{Clocked, clock_packet, not_clocked}
 use Rattle.link_orders.specs.Overhearing.{Overhearing, for_overhearing, overhear, with_clock, with_link}
-use Rattle.link_orders.specs.Steps.{HaveOverheard, HaveOverheardAll, IsUnclocked, clocked_of, fault_of, overheard_by}
+use Rattle.link_orders.specs.Orders.{AreNoOrders, AreNoOrdersIn, AreOrders, AreOrdersIn}
+use Rattle.link_orders.specs.Steps.{HaveOverheard, HaveOverheardAll, IsUnclocked, begins_in, clocked_of, fault_of}
+use Rattle.link_orders.specs.Steps.{messages_in, overheard_by}
 use Rattle.link_orders.specs.declared.clock.SlotClock.{SlotClock}
+use Rattle.link_orders.specs.declared.orders.LinkOrders.{LinkOrders}
+use Rattle.link_orders.specs.declared.orders.OrdersFault.{OrdersFault}
+use Rattle.link_orders.specs.declared.orders.OrdersWanted.{OrdersWanted}
 use Rattle.link_orders.specs.declared.overheard.Overheard.{Overheard}
 
 -- A packet
@@ -64,8 +69,8 @@ none_overheard from it from_is link air = record {
   from_is = from_is;
   comes =
       first_comes from it
-          (one_followed for_messages.start (followed_by 0 it.streams) (no_followed it.streams link))
-          (sym air);
+      (one_followed for_messages.start (followed_by 0 it.streams) (no_followed it.streams link))
+      (sym air);
   near = omega (arith, no_track it.clock air);
 }
 
@@ -172,3 +177,22 @@ pub overheard_in : (from : Sender) (input : List ℕ) (it : Overheard) (all : Ha
 overheard_in from input it all =
     comes_to (for_overhearing from) (HaveOverheard from) (for_overhearing from) input it
     (overheard_by (length all.packets) it) all all.has.comes
+
+-- whose messages and blocks come to orders, or to none
+pub orders_in : (wanted : OrdersWanted) (input : List ℕ) (it : Overheard) (orders : LinkOrders) →
+    HaveOverheardAll wanted.from input it → AreOrders wanted (messages_in it) (begins_in it) orders →
+    AreOrdersIn wanted input orders
+orders_in wanted input it orders all are = record {
+  known = overheard_by (length all.packets) it;
+  file = overheard_in wanted.from input it all;
+  are = are;
+}
+
+pub no_orders_in : (wanted : OrdersWanted) (input : List ℕ) (it : Overheard) (fault : OrdersFault) →
+    HaveOverheardAll wanted.from input it → AreNoOrders wanted (messages_in it) (begins_in it) fault →
+    AreNoOrdersIn wanted input fault
+no_orders_in wanted input it fault all are = record {
+  known = overheard_by (length all.packets) it;
+  file = overheard_in wanted.from input it all;
+  are = are;
+}

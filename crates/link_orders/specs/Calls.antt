@@ -1,6 +1,7 @@
 -- Which messages of a link count for a cell's orders: those to and from the wanted controller that can be read. Own.
-use Rattle.std.specs.Prelude.{ℕ, ◌==◌, ◌&&◌, ◌||◌, Bool, true, false, if◌then◌else◌, List, Option, Some, None}
-use Rattle.std.specs.Prelude.{Result, Ok, Err, count_by, filter_map, find, is_none}
+use Rattle.std.specs.Prelude.{ℕ, ◌-◌, ◌==◌, ◌||◌, Bool, true, false, if◌then◌else◌, List, length, Option, Some, None}
+use Rattle.std.specs.Prelude.{Result, Ok, Err, count_by, find, option_map, option_to_list, unwrap_or}
+use Rattle.std.specs.List.{flat_map}
 use Rattle.cbsp_link.specs.Meaning.{link_message}
 use Rattle.cbsp_link.specs.declared.fault.LinkFault.{LinkFault}
 use Rattle.cbsp_link.specs.declared.message.LinkMessage.{LinkMessage}
@@ -24,12 +25,13 @@ abbrev pub is_connection : Way → Way → Bool
 is_connection a b = is_way a b || is_way a (turned b)
 
 -- the number of a message's connection: that of the packet by which the first message of it became whole
-abbrev pub number_of : LinkPacket → Option LinkPacket → ℕ
-number_of one None = one.number
-number_of one (Some first) = first.number
+abbrev pub first_number : List LinkPacket → Way → Option ℕ
+first_number messages way =
+    option_map (λ (first : LinkPacket). first.number)
+    (find (λ (other : LinkPacket). is_connection way other.way) messages)
 
 abbrev pub connection_of : List LinkPacket → LinkPacket → ℕ
-connection_of messages one = number_of one (find (λ other. is_connection one.way other.way) messages)
+connection_of messages one = unwrap_or (first_number messages one.way) one.number
 
 -- the controller's address is the wanted one, where one is wanted
 abbrev pub is_address : (address : ℕ) → Option ℕ → Bool
@@ -57,12 +59,12 @@ abbrev pub call_if : Option ℕ → List LinkPacket → LinkPacket → Option Ca
 call_if controller messages one = if is_of controller one then call_of messages one else None
 
 -- the messages that count, in order
+abbrev pub calls_at : Option ℕ → List LinkPacket → LinkPacket → List Call
+calls_at controller messages one = option_to_list (call_if controller messages one)
+
 abbrev pub calls_of : Option ℕ → List LinkPacket → List Call
-calls_of controller messages = filter_map (call_if controller messages) messages
+calls_of controller messages = flat_map (calls_at controller messages) messages
 
--- how many of the wanted controller can't be read
-abbrev pub is_unread : Option ℕ → List LinkPacket → LinkPacket → Bool
-is_unread controller messages one = is_of controller one && is_none (call_of messages one)
-
+-- how many of the wanted controller's can't be read: all but those
 abbrev pub unread_of : Option ℕ → List LinkPacket → ℕ
-unread_of controller messages = count_by (is_unread controller messages) messages
+unread_of controller messages = count_by (is_of controller) messages - length (calls_of controller messages)

@@ -1,6 +1,6 @@
 -- What one cell was asked over a link, by a capture file that has it and may have the cell's air. Own.
 use Rattle.std.specs.Prelude.{◌≡◌, ℕ, ◌+◌, ◌-◌, ◌*◌, ◌&&◌, nat_lt, Bool, List, [], ◌∷◌, map, find, Option, Some, None}
-use Rattle.std.specs.Prelude.{is_none, unwrap_or}
+use Rattle.std.specs.Prelude.{is_none, option_map, unwrap_or}
 use Rattle.cbsp_wire.specs.declared.message.Cell.{Cell}
 use Rattle.cell_orders.specs.Exchange.{concerns}
 use Rattle.cell_orders.specs.Rows.{emergencies_to, rows_of}
@@ -27,12 +27,11 @@ is_untimed call = is_none call.time
 abbrev pub is_asked : Cell → Call → Bool
 is_asked cell call = concerns cell call.message
 
-abbrev pub mark_of_call : Option Call → ℕ
-mark_of_call None = epoch
-mark_of_call (Some call) = mark_if call.time
+abbrev pub first_mark : Cell → List Call → Option ℕ
+first_mark cell calls = option_map (λ (call : Call). mark_if call.time) (find (is_asked cell) calls)
 
 abbrev pub first_asked : Cell → List Call → ℕ
-first_asked cell calls = mark_of_call (find (is_asked cell) calls)
+first_asked cell calls = unwrap_or (first_mark cell calls) epoch
 
 -- when the slot of the first block begins: the median of what the blocks say; and without the air the first message
 -- that concerns the cell stands in for it
@@ -49,9 +48,9 @@ abbrev pub is_early : Cell → (begin : ℕ) → Call → Bool
 is_early cell begin call = is_asked cell call && nat_lt (mark_if call.time) begin
 
 -- as a fault
-abbrev pub early_fault : OrdersWanted → (begin : ℕ) → Call → OrdersFault
-early_fault wanted begin call =
-    faults.Early call.packet (wanted.first_slot + slots_before begin (mark_if call.time))
+abbrev pub early_fault : (first_slot begin : ℕ) → Call → OrdersFault
+early_fault first_slot begin call =
+    faults.Early call.packet (first_slot + slots_before begin (mark_if call.time))
 
 -- a message with its slot
 abbrev pub heard_at : (begin : ℕ) → Call → Heard

@@ -1,8 +1,8 @@
 //! Which messages of a link count for a cell's orders.
 
-ghost use Rattle.std.specs.Prelude.{◌≡◌, ◌+◌, ◌++◌, ◌<◌, ◌^◌, if◌then◌else◌, option_to_list, IfOk, OnOk};
-ghost use Rattle.link_orders.specs.Calls.{call_of, calls_of, connection_of, is_connection, is_of, turned, unread_of};
-ghost use Rattle.link_orders.specs.Calls.{call_if, is_unread};
+ghost use Rattle.std.specs.Prelude.{◌≡◌, ◌++◌, count_by, IfOk, OnOk};
+ghost use Rattle.link_orders.specs.Calls.{call_of, calls_at, calls_of, connection_of, first_number, is_connection};
+ghost use Rattle.link_orders.specs.Calls.{is_of, turned, unread_of};
 
 use cbsp_link::{LinkError, LinkMessage, read};
 use link_streams::{LinkPacket, Way};
@@ -47,18 +47,21 @@ fn is_connection(a: Way, b: Way) -> bool
     a == b || a == turned(b)
 }
 
+/// The number of the packet of a connection's first message.
+fn first_number(messages: &[LinkPacket], way: Way) -> Option<u64>
+    ensures { result ≡ first_number messages.now way }
+{
+    match messages.iter().find(|other| is_connection(way, other.way)) {
+        Some(first) => Some(first.number),
+        None => None,
+    }
+}
+
 /// The number of a message's connection: that of the packet of its first message.
 fn connection_of(messages: &[LinkPacket], one: &LinkPacket) -> u64
     ensures { result ≡ connection_of messages.now one.now }
 {
-    let way = one.way;
-    match messages
-        .iter()
-        .find(|other| is_connection(way, other.way))
-    {
-        Some(first) => first.number,
-        None => one.number,
-    }
+    first_number(messages, one.way).unwrap_or(one.number)
 }
 
 /// Whether a message is of the wanted controller.
@@ -94,31 +97,51 @@ fn call_of(
     }
 }
 
-/// Takes one message more.
-fn take(
+/// Appends a message, if it counts.
+fn push_call(
     alloc: Global,
     controller: Option<u32>,
     messages: &[LinkPacket],
     one: &LinkPacket,
-    calls: &mut Calls,
+    calls: &mut Vec<Call>,
 ) -> Result<(), AllocError>
-    requires { calls.old.unread < 2 ^ 63 }
-    ensures list { OnOk result (calls.new.list.items
-        ≡ calls.old.list.items ++ option_to_list (call_if controller messages.now one.now)) }
-    ensures unread { OnOk result (calls.new.unread
-        ≡ calls.old.unread + (if is_unread controller messages.now one.now then 1 else 0)) }
+    ensures { OnOk result (calls.new.items ≡ calls.old.items ++ calls_at controller messages.now one.now) }
 {
     if !is_of(controller, one) {
         return Ok(());
     }
     match call_of(alloc, messages, one)? {
-        Some(call) => calls.list.push(call)?,
-        None => calls.unread += 1,
+        Some(call) => {
+            calls.push(call)?;
+            Ok(())
+        }
+        None => Ok(()),
     }
-    Ok(())
 }
 
 /// The messages that count, in order.
+fn list_of(
+    alloc: Global,
+    controller: Option<u32>,
+    messages: &[LinkPacket],
+) -> Result<Vec<Call>, AllocError>
+    ensures { IfOk result (λ calls. calls.items ≡ calls_of controller messages.now) }
+{
+    let mut calls = Vec::new(alloc);
+    for one in messages {
+        push_call(alloc, controller, messages, one, &mut calls)?;
+    }
+    Ok(calls)
+}
+
+/// How many messages are of the wanted controller.
+fn count_of(controller: Option<u32>, messages: &[LinkPacket]) -> usize
+    ensures { result ≡ count_by (is_of controller) messages.now }
+{
+    messages.iter().filter(|one| is_of(controller, one)).count()
+}
+
+/// The messages that count, in order, and how many can't be read.
 pub(crate) fn calls_of(
     alloc: Global,
     controller: Option<u32>,
@@ -127,12 +150,7 @@ pub(crate) fn calls_of(
     ensures list { IfOk result (λ calls. calls.list.items ≡ calls_of controller messages.now) }
     ensures unread { IfOk result (λ calls. calls.unread ≡ unread_of controller messages.now) }
 {
-    let mut calls = Calls {
-        list: Vec::new(alloc),
-        unread: 0,
-    };
-    for one in messages {
-        take(alloc, controller, messages, one, &mut calls)?;
-    }
-    Ok(calls)
+    let list = list_of(alloc, controller, messages)?;
+    let unread = count_of(controller, messages).saturating_sub(list.len());
+    Ok(Calls { list, unread })
 }

@@ -1,6 +1,6 @@
 //! The clock of a tape: when it begins, by the blocks of the air.
 
-ghost use Rattle.std.specs.Prelude.{◌≡◌, ◌+◌, ◌++◌, ◌<◌, ◌≤◌, ◌^◌, [], IfErr, IfSome, OnOk, Ok, Err};
+ghost use Rattle.std.specs.Prelude.{◌≡◌, ◌+◌, ◌++◌, ◌<◌, ◌≤◌, ◌^◌, ◌⊎◌, [], IfErr, IfSome, OnOk, Ok, Err, None};
 ghost use Rattle.gsmtap.specs.PieceSteps.{packet_of};
 ghost use Rattle.gsmtap.specs.TapeSteps.{last_slot};
 ghost use Rattle.link_orders.specs.Clock.{IsMedian, begin_by, begins_by, clock_packet, mark_if, mark_of};
@@ -148,7 +148,7 @@ pub(crate) fn slot_at(begin: u64, mark: u64) -> u64
 /// How many slots before the tape something comes, rounded up.
 pub(crate) fn slots_before(begin: u64, mark: u64) -> u64
     ensures value { result ≡ slots_before begin mark }
-    ensures bound { result < 2 ^ 40 }
+    ensures bound { result < 1099511627776 }
 {
     begin.saturating_sub(mark).div_ceil(SLOT)
 }

@@ -4,8 +4,8 @@ ghost use Rattle.std.specs.Prelude.{◌≡◌, ℕ, List, find, map, IfErr, IfOk
 ghost use Rattle.std.specs.Option.{option_map};
 ghost use Rattle.link_orders.specs.Orders.{AreNoOrders, AreNoOrdersIn, AreOrders, AreOrdersIn, IsReference, begin_of};
 ghost use Rattle.cell_orders.specs.Rows.{emergencies_to, rows_of};
-ghost use Rattle.link_orders.specs.Orders.{early_fault, first_asked, heard_at, heard_from, is_asked, is_early};
-ghost use Rattle.link_orders.specs.Orders.{is_untimed};
+ghost use Rattle.link_orders.specs.Orders.{early_fault, first_asked, first_mark, heard_at, heard_from, is_asked};
+ghost use Rattle.link_orders.specs.Orders.{is_early, is_untimed};
 ghost use Rattle.link_orders.specs.Steps.{HaveOverheardAll, begins_in, messages_in};
 
 use crate::calls::{Call, Calls, calls_of};
@@ -95,14 +95,21 @@ fn is_early(cell: Cell, begin: u64, call: &Call) -> bool
     is_asked(cell, call) && mark_if(call.time) < begin
 }
 
+/// When the first message comes that concerns a cell, if one does.
+fn first_mark(cell: Cell, calls: &[Call]) -> Option<u64>
+    ensures { result ≡ first_mark cell calls.now }
+{
+    match calls.iter().find(|call| is_asked(cell, call)) {
+        Some(call) => Some(mark_if(call.time)),
+        None => None,
+    }
+}
+
 /// When the first message comes that concerns a cell.
 fn first_asked(cell: Cell, calls: &[Call]) -> u64
     ensures { result ≡ first_asked cell calls.now }
 {
-    match calls.iter().find(|call| is_asked(cell, call)) {
-        Some(call) => mark_if(call.time),
-        None => EPOCH,
-    }
+    first_mark(cell, calls).unwrap_or(EPOCH)
 }
 
 /// When the slot of the first block begins.
@@ -132,16 +139,22 @@ fn untimed(calls: &[Call]) -> Option<OrdersFault>
     }
 }
 
-/// The first message that concerns the cell before the tape begins, as a fault.
-fn early(wanted: &OrdersWanted, begin: u64, calls: &[Call]) -> Option<OrdersFault>
-    ensures { result ≡ option_map (early_fault wanted.now begin) (find (is_early wanted.now.cell begin) calls.now) }
+/// A message that comes before the tape begins, as a fault.
+fn early_fault(first_slot: u16, begin: u64, call: &Call) -> OrdersFault
+    ensures { result ≡ early_fault first_slot begin call.now }
 {
-    let cell = wanted.cell;
+    OrdersFault::Early {
+        packet: call.packet,
+        first_slot: u64::from(first_slot) + slots_before(begin, mark_if(call.time)),
+    }
+}
+
+/// The first message that concerns the cell before the tape begins, as a fault.
+fn early(cell: Cell, first_slot: u16, begin: u64, calls: &[Call]) -> Option<OrdersFault>
+    ensures { result ≡ option_map (early_fault first_slot begin) (find (is_early cell begin) calls.now) }
+{
     match calls.iter().find(|call| is_early(cell, begin, call)) {
-        Some(call) => Some(OrdersFault::Early {
-            packet: call.packet,
-            first_slot: u64::from(wanted.first_slot) + slots_before(begin, mark_if(call.time)),
-        }),
+        Some(call) => Some(early_fault(first_slot, begin, call)),
         None => None,
     }
 }
@@ -171,12 +184,7 @@ fn heard_from(alloc: Global, begin: u64, calls: Vec<Call>) -> Result<Vec<Heard>,
 }
 
 /// The orders of messages, of which all come in time.
-fn made(
-    alloc: Global,
-    cell: Cell,
-    begin: u64,
-    calls: Calls,
-) -> Result<LinkOrders, AllocError>
+fn made(alloc: Global, cell: Cell, begin: u64, calls: Calls) -> Result<LinkOrders, AllocError>
     ensures rows { IfOk result (λ orders. orders.rows.items
         ≡ rows_of cell (heard_from begin calls.list.items)) }
     ensures emergencies { IfOk result (λ orders. orders.emergencies
@@ -208,7 +216,7 @@ fn orders_by(
     }
     let reference = reference_of(wanted.cell, &calls.list, begins);
     let begin = begin_of(wanted, reference);
-    if let Some(fault) = early(wanted, begin, &calls.list) {
+    if let Some(fault) = early(wanted.cell, wanted.first_slot, begin, &calls.list) {
         return Err(fault);
     }
     Ok(made(alloc, wanted.cell, begin, calls)?)

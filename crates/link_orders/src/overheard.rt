@@ -44,7 +44,9 @@ impl TakesPackets for Overheard {
     ghost HasTaken = { HaveOverheard };
 
     fn take(&mut self, before: u64, packet: &Captured) -> Result<(), AirFault> {
-        self.streams.follow(before, packet)?;
+        if let Err(fault) = self.streams.follow(before, packet) {
+            return Err(fault);
+        }
         match self.clock.take(self.from, packet) {
             Ok(()) => Ok(()),
             Err(kind) => Err(fault_of(before + 1, kind)),

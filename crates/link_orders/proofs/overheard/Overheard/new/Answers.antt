@@ -1,3 +1,4 @@
+use Rattle.std.proofs.Common.{refl}
 use Rattle.link_orders.proofs.Overhearing.{none_overheard}
 use Rattle.link_orders.proofs.overheard.Overheard.new.Goals as goal
 
