@@ -1,5 +1,6 @@
 -- What a capture that was read comes to for `orders` is so of all of a reader's octets.
-use Rattle.std.proofs.Common.{◌≡◌, ◌≢◌, ℕ, ◌+◌, ◌≤◌, Bool, List, length, take, subst, Option, Some, None, IfSome}
+use Rattle.std.proofs.Common.{◌≡◌, ◌≢◌, ℕ, ◌+◌, ◌≤◌, Bool, List, length, take, refl, subst, Option, Some}
+use Rattle.std.proofs.Common.{None, IfSome}
 use Rattle.std.specs.Io.KnownBytes.{Keeps}
 use Rattle.gsmtap.specs.declared.fault.AirFaultKind.{AirFaultKind}
 use Rattle.gsmtap.specs.declared.fault.AirFaultKind.TheVariants as kind
@@ -18,6 +19,11 @@ pub of_whole : (IsSo : List ℕ → Type 0) (left : Option (List ℕ)) (read : L
     IfSome left IsSo
 of_whole IsSo None read is short so = tt
 of_whole IsSo (Some input) read is short so = subst IsSo (whole_input max_capture input read is short) so
+
+-- what isn't touched holds what it held
+pub unmoved : (held : Option (List ℕ)) → Keeps held held
+unmoved None = tt
+unmoved (Some octets) = refl
 
 -- a fault of the file
 pub file_fault : (wanted : OrdersWanted) (packets : Bool) (read : List ℕ) (old new : Option (List ℕ)) (packet : ℕ)
