@@ -11,16 +11,13 @@ A random link has orders and answers to a few cells, of few identifiers and seri
 answers find orders of the same names, answers that nobody asked for, and messages that take messages away. What comes
 of it becomes rows of tests, which run unproved in a copy, and so take the libraries that `rt lib` built.
 """
-import os
 import random
-import re
-import shutil
-import subprocess
 import sys
-import tempfile
 
-TOP = os.path.dirname(os.path.dirname(os.path.realpath(__file__)))
-CRATES = "cbs_page cbsp_link cbsp_wire cell_orders gsm_alphabet septets test_support ucs2_text".split()
+from tried_rows import Bench, all_hold, in_parts
+
+BENCH = Bench(tests="recording_tests", module="of_cell_orders", reader="table", others=(),
+              needs=("cbsp_link", "cbsp_wire", "cell_orders", "test_support"))
 # the types of messages
 WRITE, WRITTEN, NOT_WRITTEN, KILL, KILLED, NOT_KILLED = range(1, 7)
 RESET, WAS_RESET, NOT_RESET, RESTART, FAILURE = range(16, 21)
@@ -301,47 +298,6 @@ class Link:
         return number(kind, len(body), 3) + body
 
 
-def test_of(rows):
-    """Returns the source of tests of some rows."""
-    parts = [rows[at:at + ROWS] for at in range(0, len(rows), ROWS)]
-    source = ["//! Random links.\n\nuse crate::of_cell_orders::table::expect_rows;\nuse std::test::Fail;\n"]
-    for place, part in enumerate(parts):
-        text = "\n".join(part)
-        source.append(f'\nconst ROWS{place}: &str = "\n{text}\n";\n\n#[test]\n'
-                      f"fn rows{place}(rt: HostRuntime) -> Result<(), Fail> {{\n"
-                      f"    expect_rows(&rt, rt.alloc(), ROWS{place}, {len(part)})\n}}\n")
-    return "".join(source)
-
-
-def run_rows(folder, rows):
-    """Runs rows as tests of a crate of their own in a copy, and returns whether all hold."""
-    for crate in CRATES:
-        shutil.copytree(os.path.join(TOP, "crates", crate), os.path.join(folder, "crates", crate))
-    shutil.copy(os.path.join(TOP, "HANDLES"), folder)
-    with open(os.path.join(TOP, "crates.txt"), encoding="utf-8") as it:
-        lines = [line for line in it if re.match(r"\w+", line) and line.split(":")[0].split()[0] in CRATES]
-    with open(os.path.join(folder, "crates.txt"), "w", encoding="utf-8") as it:
-        it.writelines([*lines, "orders_rows: cbsp_link cbsp_wire cell_orders test_support\n"])
-    crate = os.path.join(folder, "crates", "orders_rows")
-    os.makedirs(os.path.join(crate, "src", "of_cell_orders"))
-    os.makedirs(os.path.join(crate, "proofs"))
-    os.makedirs(os.path.join(crate, "specs"))
-    shutil.copy(os.path.join(TOP, "crates", "recording_tests", "src", "of_cell_orders", "table.rt"),
-                os.path.join(crate, "src", "of_cell_orders"))
-    sources = {"lib": "//! Random links.\n#![tactic(auto)]\n\n#[cfg(test)]\nmod of_cell_orders;\n",
-               "of_cell_orders": "//! Random links.\n\nmod links;\nmod table;\n",
-               "of_cell_orders/links": test_of(rows)}
-    for name, source in sources.items():
-        with open(os.path.join(crate, "src", f"{name}.rt"), "w", encoding="utf-8") as it:
-            it.write(source)
-    done = subprocess.run(["rt", "try", "--test", "--seconds", "600"], cwd=crate, capture_output=True, check=False,
-                          text=True)
-    said = done.stdout + done.stderr
-    if done.returncode:
-        print(said[-3000:])
-    return done.returncode == 0
-
-
 def main():
     if "--help" in sys.argv:
         print(__doc__.strip())
@@ -353,8 +309,7 @@ def main():
     runs = int(sys.argv[1]) if len(sys.argv) > 1 else 300
     rng = random.Random(int(sys.argv[2]) if len(sys.argv) > 2 else 1)
     rows = [table_row("orders 1-1 " + " ".join(Link(rng).words)) for _ in range(runs)]
-    with tempfile.TemporaryDirectory() as folder:
-        right = run_rows(folder, rows)
+    right = all_hold(BENCH, in_parts(rows, ROWS))
     count = sum(row.rsplit(" -> ", 1)[1].count(":") for row in rows)
     print(f"orders_reference: {runs} links with {count} rows: {'as cell_orders has them' if right else 'some DIFFER'}")
     sys.exit(not right)
