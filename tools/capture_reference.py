@@ -134,30 +134,44 @@ def carried_by(octets, source, arfcn, is_sdcch):
     return len(blocks) // 4, len(pages), " ".join(map(str, identifiers))
 
 
+class Track:
+    """Where blocks stand: in slots from that of the first one on."""
+
+    def __init__(self):
+        self.first = self.latest = None
+
+    def slot_of(self, slot, number):
+        """Returns the slot in which the next block stands, by its slot in the hyperframe; a packet has this number."""
+        if self.first is None:
+            self.first, self.latest = slot, 0
+        step = (slot - self.first - self.latest) % SLOTS
+        if step == SLOTS - 1 and self.latest > 0:
+            return self.latest - 1
+        if step >= SLOTS // 2:
+            raise Refused(f"packet {number}: steps back{CHOOSE}")
+        self.latest += step
+        return self.latest
+
+
+def place_of(frame):
+    """Returns the slot in the hyperframe that has a frame, and the frame's place there."""
+    return divmod(frame // 51 % (FRAMES // 51), 8)
+
+
 def tape_of(octets, lac, cell, slots, source=None, channel=None, is_sdcch=False, first_slot=0):
-    blocks, first, latest = {}, None, None
+    blocks, track = {}, Track()
     for number, link, _, inside in known_packets_of(octets):
         found = block_in(link, inside, source, channel, is_sdcch)
         if found is None:
             continue
         frame, block = found
-        slot, part = divmod(frame // 51 % (FRAMES // 51), 8)
+        slot, part = place_of(frame)
         if part >= 4:
             continue
-        if first is None:
-            first, latest, here = slot, 0, 0
-        else:
-            step = (slot - first - latest) % SLOTS
-            if step == SLOTS - 1 and latest > 0:
-                step = -1
-            elif step >= SLOTS // 2:
-                raise Refused(f"packet {number}: steps back{CHOOSE}")
-            here = latest + step
-            latest = max(latest, here)
-        there = first_slot + here
+        there = first_slot + track.slot_of(slot, number)
         if there < (MOST_SLOTS if slots is None else slots) and blocks.setdefault(4 * there + part, block) != block:
             raise Refused(f"packet {number}: block differs{CHOOSE}")
-    if first is None:
+    if track.first is None:
         raise Refused("no block of the wanted sender: warnc cells lists who sends, over IPv4 alone")
     if slots is None:
         slots = max(blocks) // 4 + 1 if blocks else first_slot
@@ -262,15 +276,22 @@ def random_blocks(rng, inside):
 
 
 def packet_block(rng, order, faces, at, octets):
-    """A block of one of the three kinds, of the interface of this number, or of number 0."""
+    """A block of one of the three kinds, of the interface of this number, or of number 0, and at a random time."""
     kind = rng.choice([PACKET, PACKET, PACKET, OLD_PACKET, SIMPLE_PACKET if faces[0][0] in LINKS else PACKET])
-    link, longest = faces[0 if kind == SIMPLE_PACKET else at]
+    return packet_block_of(rng, order, kind, faces, at, octets)
+
+
+def packet_block_of(rng, order, kind, faces, at, octets, ticks=None):
+    """A block of this kind, of the interface of this number, or of number 0 if it is a simple one, and at this time, or
+    at a random one. Of an interface its link type and the most octets of a packet come first."""
+    link, longest, *_ = faces[0 if kind == SIMPLE_PACKET else at]
     octets = linked(rng, link if link in LINKS else 101, octets)
     kept = octets[:longest or len(octets)]
     if kind == SIMPLE_PACKET:
         return block_of(order, kind, struct.pack(order + "I", len(octets)) + kept)
     first = struct.pack(order + "I", at) if kind == PACKET else struct.pack(order + "HH", at, rng.randrange(9))
-    body = first + struct.pack(order + "III", rng.randrange(1 << 20), rng.randrange(1 << 32), len(kept))
+    time = (rng.randrange(1 << 20), rng.randrange(1 << 32)) if ticks is None else divmod(ticks, 1 << 32)
+    body = first + struct.pack(order + "III", *time, len(kept))
     body += struct.pack(order + "I", len(octets)) + kept + bytes(-len(kept) % 4)
     return block_of(order, kind, body + options(rng, order))
 

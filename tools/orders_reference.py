@@ -53,23 +53,35 @@ def items_of(body, after):
         yield kind, body[at:at + step]
 
 
+def is_read(kind):
+    """Whether messages of a type are looked into."""
+    return WRITE <= kind <= NOT_KILLED or RESET <= kind <= FAILURE
+
+
+def elements_of(body):
+    """Yields the elements of a message's body: identifiers, with the octets after them and after the length of a list.
+    The octets of one that is cut are fewer, and one that isn't known is a KeyError."""
+    at = 0
+    while at < len(body):
+        name, size = body[at], SIZES[body[at]]
+        at += 1
+        if size is None:
+            size = int.from_bytes(body[at:at + 2], "big")
+            at += 2
+        yield name, body[at:at + size]
+        at += size
+
+
 class Message:
     """What a message says of a cell: only that is read."""
 
     def __init__(self, octets, cell):
         self.kind, body = octets[0], octets[4:4 + int.from_bytes(octets[1:4], "big")]
         self.elements, self.pages = {}, []
-        at = 0
-        while at < len(body) and (self.kind <= NOT_KILLED or RESET <= self.kind <= FAILURE):
-            name, size = body[at], SIZES[body[at]]
-            at += 1
-            if size is None:
-                size = int.from_bytes(body[at:at + 2], "big")
-                at += 2
+        for name, inside in elements_of(body) if is_read(self.kind) else ():
             if name == 0x01:
-                self.pages.append(body[at:at + size])
-            self.elements.setdefault(name, body[at:at + size])
-            at += size
+                self.pages.append(inside)
+            self.elements.setdefault(name, inside)
         self.cell = cell
 
     def number(self, name):
@@ -191,25 +203,13 @@ def listed(name, octets):
     return number(name, len(octets)) + octets
 
 
-class Link:
-    """A random link."""
+class Messages:
+    """Random messages over so many connections."""
 
-    def __init__(self, rng):
-        self.rng, self.slot, self.packet, self.words = rng, 0, 0, []
+    def __init__(self, rng, connections=2):
+        self.rng, self.connections = rng, connections
         # of each order, its kind, its names and its connection
         self.asked = []
-        for _ in range(rng.randint(1, 14)):
-            self.slot += rng.choice((0, 0, 1, 1, 2, 7, 70000))
-            self.packet += rng.randint(1, 9)
-            connection = rng.choice((0, 0, 0, 1))
-            choice = rng.random()
-            if choice < 0.45:
-                octets = self.order(connection)
-            elif choice < 0.85 and self.asked:
-                octets, connection = self.answer()
-            else:
-                octets = self.other()
-            self.words.append(f"@{self.slot}.{self.packet}.{connection} {octets.hex()}")
 
     def cell(self, kind):
         """Returns the octets of a cell, by its discriminator."""
@@ -271,7 +271,7 @@ class Link:
         rng = self.rng
         kind, names, connection = rng.choice(self.asked)
         if rng.random() < 0.1:
-            connection = 1 - connection
+            connection = (connection + 1) % self.connections
         failed = rng.random() < 0.4
         body = names + (self.failures() if failed else b"")
         if kind != RESET:
@@ -298,6 +298,24 @@ class Link:
         return number(kind, len(body), 3) + body
 
 
+def random_link(rng):
+    """Returns a random link as the words of a row."""
+    messages, words, slot, packet = Messages(rng), [], 0, 0
+    for _ in range(rng.randint(1, 14)):
+        slot += rng.choice((0, 0, 1, 1, 2, 7, 70000))
+        packet += rng.randint(1, 9)
+        connection = rng.choice((0, 0, 0, 1))
+        choice = rng.random()
+        if choice < 0.45:
+            octets = messages.order(connection)
+        elif choice < 0.85 and messages.asked:
+            octets, connection = messages.answer()
+        else:
+            octets = messages.other()
+        words.append(f"@{slot}.{packet}.{connection} {octets.hex()}")
+    return " ".join(words)
+
+
 def main():
     if "--help" in sys.argv:
         print(__doc__.strip())
@@ -308,7 +326,7 @@ def main():
         return
     runs = int(sys.argv[1]) if len(sys.argv) > 1 else 300
     rng = random.Random(int(sys.argv[2]) if len(sys.argv) > 2 else 1)
-    rows = [table_row("orders 1-1 " + " ".join(Link(rng).words)) for _ in range(runs)]
+    rows = [table_row("orders 1-1 " + random_link(rng)) for _ in range(runs)]
     right = all_hold(BENCH, in_parts(rows, ROWS))
     count = sum(row.rsplit(" -> ", 1)[1].count(":") for row in rows)
     print(f"orders_reference: {runs} links with {count} rows: {'as cell_orders has them' if right else 'some DIFFER'}")
