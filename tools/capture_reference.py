@@ -278,14 +278,14 @@ def random_blocks(rng, inside):
 def packet_block(rng, order, faces, at, octets):
     """A block of one of the three kinds, of the interface of this number, or of number 0, and at a random time."""
     kind = rng.choice([PACKET, PACKET, PACKET, OLD_PACKET, SIMPLE_PACKET if faces[0][0] in LINKS else PACKET])
-    return packet_block_of(rng, order, kind, faces, at, octets)
+    link = faces[0 if kind == SIMPLE_PACKET else at][0]
+    return packet_block_of(rng, order, kind, faces, at, linked(rng, link if link in LINKS else 101, octets))
 
 
 def packet_block_of(rng, order, kind, faces, at, octets, ticks=None):
     """A block of this kind, of the interface of this number, or of number 0 if it is a simple one, and at this time, or
     at a random one. Of an interface its link type and the most octets of a packet come first."""
-    link, longest, *_ = faces[0 if kind == SIMPLE_PACKET else at]
-    octets = linked(rng, link if link in LINKS else 101, octets)
+    longest = faces[0 if kind == SIMPLE_PACKET else at][1]
     kept = octets[:longest or len(octets)]
     if kind == SIMPLE_PACKET:
         return block_of(order, kind, struct.pack(order + "I", len(octets)) + kept)

@@ -58,18 +58,26 @@ def is_read(kind):
     return WRITE <= kind <= NOT_KILLED or RESET <= kind <= FAILURE
 
 
+class Unread(Exception):
+    """A message that can't be read."""
+
+
 def elements_of(body):
     """Yields the elements of a message's body: identifiers, with the octets after them and after the length of a list.
-    The octets of one that is cut are fewer, and one that isn't known is a KeyError."""
+    One that isn't known or is cut raises Unread."""
     at = 0
     while at < len(body):
-        name, size = body[at], SIZES[body[at]]
-        at += 1
+        name, begin = body[at], at + 1
+        if name not in SIZES:
+            raise Unread
+        size = SIZES[name]
         if size is None:
-            size = int.from_bytes(body[at:at + 2], "big")
-            at += 2
-        yield name, body[at:at + size]
-        at += size
+            size = int.from_bytes(body[begin:begin + 2], "big")
+            begin += 2
+        at = begin + size
+        if at > len(body):
+            raise Unread
+        yield name, body[begin:at]
 
 
 class Message:

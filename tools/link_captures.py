@@ -1,0 +1,381 @@
+"""Makes random captures of links between centres and controllers and of the air of their cells, each with words of
+`warnc orders` for it. link_orders_reference.py uses it.
+"""
+import collections
+import struct
+
+import gsm
+from capture_files import (INTERFACE, LINKS, OLD_PACKET, PACKET, PCAPNG, SIMPLE_PACKET, TCP, block_of, clock, datagram,
+                           file_header, gsmtap, internet, internet_in, linked, options, packet, segment, tick_of)
+from capture_reference import FIRST_FRAMES, FRAMES, foreign, packet_block_of, spoilt
+from orders_reference import SIZES, Messages, elements_of, is_read, number
+from streams_reference import PORT, ROUND
+
+SECOND = 10 ** 9
+# of a hyperframe
+MULTIFRAMES = FRAMES // 51
+# the nanoseconds that classic files can have
+END = SECOND << 32
+SYN, ACK, DATA, RESET, FIN = 0x02, 0x10, 0x18, 0x04, 0x11
+# the messages that only a centre sends
+OF_CENTRE = (0x01, 0x04, 0x07, 0x0A, 0x0D, 0x10, 0x16)
+# a capture with the words for it
+Made = collections.namedtuple("Made", "words file")
+# the description of an interface in pcapng: link type, most octets of a packet, nanoseconds of a tick
+Face = collections.namedtuple("Face", "link longest tick")
+
+
+def lasting(frames):
+    """Returns the nanoseconds of so many frames of 120/26 ms."""
+    return frames * 60_000_000 // 13
+
+
+# ---- the air
+
+class Station:
+    """A base station: who it is, where in the hyperframe it begins, and what becomes of its blocks."""
+
+    def __init__(self, rng):
+        self.rng = rng
+        self.source = bytes([127, 0, 0, rng.randint(1, 3)])
+        self.arfcn = rng.choice((0, 51, 871, 1023))
+        self.is_sdcch = rng.random() < 0.2
+        self.first = rng.choice((0, 3, rng.randrange(MULTIFRAMES), MULTIFRAMES - rng.randint(1, 60)))
+        self.jitter = rng.choice((0, 1000, 5_000_000, 2 * SECOND))
+        self.lost = rng.choice((0, 0, 0.1, 0.5))
+        self.leaps = rng.choice(((0, (1,)), (0, (1,)), (0.1, (1, 2, 30)), (0.1, (1, 3000, 3327))))
+        self.has_right_clock = rng.random() < 0.8
+        if rng.random() < 0.06:
+            # a tape that goes on past its last slot, after which no block says when it began
+            self.lost, self.leaps, self.has_right_clock = 0, (0.8, (3000, 3300)), False
+
+    def block(self, multiframe):
+        """Returns the frame and the packet of a block in a multiframe. Both count on over the end of the hyperframe."""
+        rng = self.rng
+        channel = rng.choice((7, 8)) if self.is_sdcch else rng.choice((12, 15))
+        frame = multiframe * 51 + FIRST_FRAMES.get(channel, 32) + rng.choice((0, 0, 0, 1, 3))
+        told = frame % (FRAMES if rng.random() < 0.97 else 1 << 32)
+        block = rng.choice((gsm.IDLE, rng.randbytes(gsm.BLOCK)))
+        arfcn = self.arfcn | rng.choice((0, 0x8000))
+        return frame, internet(self.source, b"\x7f\0\0\1", 0, datagram(gsmtap(told, channel, block, arfcn)))
+
+    def packets(self, slots, begin):
+        """Yields the packets of blocks, each after the time at which it is sent and the one that is recorded. The slot
+        of the first one begins at this time."""
+        rng, at, off = self.rng, self.first, 0
+        for _ in range(8 * slots):
+            if not (at % 8 >= 4 and rng.random() < 0.8 or rng.random() < self.lost):
+                frame, inside = self.block(at)
+                sent = begin + lasting(frame - self.first // 8 * 408)
+                yield sent, sent + off + rng.randint(0, self.jitter), inside
+            at += 1
+            if rng.random() < self.leaps[0]:
+                at += 8 * rng.choice(self.leaps[1])
+            if not self.has_right_clock and rng.random() < 0.1:
+                off = rng.randint(-30, 30) * SECOND
+            if rng.random() < 0.0005:
+                at += 8 * rng.choice((-1, -1, -2, 3328))
+
+
+# ---- the link
+
+class Way:
+    """One way of a connection: its ends, addresses with ports, and how far its stream was sent."""
+
+    def __init__(self, rng, source, destination):
+        self.rng, self.source, self.destination = rng, source, destination
+        self.next = rng.choice((rng.randrange(ROUND), ROUND - rng.randint(1, 900)))
+        self.held, self.last = b"", b""
+
+    def packet(self, sequence, flags, octets=b""):
+        """Returns the packet of a segment."""
+        ports = (self.source[1], self.destination[1])
+        return internet(self.source[0], self.destination[0], 0, segment(ports, sequence % ROUND, flags, octets), TCP)
+
+    def begun(self, flags):
+        """Returns the packet that begins the way."""
+        self.next += 1
+        return self.packet(self.next - 1, flags)
+
+    def sent(self, octets):
+        """Yields the packets of segments by which octets are sent, at times together with those of before, or later."""
+        rng, stream, self.held = self.rng, self.held + octets, b""
+        while stream:
+            if rng.random() < 0.04:
+                self.held = stream
+                return
+            size = rng.choice((1, 3, 20, 100, 1400, 1400, 1400, 1400))
+            part, stream = stream[:size], stream[size:]
+            if rng.random() < 0.985:
+                yield self.packet(self.next, DATA, part)
+            self.next += len(part)
+            yield from self.again(part)
+
+    def again(self, part):
+        """Yields what comes a second time, or is none of the stream, after a part of it."""
+        rng, before, self.last = self.rng, self.last, part
+        begin = self.next - len(part)
+        if rng.random() < 0.05:
+            yield self.packet(begin, DATA, part)
+        if rng.random() < 0.04:
+            yield self.packet(begin - len(before), DATA, before + part)
+        if rng.random() < 0.02:
+            yield self.packet(begin, DATA, rng.randbytes(len(part)))
+        if rng.random() < 0.02:
+            yield self.packet(self.next, rng.choice((ACK, RESET, FIN)))
+
+
+class Connection:
+    """A connection between a centre and a controller, either of which has the link's port."""
+
+    def __init__(self, rng, index):
+        self.rng = rng
+        self.centre = bytes([10, 0, 0, rng.choice((1, 1, 9))])
+        self.controller = bytes([10, 0, 0, rng.choice((2, 2, 3))])
+        both = (PORT, PORT) if index == 0 else (PORT, index)
+        self.ports = rng.choice(((40000 + index, PORT), (PORT, 40000 + index), both))
+        self.ways = []
+
+    def begin(self):
+        """Begins it, anew if it was there, and returns the packets that do so, one for each way."""
+        ends = list(zip((self.centre, self.controller), self.ports))
+        self.ways = [Way(self.rng, *ends), Way(self.rng, *ends[::-1])]
+        return [self.ways[0].begun(SYN), self.ways[1].begun(SYN | ACK)]
+
+    def way_of(self, kind):
+        """Returns the way that a message of a type goes, but for a few that go the wrong one."""
+        is_centre = kind in OF_CENTRE if kind != 0x15 else self.rng.random() < 0.5
+        return self.ways[is_centre == (self.rng.random() < 0.03)]
+
+
+def element(name, body):
+    """Returns the octets of an element."""
+    return number(name, len(body)) + body if SIZES.get(name, 0) is None else bytes([name]) + body
+
+
+def spoilt_element(rng, name, body):
+    """Returns an element with another octet, or, if it is a list, maybe of other items or with a part of one."""
+    change = rng.randrange(4 if SIZES[name] is None else 1)
+    if change == 0:
+        at = rng.randrange(len(body) or 1)
+        return name, body[:at] + rng.randbytes(1) + body[at + 1:]
+    return name, (bytes([rng.randrange(16)]) + body[1:], body[:-1], body + rng.randbytes(1))[change - 1]
+
+
+def altered(rng, octets):
+    """Returns a message that is made otherwise: it can be read still, maybe with another meaning, or it can't."""
+    parts = list(elements_of(octets[4:]))
+    at, place, change = rng.randrange(len(parts)), rng.randrange(len(parts) + 1), rng.randrange(8)
+    name = rng.choice(list(SIZES))
+    if change == 0:
+        del parts[at]
+    elif change == 1:
+        parts.insert(place, spoilt_element(rng, *parts[at]))
+    elif change == 2:
+        rng.shuffle(parts)
+    elif change == 3:
+        parts.insert(place, (name, rng.randbytes(rng.randrange(9) if SIZES[name] is None else SIZES[name])))
+    elif change == 4:
+        parts.insert(place, (rng.choice((0, 0x19, 0xFF)), b""))
+    elif change < 7:
+        parts[at] = spoilt_element(rng, *parts[at])
+    body = b"".join(element(*it) for it in parts)
+    return number(octets[0], len(body), 3) + body if change < 7 else number(octets[0], len(body) - 1, 3) + body[:-1]
+
+
+def talk(rng, connections):
+    """Yields messages, each with the number of its connection, of as many connections."""
+    messages = Messages(rng, connections)
+    for _ in range(rng.choice((rng.randint(0, 8), rng.randint(1, 20), rng.randint(9, 30)))):
+        connection, choice = rng.randrange(connections), rng.random()
+        if choice < 0.45:
+            octets = messages.order(connection)
+        elif choice < 0.85 and messages.asked:
+            octets, connection = messages.answer()
+            if octets[4] == 0x0E and rng.random() < 0.06:
+                octets = octets[:6] + bytes([octets[6] ^ 1]) + octets[7:]
+        elif choice < 0.93:
+            octets = messages.other()
+        else:
+            kind = rng.choice((0x15, 0x17, 0x0A, 0x0B, 0, 0x18, 0xC8))
+            octets = messages.message(kind, rng.randbytes(rng.randrange(9)))
+        if is_read(octets[0]) and len(octets) > 4 and rng.random() < 0.12:
+            octets = altered(rng, octets)
+        yield connection, octets
+
+
+def moments_in(rng, slots, begin, count):
+    """Returns so many times in a range of slots, in order. Some are just before a slot begins, or just then."""
+    found = []
+    for _ in range(count):
+        if rng.random() < 0.3:
+            found.append(begin + lasting(408 * rng.randint(*slots)) + rng.choice((-1000, -1, 0, 1, 999, 1000)))
+        else:
+            found.append(begin + rng.randint(*(lasting(408 * it) for it in slots)))
+    return sorted(found)
+
+
+def link_packets(rng, connections, slots, begin):
+    """Yields the packets of connections, each after the time at which it is sent and the one that is recorded, which
+    lie in a range of slots."""
+    said = list(talk(rng, len(connections)))
+    moments = moments_in(rng, slots, begin, len(said))
+    for it in connections:
+        # of a connection that was there before, the capture may begin in the middle of a message
+        opening = it.begin()
+        if rng.random() < 0.75:
+            yield from ((begin + lasting(408 * slots[0]) - SECOND,) * 2 + (one,) for one in opening)
+        elif rng.random() < 0.4:
+            it.ways[rng.randrange(2)].held = rng.randbytes(rng.randint(1, 9))
+    for time, (at, octets) in zip(moments, said):
+        if rng.random() < 0.01:
+            yield from ((time, time, one) for one in connections[at].begin())
+        for one in connections[at].way_of(octets[0]).sent(octets):
+            yield time, time if rng.random() < 0.99 else time + rng.randint(-5, 5) * SECOND, one
+            time += rng.choice((0, 1, rng.randrange(3_000_000), rng.randrange(SECOND) if rng.random() < 0.1 else 7))
+
+
+# ---- files
+
+def disturbed(rng, packets):
+    """Returns packets as a recording may have them: in another order, cut, twice, or not at all, and with others."""
+    out = []
+    for time, octets in packets:
+        if rng.random() < 0.005:
+            continue
+        if rng.random() < 0.004:
+            octets = octets[:rng.randrange(len(octets))]
+        out.append((time, octets))
+        if rng.random() < 0.02:
+            out.append((time + rng.randrange(1000), octets))
+        if rng.random() < 0.02:
+            out.append((time, foreign(rng)))
+        if rng.random() < 0.02 and len(out) > 1:
+            out[-1], out[-2] = out[-2], out[-1]
+    return out
+
+
+def in_frame(rng, link, octets):
+    """Returns a packet of a link type that has these octets, but for a few that have a wrong header, and at times a
+    trailer."""
+    while True:
+        made = linked(rng, link, octets)
+        if internet_in(link, made) == octets or rng.random() < 0.01:
+            return made + rng.randbytes(rng.choice((0, 0, 0, 6)))
+
+
+def classic_file(rng, packets):
+    """Returns a classic file of packets."""
+    order, magic, link = rng.choice("<>"), rng.choice((0xA1B2C3D4, 0xA1B23C4D)), rng.choice(LINKS)
+    unit = 1000 if magic == 0xA1B2C3D4 else 1
+    out = [file_header(order, magic, link)]
+    for time, octets in packets:
+        second, fraction = divmod(time // unit, SECOND // unit)
+        if second > 0 and fraction * unit < 3 * SECOND and rng.random() < 0.01:
+            second, fraction = second - 1, fraction + SECOND // unit
+        out.append(packet(in_frame(rng, link, octets), (second, fraction), order))
+    return b"".join(out)
+
+
+def section_header(rng, order):
+    """Returns the block that begins a section."""
+    length = rng.choice((2 ** 64 - 1, rng.randrange(2 ** 20)))
+    body = struct.pack(order + "IHHQ", 0x1A2B3C4D, 1, rng.choice((0, 2)), length)
+    return block_of(order, struct.unpack(order + "I", PCAPNG)[0], body + options(rng, order))
+
+
+def described(rng, order, has_times):
+    """Returns an interface and the block that describes it. If packets are to have times, its clock is a good one."""
+    while True:
+        how = clock(rng, order)
+        tick = tick_of(order, how)
+        if tick is not None and tick <= rng.choice((1000, 1000, SECOND)) or not has_times:
+            break
+    longest = rng.choice((0, 0, 65535, 262144, rng.randint(60, 200))) if rng.random() < 0.2 else 0
+    face = Face(rng.choice(LINKS), longest, tick)
+    return face, block_of(order, INTERFACE, struct.pack(order + "HHI", face.link, 0, longest) + how)
+
+
+def blocks_file(rng, packets):
+    """Returns the blocks of a file of pcapng of packets. In some files a few packets have no time."""
+    out, order, faces = [], "", []
+    has_times = rng.random() < 0.7
+    for time, octets in packets:
+        if not order or rng.random() < 0.01:
+            order, faces = rng.choice("<>"), []
+            out.append(section_header(rng, order))
+        while not faces or rng.random() < 0.02:
+            face, block = described(rng, order, has_times or rng.random() < 0.9)
+            faces.append(face)
+            out.append(block)
+        if rng.random() < 0.02:
+            out.append(block_of(order, rng.choice((0, 4, 5, 7, 10, 0xBAD)), rng.randbytes(4 * rng.randrange(9))))
+        at, kind = rng.randrange(len(faces)), rng.choice((PACKET, PACKET, PACKET, OLD_PACKET))
+        if not has_times and rng.random() < 0.02:
+            at, kind = 0, SIMPLE_PACKET
+        ticks = time // (faces[at].tick or 1)
+        out.append(packet_block_of(rng, order, kind, faces, at, in_frame(rng, faces[at].link, octets), ticks))
+    return out
+
+
+def spoilt_file(rng, parts):
+    """Returns a file, whose parts are blocks if it has several, with a fault."""
+    kind, octets = rng.randrange(6), b"".join(parts)
+    if kind == 0 and len(parts) > 1:
+        at = rng.randrange(len(parts))
+        return b"".join([*parts[:at], spoilt(rng, parts[at]), *parts[at + 1:]])
+    if kind == 1:
+        return rng.choice((b"", b"cell,1,1\n", b"\x0d\x0a\x0d\x0a" + octets[4:], octets[1:],
+                           gsm.tape_of(1, 1, [gsm.IDLE_SLOT])))
+    if kind == 2 and len(parts) == 1:
+        return octets[:20] + rng.choice((bytes([2, 0, 0, 0]), octets[20:22] + b"\0\1", rng.randbytes(4))) + octets[24:]
+    if kind == 3:
+        at = rng.randrange(len(octets) or 1)
+        return octets[:at] + rng.randbytes(1) + octets[at + 1:]
+    return octets[:rng.randrange(len(octets) + 1)]
+
+
+# ---- captures with words for them
+
+def dotted(address):
+    """Returns an address as words have it."""
+    return ".".join(map(str, address))
+
+
+def words_for(rng, stations, connections):
+    """Returns words of `warnc orders` for a capture, mostly those that choose a station that is there."""
+    words = ["--cell", rng.choice((*["1-1"] * 8, "1-2", "2-1", "65535-1", "3-3"))]
+    is_sdcch = rng.random() < 0.05
+    if stations:
+        one = rng.choice(stations)
+        is_sdcch = is_sdcch != one.is_sdcch
+        likely = 0.85 if len(stations) > 1 else 0.15
+        if rng.random() < likely:
+            words += ["--from", dotted(one.source if rng.random() < 0.9 else b"\x0a\0\0\1")]
+        if rng.random() < likely:
+            words += ["--arfcn", str(one.arfcn if rng.random() < 0.9 else 7)]
+    words += ["--channel", "sdcch"] if is_sdcch else rng.choice(([], [], ["--channel", "cbch"]))
+    if rng.random() < 0.35:
+        one = rng.choice(connections)
+        words += ["--bsc", dotted(rng.choice((*[one.controller] * 5, one.centre, b"\x0a\0\0\x63")))]
+    if rng.random() < 0.4:
+        words += ["--first-slot", str(rng.choice((0, 1, 2, 5, 9, 100, 65535)))]
+    return words + rng.choice(([], ["--packets"]))
+
+
+def random_capture(rng):
+    """Returns a random capture of a link and of stations, with words for it."""
+    begin = rng.choice((0, 0, 1_764_400_000 * SECOND + rng.randrange(SECOND), END - 4000 * SECOND))
+    slots = rng.randint(1, 12)
+    stations = [Station(rng) for _ in range(rng.choice((0, 1, 1, 1, 1, 1, 1, 2)))]
+    connections = [Connection(rng, index) for index in range(rng.choice((1, 1, 2, 3)))]
+    range_of_slots = (-rng.choice((0, 0, 0, 1, 5)), slots + 2)
+    packets = sorted([*link_packets(rng, connections, range_of_slots, begin),
+                      *(it for one in stations for it in one.packets(slots, begin))], key=lambda it: it[0])
+    packets = [it[1:] for it in packets]
+    if rng.random() < 0.6:
+        packets = disturbed(rng, packets)
+    packets = [(min(max(time, 0), END - 1), octets) for time, octets in packets]
+    parts = blocks_file(rng, packets) if rng.random() < 0.4 else [classic_file(rng, packets)]
+    file = spoilt_file(rng, parts) if rng.random() < 0.15 else b"".join(parts)
+    return Made(words_for(rng, stations, connections), file)
