@@ -319,20 +319,19 @@ def blocks_file(rng, packets):
 
 
 def spoilt_file(rng, parts):
-    """Returns a file, whose parts are blocks if it has several, with a fault."""
-    kind, octets = rng.randrange(6), b"".join(parts)
-    if kind == 0 and len(parts) > 1:
-        at = rng.randrange(len(parts))
-        return b"".join([*parts[:at], spoilt(rng, parts[at]), *parts[at + 1:]])
+    """Returns a file, whose parts are blocks if it is one of pcapng, with a fault, or one of another kind."""
+    octets, kind = b"".join(parts), rng.randrange(6)
+    at = rng.randrange(len(octets))
+    if kind == 0:
+        return rng.choice((b"cell,1,1\n", octets[1:], gsm.tape_of(1, 1, [gsm.IDLE_SLOT])))
     if kind == 1:
-        return rng.choice((b"", b"cell,1,1\n", b"\x0d\x0a\x0d\x0a" + octets[4:], octets[1:],
-                           gsm.tape_of(1, 1, [gsm.IDLE_SLOT])))
-    if kind == 2 and len(parts) == 1:
-        return octets[:20] + rng.choice((bytes([2, 0, 0, 0]), octets[20:22] + b"\0\1", rng.randbytes(4))) + octets[24:]
-    if kind == 3:
-        at = rng.randrange(len(octets) or 1)
         return octets[:at] + rng.randbytes(1) + octets[at + 1:]
-    return octets[:rng.randrange(len(octets) + 1)]
+    if kind == 2:
+        return octets[:at]
+    if octets[:4] != PCAPNG:
+        return octets[:20] + rng.choice((b"\2\0\0\0", octets[20:22] + b"\0\1", rng.randbytes(4))) + octets[24:]
+    at = rng.randrange(len(parts))
+    return b"".join([*parts[:at], spoilt(rng, parts[at]), *parts[at + 1:]])
 
 
 # ---- captures with words for them
@@ -377,5 +376,5 @@ def random_capture(rng):
         packets = disturbed(rng, packets)
     packets = [(min(max(time, 0), END - 1), octets) for time, octets in packets]
     parts = blocks_file(rng, packets) if rng.random() < 0.4 else [classic_file(rng, packets)]
-    file = spoilt_file(rng, parts) if rng.random() < 0.15 else b"".join(parts)
+    file = spoilt_file(rng, parts) if parts and rng.random() < 0.18 else b"".join(parts)
     return Made(words_for(rng, stations, connections), file)
