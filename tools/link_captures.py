@@ -7,7 +7,7 @@ import struct
 import gsm
 from capture_files import (INTERFACE, LINKS, OLD_PACKET, PACKET, PCAPNG, SIMPLE_PACKET, TCP, block_of, clock, datagram,
                            file_header, gsmtap, internet, internet_in, linked, options, packet, segment, tick_of)
-from capture_reference import FIRST_FRAMES, FRAMES, foreign, packet_block_of, spoilt
+from capture_reference import FRAMES, foreign, packet_block_of, spoilt
 from orders_reference import SIZES, Messages, elements_of, is_read, number
 from streams_reference import PORT, ROUND
 
@@ -43,33 +43,42 @@ class Station:
         self.first = rng.choice((0, 3, rng.randrange(MULTIFRAMES), MULTIFRAMES - rng.randint(1, 60)))
         self.jitter = rng.choice((0, 1000, 5_000_000, 2 * SECOND))
         self.lost = rng.choice((0, 0, 0.1, 0.5))
+        # how likely the next block is some slots later, and how many
         self.leaps = rng.choice(((0, (1,)), (0, (1,)), (0.1, (1, 2, 30)), (0.1, (1, 3000, 3327))))
-        self.has_right_clock = rng.random() < 0.8
+        self.has_right_clock, self.is_exact = rng.random() < 0.8, False
         if rng.random() < 0.06:
             # a tape that goes on past its last slot, after which no block says when it began
             self.lost, self.leaps, self.has_right_clock = 0, (0.8, (3000, 3300)), False
+        elif rng.random() < 0.3:
+            # each block says to the tick when the tape began, as its frames are whole microseconds
+            self.jitter, self.has_right_clock, self.is_exact = 0, True, True
 
-    def block(self, multiframe):
-        """Returns the frame and the packet of a block in a multiframe. Both count on over the end of the hyperframe."""
+    def frame(self, multiframe):
+        """Returns the frame of a block in a multiframe, from that of the first block's slot on."""
+        frame = (multiframe - self.first // 8 * 8) * 51 + self.rng.randrange(32, 36)
+        return frame if not self.is_exact else frame // 13 * 13
+
+    def packet(self, frame):
+        """Returns the packet of a block in a frame, which may be past the end of the hyperframe."""
         rng = self.rng
+        frame = (self.first // 8 * 408 + frame) % (FRAMES if rng.random() < 0.97 else 1 << 32)
         channel = rng.choice((7, 8)) if self.is_sdcch else rng.choice((12, 15))
-        frame = multiframe * 51 + FIRST_FRAMES.get(channel, 32) + rng.choice((0, 0, 0, 1, 3))
-        told = frame % (FRAMES if rng.random() < 0.97 else 1 << 32)
         block = rng.choice((gsm.IDLE, rng.randbytes(gsm.BLOCK)))
         arfcn = self.arfcn | rng.choice((0, 0x8000))
-        return frame, internet(self.source, b"\x7f\0\0\1", 0, datagram(gsmtap(told, channel, block, arfcn)))
+        return internet(self.source, b"\x7f\0\0\1", 0, datagram(gsmtap(frame, channel, block, arfcn)))
 
     def packets(self, slots, begin):
         """Yields the packets of blocks, each after the time at which it is sent and the one that is recorded. The slot
         of the first one begins at this time."""
         rng, at, off = self.rng, self.first, 0
         for _ in range(8 * slots):
-            if not (at % 8 >= 4 and rng.random() < 0.8 or rng.random() < self.lost):
-                frame, inside = self.block(at)
-                sent = begin + lasting(frame - self.first // 8 * 408)
-                yield sent, sent + off + rng.randint(0, self.jitter), inside
+            is_sent = (at % 8 < 4 or rng.random() < 0.2) and rng.random() >= self.lost
+            if is_sent:
+                frame = self.frame(at)
+                sent = begin + lasting(frame)
+                yield sent, sent + off + rng.randint(0, self.jitter), self.packet(frame)
             at += 1
-            if rng.random() < self.leaps[0]:
+            if is_sent and at % 8 in (1, 2, 3) and rng.random() < self.leaps[0]:
                 at += 8 * rng.choice(self.leaps[1])
             if not self.has_right_clock and rng.random() < 0.1:
                 off = rng.randint(-30, 30) * SECOND
@@ -209,7 +218,8 @@ def moments_in(rng, slots, begin, count):
     found = []
     for _ in range(count):
         if rng.random() < 0.3:
-            found.append(begin + lasting(408 * rng.randint(*slots)) + rng.choice((-1000, -1, 0, 1, 999, 1000)))
+            slot = rng.choice((slots[0], 0, 13, rng.randint(*slots), rng.randint(*slots)))
+            found.append(begin + lasting(408 * slot) + rng.choice((-1000, -1, 0, 0, 1, 999, 1000)))
         else:
             found.append(begin + rng.randint(*(lasting(408 * it) for it in slots)))
     return sorted(found)
@@ -364,11 +374,11 @@ def words_for(rng, stations, connections):
 
 def random_capture(rng):
     """Returns a random capture of a link and of stations, with words for it."""
-    begin = rng.choice((0, 0, 1_764_400_000 * SECOND + rng.randrange(SECOND), END - 4000 * SECOND))
+    begin = rng.choice((0, 0, 1_764_400_000 * SECOND + rng.randrange(SECOND) // 1000 * 1000, END - 4000 * SECOND))
     slots = rng.randint(1, 12)
     stations = [Station(rng) for _ in range(rng.choice((0, 1, 1, 1, 1, 1, 1, 2)))]
     connections = [Connection(rng, index) for index in range(rng.choice((1, 1, 2, 3)))]
-    range_of_slots = (-rng.choice((0, 0, 0, 1, 5)), slots + 2)
+    range_of_slots = (-rng.choice((0, 0, 0, 0, 1, 5, 13)), slots + 2)
     packets = sorted([*link_packets(rng, connections, range_of_slots, begin),
                       *(it for one in stations for it in one.packets(slots, begin))], key=lambda it: it[0])
     packets = [it[1:] for it in packets]

@@ -2,7 +2,7 @@
 """Makes orders files of captures of a link and of the air, as docs/formats.md describes them: a second program against
 which `warnc orders` is compared. It shares nothing with it.
 
-Usage: link_orders_reference.py PROGRAM [RUNS [SEED]]    random captures, 300 if no number is given: of several
+Usage: link_orders_reference.py PROGRAM [RUNS [SEED]]    random captures, 1000 if no number is given: of several
                                                          connections, cut into segments that are swapped, repeated and
                                                          lost; with the air of stations, or none; in the classic format
                                                          and in pcapng; some of them spoilt
@@ -366,7 +366,7 @@ def main(words):
     if len(words) in (2, 3) and words[-2] == "--captures":
         runs, differing = of_folder(words[-1], words[0] if len(words) == 3 else None)
     elif len(words) in (1, 2, 3) and os.access(words[0], os.X_OK) and all(it.isdigit() for it in words[1:]):
-        runs, seed = (*map(int, words[1:]), 300, 1)[:2] if len(words) != 2 else (int(words[1]), 1)
+        runs, seed = (*map(int, words[1:]), 1000, 1)[:2] if len(words) != 2 else (int(words[1]), 1)
         differing = judge(words[0], runs, seed)
     else:
         print(__doc__, end="")
