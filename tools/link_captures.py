@@ -68,21 +68,22 @@ class Station:
         return internet(self.source, b"\x7f\0\0\1", 0, datagram(gsmtap(frame, channel, block, arfcn)))
 
     def packets(self, slots, begin):
-        """Yields the packets of blocks, each after the time at which it is sent and the one that is recorded. The slot
-        of the first one begins at this time."""
-        rng, at, off = self.rng, self.first, 0
+        """Yields the packets of blocks, each after the time at which it comes and the one that is recorded. The slot of
+        the first one begins at this time."""
+        rng, at, off, latest = self.rng, self.first, 0, 0
         for _ in range(8 * slots):
             is_sent = (at % 8 < 4 or rng.random() < 0.2) and rng.random() >= self.lost
             if is_sent:
                 frame = self.frame(at)
                 sent = begin + lasting(frame)
-                yield sent, sent + off + rng.randint(0, self.jitter), self.packet(frame)
+                latest = max(latest, sent)
+                yield latest, sent + off + rng.randint(0, self.jitter), self.packet(frame)
             at += 1
             if is_sent and at % 8 in (1, 2, 3) and rng.random() < self.leaps[0]:
                 at += 8 * rng.choice(self.leaps[1])
             if not self.has_right_clock and rng.random() < 0.1:
                 off = rng.randint(-30, 30) * SECOND
-            if rng.random() < 0.0005:
+            if rng.random() < (0.03 if is_sent and at < self.first + 4 else 0.0005):
                 at += 8 * rng.choice((-1, -1, -2, 3328))
 
 
@@ -115,10 +116,18 @@ class Way:
                 return
             size = rng.choice((1, 3, 20, 100, 1400, 1400, 1400, 1400))
             part, stream = stream[:size], stream[size:]
+            if rng.random() < 0.06:
+                yield from self.ahead(len(part), stream[:size])
             if rng.random() < 0.985:
                 yield self.packet(self.next, DATA, part)
             self.next += len(part)
             yield from self.again(part)
+
+    def ahead(self, length, part):
+        """Yields a part that comes before one of this length, at times with other octets after it or before it."""
+        parts = [part, self.rng.randbytes(len(part))][:self.rng.randint(1, 2)]
+        for one in self.rng.choice((parts, parts, parts, parts[::-1])):
+            yield self.packet(self.next + length, DATA, one)
 
     def again(self, part):
         """Yields what comes a second time, or is none of the stream, after a part of it."""
@@ -174,8 +183,11 @@ def spoilt_element(rng, name, body):
 def altered(rng, octets):
     """Returns a message that is made otherwise: it can be read still, maybe with another meaning, or it can't."""
     parts = list(elements_of(octets[4:]))
-    at, place, change = rng.randrange(len(parts)), rng.randrange(len(parts) + 1), rng.randrange(8)
-    name = rng.choice(list(SIZES))
+    place, change, name = rng.randrange(len(parts) + 1), rng.randrange(9), rng.choice(list(SIZES))
+    names = sorted({name for name, _ in parts})
+    # one of each name, as there may be many pages; and the period and the number of pages, which can be out of range
+    names = [it for it in names if it in (0x06, 0x13)] or names if rng.random() < 0.3 else names
+    at = [name for name, _ in parts].index(rng.choice(names))
     if change == 0:
         del parts[at]
     elif change == 1:
@@ -186,10 +198,14 @@ def altered(rng, octets):
         parts.insert(place, (name, rng.randbytes(rng.randrange(9) if SIZES[name] is None else SIZES[name])))
     elif change == 4:
         parts.insert(place, (rng.choice((0, 0x19, 0xFF)), b""))
-    elif change < 7:
+    elif change == 5:
+        # which an emergency message doesn't need
+        parts = [it for it in parts if it[0] in (0x0E, 0x02, 0x03, 0x04)]
+    elif change < 8:
         parts[at] = spoilt_element(rng, *parts[at])
     body = b"".join(element(*it) for it in parts)
-    return number(octets[0], len(body), 3) + body if change < 7 else number(octets[0], len(body) - 1, 3) + body[:-1]
+    body = body if change < 8 else body[:-1]
+    return number(octets[0], len(body), 3) + body
 
 
 def talk(rng, connections):
@@ -226,7 +242,7 @@ def moments_in(rng, slots, begin, count):
 
 
 def link_packets(rng, connections, slots, begin):
-    """Yields the packets of connections, each after the time at which it is sent and the one that is recorded, which
+    """Yields the packets of connections, each after the time at which it comes and the one that is recorded, which
     lie in a range of slots."""
     said = list(talk(rng, len(connections)))
     moments = moments_in(rng, slots, begin, len(said))
