@@ -264,13 +264,17 @@ def link_packets(rng, connections, slots, begin):
 # ---- files
 
 def disturbed(rng, packets):
-    """Returns packets as a recording may have them: in another order, cut, twice, or not at all, and with others."""
+    """Returns packets as a recording may have them: in another order, cut, of another length than they say, twice, or
+    not at all, and with others."""
     out = []
     for time, octets in packets:
         if rng.random() < 0.005:
             continue
-        if rng.random() < 0.004:
+        if rng.random() < 0.01:
             octets = octets[:rng.randrange(len(octets))]
+        elif rng.random() < 0.01:
+            length = int.from_bytes(octets[2:4], "big") + rng.randint(-2, 2)
+            octets = octets[:2] + length.to_bytes(2, "big") + octets[4:]
         out.append((time, octets))
         if rng.random() < 0.02:
             out.append((time + rng.randrange(1000), octets))
@@ -317,7 +321,7 @@ def described(rng, order, has_times):
         tick = tick_of(order, how)
         if tick is not None and tick <= rng.choice((1000, 1000, SECOND)) or not has_times:
             break
-    longest = rng.choice((0, 0, 65535, 262144, rng.randint(60, 200))) if rng.random() < 0.2 else 0
+    longest = rng.choice((0, 65535, 262144, rng.randint(60, 200))) if rng.random() < 0.3 else 0
     face = Face(rng.choice(LINKS), longest, tick)
     return face, block_of(order, INTERFACE, struct.pack(order + "HHI", face.link, 0, longest) + how)
 
@@ -331,13 +335,13 @@ def blocks_file(rng, packets):
             order, faces = rng.choice("<>"), []
             out.append(section_header(rng, order))
         while not faces or rng.random() < 0.02:
-            face, block = described(rng, order, has_times or rng.random() < 0.9)
+            face, block = described(rng, order, has_times or rng.random() < 0.5)
             faces.append(face)
             out.append(block)
         if rng.random() < 0.02:
             out.append(block_of(order, rng.choice((0, 4, 5, 7, 10, 0xBAD)), rng.randbytes(4 * rng.randrange(9))))
         at, kind = rng.randrange(len(faces)), rng.choice((PACKET, PACKET, PACKET, OLD_PACKET))
-        if not has_times and rng.random() < 0.02:
+        if not has_times and rng.random() < 0.04:
             at, kind = 0, SIMPLE_PACKET
         ticks = time // (faces[at].tick or 1)
         out.append(packet_block_of(rng, order, kind, faces, at, in_frame(rng, faces[at].link, octets), ticks))
