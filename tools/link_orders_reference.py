@@ -204,13 +204,19 @@ def made_by(program, words, source, sink=subprocess.PIPE):
     return done.returncode, (done.stdout or b"").decode(), done.stderr.decode().removeprefix("warnc: ").rstrip("\n")
 
 
+def look_of(octets):
+    """Returns what an input looks like that is no capture, if that is known."""
+    if octets[:5] == b"cell,":
+        return "a book"
+    return "tapes" if octets[4:6] == b"\0\0" and octets[8:9] in (b"\x20", b"\x30", b"\x2f") else None
+
+
 def is_same(octets, wanted, found):
-    """Whether two made the same. Of an input of another kind one may also say which kind it looks like."""
-    if wanted == found:
-        return True
-    looks = "a book" if octets[:5] == b"cell," else "tapes"
-    return wanted[:2] == found[:2] and wanted[2] == "not a capture file" and found[2].startswith(
-        f"{wanted[2]} (the input looks like {looks}: ")
+    """Whether two made the same. Of an input of another kind a program also says which kind it looks like."""
+    look = look_of(octets) if wanted[2] == "not a capture file" else None
+    if look is None:
+        return wanted == found
+    return wanted[:2] == found[:2] and found[2].startswith(f"{wanted[2]} (the input looks like {look}: ")
 
 
 def differs(name, program, made):
@@ -240,8 +246,8 @@ class Counts:
         kinds = re.findall(r"^(?:\d+,[\d.]+,)?([a-z]+)", text, re.M)
         self.rows.update(kinds)
         self.said += status == 0 and bool(line)
-        what = re.sub(r"^packet \d+: |:.*| ?\d+ ?", "", re.sub(r"^packet \d+: ", "", line))
-        self.faults[what if status else "rows" if kinds else "no row"] += 1
+        fault = re.sub(r":.*| ?\d+ ?", "", re.sub(r"^packet \d+: ", "", line))
+        self.faults[fault if status else "rows" if kinds else "no row"] += 1
         return bool(kinds)
 
     def print(self):
@@ -315,7 +321,8 @@ def cells_in(octets):
         if not is_read(message.octets[0]) or not can_be_read(message.octets):
             continue
         for name, body in elements_of(message.octets[4:]):
-            for kind, cell in items_of(body, 3 if name == 0x08 else 0) if name in (0x04, 0x08) else ():
+            is_list = name in (0x04, 0x08) and is_whole_list(name, body)
+            for kind, cell in items_of(body, 3 if name == 0x08 else 0) if is_list else ():
                 if kind in (0, 1):
                     at = 3 if kind == 0 else 0
                     found[tuple(int.from_bytes(cell[it:it + 2], "big") for it in (at, at + 2))] += 1
