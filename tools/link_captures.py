@@ -14,8 +14,8 @@ from streams_reference import PORT, ROUND
 SECOND = 10 ** 9
 # of a hyperframe
 MULTIFRAMES = FRAMES // 51
-# the nanoseconds that classic files can have
-END = SECOND << 32
+# the nanoseconds that files of pcapng and classic ones can have
+END, CLASSIC_END = 1 << 64, SECOND << 32
 SYN, ACK, DATA, RESET, FIN = 0x02, 0x10, 0x18, 0x04, 0x11
 # the messages that only a centre sends
 OF_CENTRE = (0x01, 0x04, 0x07, 0x0A, 0x0D, 0x10, 0x16)
@@ -241,6 +241,12 @@ def moments_in(rng, slots, begin, count):
     return sorted(found)
 
 
+def recorded_off(rng):
+    """Returns how far off the recorded time of a packet is: mostly not, or by seconds, or by up to a hundred years."""
+    choice = rng.random()
+    return 0 if choice < 0.97 else rng.randint(-30, 5) * SECOND if choice < 0.998 else rng.randrange(100 << 25) * SECOND
+
+
 def link_packets(rng, connections, slots, begin):
     """Yields the packets of connections, each after the time at which it comes and the one that is recorded, which
     lie in a range of slots."""
@@ -257,7 +263,7 @@ def link_packets(rng, connections, slots, begin):
         if rng.random() < 0.01:
             yield from ((time, time, one) for one in connections[at].begin())
         for one in connections[at].way_of(octets[0]).sent(octets):
-            yield time, time if rng.random() < 0.99 else time + rng.randint(-5, 5) * SECOND, one
+            yield time, time + recorded_off(rng), one
             time += rng.choice((0, 1, rng.randrange(3_000_000), rng.randrange(SECOND) if rng.random() < 0.1 else 7))
 
 
@@ -394,7 +400,10 @@ def words_for(rng, stations, connections):
 
 def random_capture(rng):
     """Returns a random capture of a link and of stations, with words for it."""
-    begin = rng.choice((0, 0, 1_764_400_000 * SECOND + rng.randrange(SECOND) // 1000 * 1000, END - 4000 * SECOND))
+    is_classic = rng.random() < 0.6
+    ends = (CLASSIC_END,) if is_classic else (CLASSIC_END, END)
+    begins = (0, 0, 1_764_400_000 * SECOND + rng.randrange(SECOND), *(it - 4000 * SECOND for it in ends))
+    begin = rng.choice(begins) // 1000 * 1000
     slots = rng.randint(1, 12)
     stations = [Station(rng) for _ in range(rng.choice((0, 1, 1, 1, 1, 1, 1, 2)))]
     connections = [Connection(rng, index) for index in range(rng.choice((1, 1, 2, 3)))]
@@ -404,7 +413,7 @@ def random_capture(rng):
     packets = [it[1:] for it in packets]
     if rng.random() < 0.6:
         packets = disturbed(rng, packets)
-    packets = [(min(max(time, 0), END - 1), octets) for time, octets in packets]
-    parts = blocks_file(rng, packets) if rng.random() < 0.4 else [classic_file(rng, packets)]
+    packets = [(min(max(time, 0), ends[-1] - 1), octets) for time, octets in packets]
+    parts = [classic_file(rng, packets)] if is_classic else blocks_file(rng, packets)
     file = spoilt_file(rng, parts) if parts and rng.random() < 0.18 else b"".join(parts)
     return Made(words_for(rng, stations, connections), file)
