@@ -11,10 +11,10 @@ use Rattle.cell_orders.specs.declared.row.OrderRow.{OrderRow}
 use Rattle.cell_orders.specs.Rows.{rows_of}
 
 abbrev heard : ℕ → ℕ → LinkMessage → Heard
-heard slot packet message = record { slot = slot; packet = packet; connection = 7; message = message }
+heard slot packet message = record { slot = slot; time = 0; packet = packet; connection = 7; message = message }
 
 abbrev row : ℕ → ℕ → CellOrder → OrderRow
-row at packet order = record { at = at; packet = packet; order = order }
+row at packet order = record { at = at; time = 0; packet = packet; order = order }
 
 -- RESTART with loss; an order to all cells, answered two slots later; and another that has no answer in between
 abbrev link : List Heard

@@ -47,9 +47,9 @@ order_by cell e (messages.Restart cells broadcast_type recovery) = Some rows.Cle
 order_by cell e (messages.Failure failures broadcast_type) = Some rows.Clear
 order_by cell e other = None
 
--- a row has the slot and the packet of the answer, or of the order if none came
+-- a row has the slot, the time and the packet of the answer, or of the order if none came
 abbrev pub row_with : Heard → CellOrder → OrderRow
-row_with h order = record { at = h.slot; packet = h.packet; order = order }
+row_with h order = record { at = h.slot; time = h.time; packet = h.packet; order = order }
 
 abbrev pub row_of : Cell → LinkExchange → Option OrderRow
 row_of cell e = option_map (row_with (unwrap_or e.answer e.order)) (order_by cell e e.order.message)

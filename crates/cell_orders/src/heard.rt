@@ -6,11 +6,13 @@ use cbsp_link::LinkMessage;
 #[derive(Debug, Drop)]
 pub struct Heard {
     /// The slot in which it came, of 1.883 s each.
-    pub slot: u32,
+    pub slot: u64,
+    /// When it came, in nanoseconds from 1970-01-01T00:00:00Z on.
+    pub time: u64,
     /// The number of the packet that ends it, as the capture counts them.
     pub packet: u64,
     /// The connection over which it came: a number that both directions share.
-    pub connection: u32,
+    pub connection: u64,
     /// What it says.
     pub message: LinkMessage,
 }

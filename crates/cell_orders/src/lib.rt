@@ -2,7 +2,7 @@
 //! 48.049), and what it answered.
 //!
 //! [`rows_of`] makes of the messages of a link the rows of a cell, and [`orders_text`] an orders file of these.
-//! [`emergencies_to`] counts the messages that are no rows.
+//! [`concerns`] says which messages these rows are of, and [`emergencies_to`] counts those to the cell that are none.
 #![tactic(auto)]
 
 mod exchange;
@@ -13,6 +13,7 @@ mod row;
 mod rows;
 mod text;
 
+pub use exchange::concerns;
 pub use heard::Heard;
 pub use laws::exchange_laws;
 pub use naming::names;

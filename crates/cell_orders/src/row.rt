@@ -53,8 +53,11 @@ pub enum CellOrder {
 #[derive(Debug, Drop)]
 pub struct OrderRow {
     /// The slot of the answer, or of the order if none came.
-    pub at: u32,
-    /// The number of the packet that ends the answer, or the order. The text of a row doesn't have it.
+    pub at: u64,
+    /// When the answer came, or the order, in nanoseconds from 1970-01-01T00:00:00Z on. The text of a row has neither
+    /// this nor the packet.
+    pub time: u64,
+    /// The number of the packet that ends the answer, or the order.
     pub packet: u64,
     /// What was asked and answered.
     pub order: CellOrder,

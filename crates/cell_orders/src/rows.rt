@@ -162,9 +162,14 @@ fn row_of(
         Some(answer) => answer,
         None => held.order,
     };
-    let (at, packet) = (last.slot, last.packet);
+    let (at, time, packet) = (last.slot, last.time, last.packet);
     match order_by(alloc, cell, held, &held.order.message)? {
-        Some(order) => Ok(Some(OrderRow { at, packet, order })),
+        Some(order) => Ok(Some(OrderRow {
+            at,
+            time,
+            packet,
+            order,
+        })),
         None => Ok(None),
     }
 }

@@ -98,7 +98,7 @@ fn push(line: &mut ByteRecord, field: &[u8]) -> Result<(), AllocError>
 fn head_of(
     alloc: Global,
     kind: &[u8],
-    at: u32,
+    at: u64,
     id: u16,
     serial: Serial,
 ) -> Result<ByteRecord, AllocError>
@@ -170,7 +170,7 @@ fn push_pages(alloc: Global, line: &mut ByteRecord, contents: &[Content]) -> Res
 }
 
 /// The record that a cell lost its messages.
-fn record_of_clear(alloc: Global, at: u32) -> Result<ByteRecord, AllocError>
+fn record_of_clear(alloc: Global, at: u64) -> Result<ByteRecord, AllocError>
     ensures { IfOk result (λ line. fields_of line ≡ fields_of_order at CellOrder.Clear) }
 {
     let mut slot = Buffer::new();
@@ -178,7 +178,7 @@ fn record_of_clear(alloc: Global, at: u32) -> Result<ByteRecord, AllocError>
 }
 
 /// The record of a row.
-fn record_of(alloc: Global, at: u32, order: &CellOrder) -> Result<ByteRecord, AllocError>
+fn record_of(alloc: Global, at: u64, order: &CellOrder) -> Result<ByteRecord, AllocError>
     ensures { IfOk result (λ line. fields_of line ≡ fields_of_order at order.now) }
 {
     match order {

@@ -1,4 +1,4 @@
--- Steps over the packets of a file. Contracts of private functions alone speak of it.
+-- Steps over the packets of a file. Contracts of steps speak of it.
 use Rattle.std.specs.Prelude.{◌≡◌, ℕ, List, Option, Some, None, Result, Ok, Err}
 use Rattle.gsmtap.specs.File.{Packet}
 use Rattle.gsmtap.specs.PieceSteps.{packet_of}

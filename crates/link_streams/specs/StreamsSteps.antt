@@ -4,10 +4,8 @@ use Rattle.gsmtap.specs.File.{Packet}
 use Rattle.gsmtap.specs.Taken.{taken}
 use Rattle.gsmtap.specs.Taker.{HasTakenAll}
 use Rattle.gsmtap.specs.TapeSteps.{IsPacketKind}
-use Rattle.gsmtap.specs.Walk.{IsWalkOf}
 use Rattle.gsmtap.specs.declared.fault.AirFault.{AirFault}
 use Rattle.gsmtap.specs.declared.fault.AirFaultKind.TheVariants as kind
-use Rattle.gsmtap.specs.declared.walk.Walk.{Walk}
 use Rattle.link_streams.specs.Streams.{Followed, follow, for_messages}
 use Rattle.link_streams.specs.declared.streams.LinkStreams.{LinkStreams}
 
@@ -23,11 +21,6 @@ HaveFollowed packets streams = taken for_messages packets ≡ Ok (followed_by (l
 -- it has all of a file
 abbrev pub HaveFollowedAll : (input : List ℕ) → LinkStreams → Type 0
 HaveFollowedAll input streams = HasTakenAll for_messages HaveFollowed input streams
-
--- a walk for messages is over a file of which these octets came by now
-abbrev pub IsFollowing : (input : List ℕ) → Walk LinkStreams → Type 0
-IsFollowing input walk =
-    IsWalkOf {G = Unit {0}} (λ given. for_messages) (λ given. HaveFollowed) tt input walk
 
 -- why a packet isn't followed, before which so many came: it is at fault, or memory was refused
 abbrev pub IsUnfollowed : (before : ℕ) → LinkStreams → Packet → AirFault → Type 0

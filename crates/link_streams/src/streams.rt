@@ -1,12 +1,11 @@
 //! The messages of the link in a capture file, packet by packet.
 
-ghost use Rattle.std.specs.Prelude.{◌≡◌, ◌+◌, ◌<◌, ◌^◌, [], ℕ, List, length, IfErr, IfOk, OnOk, None, Ok};
+ghost use Rattle.std.specs.Prelude.{◌≡◌, ◌+◌, ◌<◌, ◌^◌, [], ℕ, length, IfErr, IfOk, OnOk, None, Ok};
 ghost use Rattle.gsmtap.specs.PieceSteps.{packet_of};
-ghost use Rattle.gsmtap.specs.Walk.{OfSome};
 ghost use Rattle.link_streams.specs.Segment.{segment_found};
 ghost use Rattle.link_streams.specs.Streams.{AreMessagesIn, IsLinkFault, after_segment, after_segment_at, follow};
 ghost use Rattle.link_streams.specs.Streams.{is_way, direction_place};
-ghost use Rattle.link_streams.specs.StreamsSteps.{HaveFollowed, HaveFollowedAll, IsFollowing, IsUnfollowed};
+ghost use Rattle.link_streams.specs.StreamsSteps.{HaveFollowed, IsUnfollowed};
 ghost use Rattle.link_streams.specs.StreamsSteps.{followed_by};
 
 use crate::direction::{Direction, begins_direction};
@@ -15,7 +14,7 @@ use crate::messages::Heading;
 use crate::segment::{SegmentFound, segment_in};
 use gsmtap::file::link_numbered;
 use gsmtap::tape::{fault_at, opened};
-use gsmtap::{AirFault, AirFaultKind, Captured, TakesPackets, Walk, take_all};
+use gsmtap::{AirFault, AirFaultKind, Captured, TakesPackets, take_all};
 use std::alloc::{AllocError, Global};
 
 /// The directions of all connections of the link, and its messages, in the packets that came so far.
@@ -39,7 +38,11 @@ impl LinkStreams {
     }
 
     /// Takes a packet, before which so many came.
-    fn follow(&mut self, before: u64, packet: &Captured) -> Result<(), AirFault>
+    ///
+    /// # Errors
+    ///
+    /// Returns the fault of a packet whose link type isn't known, and out of memory.
+    pub fn follow(&mut self, before: u64, packet: &Captured) -> Result<(), AirFault>
         requires { before < 2 ^ 45 }
         ensures followed { OnOk result (follow (followed_by before self.old) (packet_of packet.now)
             ≡ Ok (followed_by (before + 1) self.new)) }
@@ -94,9 +97,9 @@ impl LinkStreams {
         Ok(())
     }
 
-    /// The messages, of all packets of a file.
+    /// The messages of the packets that came.
     pub fn messages(self) -> Vec<LinkPacket>
-        ensures { (input : List ℕ) → HaveFollowedAll input self → AreMessagesIn input result.items }
+        ensures { result.items ≡ (followed_by 0 self).messages }
     {
         self.messages
     }
@@ -150,23 +153,6 @@ pub fn messages_of_capture(alloc: Global, input: &[u8]) -> Result<Vec<LinkPacket
         Err(kind) => return Err(fault_at(0, kind)),
     };
     match take_all(reader, octets, LinkStreams::new(alloc)) {
-        Ok(streams) => Ok(streams.messages()),
-        Err(fault) => Err(fault),
-    }
-}
-
-/// The messages of the link in the file that all octets are which came to a walk.
-///
-/// # Errors
-///
-/// Those of [`messages_of_capture`].
-pub fn messages_of_walk(walk: Walk<LinkStreams>) -> Result<Vec<LinkPacket>, AirFault>
-    requires { OfSome {G = Unit {0}} (λ given. IsFollowing) walk 0 }
-    ensures messages { IfOk result (λ messages. (input : List ℕ) → IsFollowing input walk →
-        AreMessagesIn input messages.items) }
-    ensures fault { IfErr result (λ fault. (input : List ℕ) → IsFollowing input walk → IsLinkFault input fault) }
-{
-    match walk.end() {
         Ok(streams) => Ok(streams.messages()),
         Err(fault) => Err(fault),
     }

@@ -5,3 +5,4 @@ pub mod TooLong
 pub mod WholeInput
 pub mod Parts
 pub mod Made
+pub mod OrdersInput

@@ -1,5 +1,6 @@
 pub mod PcapOutput
 pub mod TapeOutput
+pub mod OrdersOutput
 pub mod CellTable
 pub mod CellTableSteps
 pub mod AllTapes

@@ -116,7 +116,7 @@ fn time_text(alloc: Global, time: Option<u64>) -> Result<String, AllocError>
 }
 
 /// Nanoseconds as seconds with nine decimals.
-fn seconds_text(alloc: Global, time: u64) -> Result<String, AllocError>
+pub(crate) fn seconds_text(alloc: Global, time: u64) -> Result<String, AllocError>
     ensures { IfOk result (λ text. string_bytes text ≡ seconds_text time) }
 {
     let second = time / 1_000_000_000;

@@ -31,9 +31,10 @@ fn message_at(alloc: Global, place: &str, octets: &[u8]) -> Result<Heard, Fail> 
     let (packet, connection) = rest.split_once('.').unwrap_or((rest, ""));
     match read(alloc, octets) {
         Ok((message, _)) => Ok(Heard {
-            slot: slot.parse::<u32>()?,
+            slot: slot.parse::<u64>()?,
+            time: packet.parse::<u64>()?,
             packet: packet.parse::<u64>()?,
-            connection: connection.parse::<u32>()?,
+            connection: connection.parse::<u64>()?,
             message,
         }),
         Err(error) => Err(Fail::new(format_args!("{place}: {error}"))),

@@ -1,7 +1,9 @@
-use Rattle.std.proofs.Common.{subst, sym}
+use Rattle.std.proofs.Common.{List, subst, sym}
 use Rattle.gsmtap.specs.declared.fault.AirFault.{AirFault}
 use Rattle.gsmtap.proofs.PacketSteps.{fault_of_begin}
-use Rattle.link_streams.specs.Streams.{IsLinkFault, for_messages}
+use Rattle.link_streams.specs.Streams.{AreMessagesIn, IsLinkFault, for_messages}
+use Rattle.link_streams.specs.declared.message.LinkPacket.{LinkPacket}
+use Rattle.link_streams.proofs.Following.{messages_in}
 use Rattle.link_streams.proofs.streams.messages_of_capture.Goals as goal
 
 pub returns-in-Err-clause-fault : goal.returns-in-Err-clause-fault
@@ -18,5 +20,6 @@ returns-in-Err-take_all-clause-fault c =
 
 pub returns-in-Ok-take_all-clause-messages : goal.returns-in-Ok-take_all-clause-messages
 returns-in-Ok-take_all-clause-messages c =
-    c.messages.ensures c.args.input.now
-    (c.in-Ok-take_all.ensures.taken tt c.args.input.now c.in-Ok.ensures c.new.ensures)
+    subst (λ (it : List LinkPacket). AreMessagesIn c.args.input.now it) (sym c.messages.ensures)
+    (messages_in c.args.input.now c.in-Ok-take_all.streams
+    (c.in-Ok-take_all.ensures.taken tt c.args.input.now c.in-Ok.ensures c.new.ensures))

@@ -1,0 +1,2 @@
+pub mod Overhearing
+mod Worked

@@ -1,0 +1,5 @@
+pub mod Clock
+pub mod Overhearing
+pub mod Calls
+pub mod Orders
+pub mod Steps
