@@ -9,7 +9,7 @@ from capture_files import (INTERFACE, LINKS, OLD_PACKET, PACKET, PCAPNG, SIMPLE_
                            file_header, gsmtap, internet, internet_in, linked, options, packet, segment, tick_of)
 from capture_reference import FRAMES, foreign, packet_block_of, spoilt
 from orders_reference import SIZES, Messages, elements_of, is_read, number
-from streams_reference import PORT, ROUND
+from streams_reference import MOST_WAITING, PORT, ROUND
 
 SECOND = 10 ** 9
 # of a hyperframe
@@ -45,10 +45,9 @@ class Station:
         self.lost = rng.choice((0, 0, 0.1, 0.5))
         # how likely the next block is some slots later, and how many
         self.leaps = rng.choice(((0, (1,)), (0, (1,)), (0.1, (1, 2, 30)), (0.1, (1, 3000, 3327))))
-        self.has_right_clock, self.is_exact = rng.random() < 0.8, False
+        self.has_right_clock, self.is_exact, self.passes_end = rng.random() < 0.8, False, False
         if rng.random() < 0.06:
-            # a tape that goes on past its last slot, after which no block says when it began
-            self.lost, self.leaps, self.has_right_clock = 0, (0.8, (3000, 3300)), False
+            self.passes_end = True
         elif rng.random() < 0.3:
             # each block says to the tick when the tape began, as its frames are whole microseconds
             self.jitter, self.has_right_clock, self.is_exact = 0, True, True
@@ -67,24 +66,43 @@ class Station:
         arfcn = self.arfcn | rng.choice((0, 0x8000))
         return internet(self.source, b"\x7f\0\0\1", 0, datagram(gsmtap(frame, channel, block, arfcn)))
 
-    def packets(self, slots, begin):
-        """Yields the packets of blocks, each after the time at which it comes and the one that is recorded. The slot of
-        the first one begins at this time."""
-        rng, at, off, latest = self.rng, self.first, 0, 0
+    def course(self, slots):
+        """Yields the multiframes in which blocks are sent, each with how far off the clock is by then."""
+        rng, at, off, is_back = self.rng, self.first, 0, False
         for _ in range(8 * slots):
             is_sent = (at % 8 < 4 or rng.random() < 0.2) and rng.random() >= self.lost
             if is_sent:
-                frame = self.frame(at)
-                sent = begin + lasting(frame)
-                latest = max(latest, sent)
-                yield latest, sent + off + rng.randint(0, self.jitter), self.packet(frame)
+                yield at, off
             at += 1
             if is_sent and at % 8 in (1, 2, 3) and rng.random() < self.leaps[0]:
                 at += 8 * rng.choice(self.leaps[1])
             if not self.has_right_clock and rng.random() < 0.1:
                 off = rng.randint(-30, 30) * SECOND
-            if rng.random() < (0.03 if is_sent and at < self.first + 4 else 0.0005):
-                at += 8 * rng.choice((-1, -1, -2, 3328))
+            is_back = is_sent and rng.random() < (0.3 if is_back else 0.03 if at < self.first + 4 else 0.004)
+            if is_back:
+                at += 8 * rng.choice((*[-1] * 12, -2, 3328)) - 1
+
+    def course_past_end(self):
+        """Yields these of a tape that goes on past its last slot, from which on no block says when it began. Of the
+        blocks before that about half have another clock, so that each of them counts."""
+        first, off = self.first // 8 * 8, self.rng.randint(-400, 400) * SECOND
+        for at in range(self.rng.randrange(4)):
+            yield first + at, 0
+        for slot in range(3300, 3300 * 20, 3300):
+            yield first + 8 * slot, 0
+        for slot in range(65531, 65540):
+            for place in range(4):
+                yield first + 8 * slot + place, off
+
+    def packets(self, slots, begin):
+        """Yields the packets of blocks, each after the time at which it comes and the one that is recorded. The slot of
+        the first one begins at this time."""
+        latest = 0
+        for at, off in self.course_past_end() if self.passes_end else self.course(slots):
+            frame = self.frame(at)
+            sent = begin + lasting(frame)
+            latest = max(latest, sent)
+            yield latest, sent + off + self.rng.randint(0, self.jitter), self.packet(frame)
 
 
 # ---- the link
@@ -110,6 +128,12 @@ class Way:
     def sent(self, octets):
         """Yields the packets of segments by which octets are sent, at times together with those of before, or later."""
         rng, stream, self.held = self.rng, self.held + octets, b""
+        if len(stream) > MOST_WAITING + 60 and rng.random() < 0.1:
+            later = MOST_WAITING + rng.randint(-2, 2)
+            yield from self.many(stream[:10], stream[10:10 + later])
+            # it goes on after them, or before what was dropped of them
+            begun = 10 + rng.choice((later, later, MOST_WAITING - 3))
+            stream, self.next = stream[begun:], self.next + begun
         while stream:
             if rng.random() < 0.04:
                 self.held = stream
@@ -122,6 +146,12 @@ class Way:
                 yield self.packet(self.next, DATA, part)
             self.next += len(part)
             yield from self.again(part)
+
+    def many(self, part, later):
+        """Yields a part after the octets that come later, each in a segment: so many of these wait as may, or more."""
+        for at in range(len(later)):
+            yield self.packet(self.next + len(part) + at, DATA, later[at:at + 1])
+        yield self.packet(self.next, DATA, part)
 
     def ahead(self, length, part):
         """Yields a part that comes before one of this length, at times with other octets after it or before it."""
