@@ -53,7 +53,7 @@ LISTS = {WRITE: (0x04,), KILL: (0x04,), RESET: (0x04,), WAS_RESET: (0x04,), REST
          NOT_RESET: (0x09, 0x04)}
 OF_CONTROLLER = (0x02, 0x03, 0x05, 0x06, 0x08, 0x09, 0x0B, 0x0C, 0x0E, 0x0F, *range(0x11, 0x15), 0x17)
 FAULTS = ("not a capture file", "unknown link type", "capture is short", "wrong block", "steps back", "no time",
-          "slots before the tape")
+          "before the tape begins")
 # what `warnc orders` is asked for
 Wanted = collections.namedtuple("Wanted", "cell bsc first_slot source arfcn is_sdcch packets")
 
@@ -135,8 +135,8 @@ def refuse_early(orders, begin, first_slot):
     for it in orders:
         before = begin - PARTS * (it.time // 1000)
         if before > 0:
-            slots = -(-before // SLOT)
-            raise Refused(f"packet {it.number}: {slots} slots before the tape: use --first-slot {first_slot + slots}")
+            slot = first_slot - (-before // SLOT)
+            raise Refused(f"packet {it.number}: before the tape begins: use --first-slot {slot}")
 
 
 def orders_of(octets, wanted):
