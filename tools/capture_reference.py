@@ -24,19 +24,12 @@ import subprocess
 import sys
 
 import gsm
+from capture_files import (INTERFACE, LINKS, OLD_PACKET, PACKET, PCAPNG, SIMPLE_PACKET, UDP, block_of, carried_in,
+                           clock, datagram, file_header, gsmtap, internet, internet_in, known_packets_of, linked,
+                           options, packet, packets_of)
 from gsm import Refused
 
 HERE = os.path.dirname(os.path.realpath(__file__))
-# link types of libpcap, tags of virtual networks, and the type of IPv4 in Ethernet
-LINKS = (0, 1, 101, 108, 113, 228, 276)
-TAGS = (b"\x81\x00", b"\x88\xa8")
-IPV4 = b"\x08\x00"
-# of pcapng: the type of a section header, which is the same in either order, and its magic number; types of blocks
-PCAPNG = b"\x0A\x0D\x0D\x0A"
-ORDERS = {b"\x4D\x3C\x2B\x1A": "<", b"\x1A\x2B\x3C\x4D": ">"}
-INTERFACE, OLD_PACKET, SIMPLE_PACKET, PACKET = 1, 2, 3, 6
-# options of an interface: the resolution of its clock, and the time from which it counts
-TS_RESOLUTION, TS_OFFSET = 9, 14
 FRAMES = 51 * 26 * 2048
 SLOTS = FRAMES // 51 // 8
 MOST_SLOTS = 65535
@@ -46,36 +39,6 @@ FIRST_FRAMES = {15: 32, 12: 8}
 # the microseconds from 1970 to the end of 2105
 END = 4_291_747_200 * 1000000
 CHOOSE = ": if several send, choose one by --from or --arfcn"
-
-
-def ones_sum(octets):
-    """The one's complement sum of words of 16 bits."""
-    total = 0
-    for word, in struct.iter_unpack(">H", octets):
-        total += word
-        total = (total & 0xFFFF) + (total >> 16)
-    return total
-
-
-def internet(source, target, identity, payload, protocol=17):
-    header = struct.pack(">BBHHHBBH4s4s", 0x45, 0, 20 + len(payload), identity, 0, 64, protocol, 0, source, target)
-    return header[:10] + struct.pack(">H", ones_sum(header) ^ 0xFFFF) + header[12:] + payload
-
-
-def gsmtap(frame, channel, block, arfcn=0, slot=2):
-    return struct.pack(">BBBBHbbIBBBB", 2, 4, 1, 0, arfcn, 0, 0, frame, channel, 0, slot, 0) + block
-
-
-def datagram(payload, port=4729):
-    return struct.pack(">HHHH", port, port, 8 + len(payload), 0) + payload
-
-
-def file_header(order="<", magic=0xA1B2C3D4, link=228):
-    return struct.pack(order + "IHHiIII", magic, 2, 4, 0, 0, 65535, link)
-
-
-def packet(octets, when=(0, 0), order="<"):
-    return struct.pack(order + "IIII", *when, len(octets), len(octets)) + octets
 
 
 def packet_of_block(number, lac, cell, place, block, channel, start=0):
@@ -99,151 +62,13 @@ def capture_of(octets, used=False, channel=15, start=0):
     return b"".join(out)
 
 
-def packets_of(octets):
-    """Returns an iterator over the packets: their number, link type, time in nanoseconds or None, and octets."""
-    if octets[:4] == PCAPNG:
-        return each_in_blocks(octets)
-    if len(octets) < 24:
-        raise Refused("not a capture file")
-    for order in "<>":
-        unit = {0xA1B2C3D4: 1000, 0xA1B23C4D: 1}.get(struct.unpack_from(order + "I", octets)[0])
-        if unit:
-            break
-    else:
-        raise Refused("not a capture file")
-    link = struct.unpack_from(order + "I", octets, 20)[0]
-    if link not in LINKS:
-        raise Refused(unknown(link))
-    return each_packet(octets, order, link, unit)
-
-
-def unknown(link):
-    return f"unknown link type {link}: known are 0, 1, 101, 108, 113, 228 and 276"
-
-
-def each_packet(octets, order, link, unit):
-    place, number = 24, 0
-    while place < len(octets):
-        number += 1
-        if len(octets) - place < 16:
-            raise Refused(f"packet {number}: capture is short")
-        second, fraction, size = struct.unpack_from(order + "III", octets, place)
-        place += 16
-        if len(octets) - place < size:
-            raise Refused(f"packet {number}: capture is short")
-        yield number, link, second * 10 ** 9 + fraction * unit, octets[place:place + size]
-        place += size
-
-
-def each_in_blocks(octets):
-    """The packets of a file of pcapng. A fault names the packet that would be next."""
-    place, number, order, faces = 0, 0, "", []
-    while place < len(octets):
-        kind, order, body = block_at(octets, place, order, number + 1)
-        place += 12 + len(body)
-        try:
-            if kind == struct.unpack(order + "I", PCAPNG)[0]:
-                struct.unpack_from(order + "IHHQ", body)
-                faces = []
-            elif kind == INTERFACE:
-                faces.append((*struct.unpack_from(order + "HHI", body), tick_of(order, body[8:])))
-            elif kind in (PACKET, OLD_PACKET):
-                words = struct.unpack_from(order + ("IQII" if kind == PACKET else "HHQII"), body)
-                link, *_, tick = faces[words[0]]
-                if words[-2] > len(body) - 20:
-                    raise IndexError
-                number += 1
-                high, low = struct.unpack_from(order + "II", body, 4)
-                yield number, link, told(tick, high << 32 | low), body[20:20 + words[-2]]
-            elif kind == SIMPLE_PACKET:
-                size = struct.unpack_from(order + "I", body)[0]
-                link, _, longest, _ = faces[0]
-                size = min(size, longest or size)
-                if size > len(body) - 4:
-                    raise IndexError
-                number += 1
-                yield number, link, None, body[4:4 + size]
-        except (struct.error, IndexError):
-            raise Refused(f"packet {number + 1}: wrong block") from None
-
-
-def tick_of(order, octets):
-    """Returns how many nanoseconds a tick lasts by the options of an interface, or None where that isn't known."""
-    values = {}
-    while len(octets) >= 4:
-        code, size = struct.unpack_from(order + "HH", octets)
-        if code == 0 or size > len(octets) - 4:
-            break
-        values.setdefault(code, octets[4:4 + size])
-        octets = octets[4 + size + -size % 4:]
-    if TS_OFFSET in values:
-        return None
-    resolution = values.get(TS_RESOLUTION, b"\6")
-    return 10 ** (9 - resolution[0]) if len(resolution) == 1 and resolution[0] <= 9 else None
-
-
-def told(tick, ticks):
-    """Returns the nanoseconds of ticks, if 64 bits have them."""
-    return ticks * tick if tick is not None and ticks * tick < 1 << 64 else None
-
-
-def block_at(octets, place, order, number):
-    """Returns the type of the block at a place, the order of its numbers, and its body."""
-    head = octets[place:place + 12]
-    if len(head) < 12:
-        raise Refused(f"packet {number}: capture is short")
-    if head[:4] == PCAPNG:
-        order = ORDERS.get(head[8:])
-    kind, size = struct.unpack_from((order or "<") + "II", head)
-    if not order or size < 12 or size % 4 != 0:
-        raise Refused(f"packet {number}: wrong block")
-    if place + size > len(octets):
-        raise Refused(f"packet {number}: capture is short")
-    if struct.unpack_from(order + "I", octets, place + size - 4)[0] != size:
-        raise Refused(f"packet {number}: wrong block")
-    return kind, order, octets[place + 8:place + size - 4]
-
-
-def internet_in(link, octets):
-    """Returns what follows the header of a packet's link; nothing, if that isn't IPv4."""
-    if link in (101, 228):
-        return octets
-    if link in (0, 108):
-        return octets[4:] if octets[:4] in (b"\2\0\0\0", b"\0\0\0\2") else b""
-    if link == 276:
-        return octets[20:] if octets[:2] == IPV4 else b""
-    octets = octets[12 if link == 1 else 14:]
-    for _ in range(2):
-        if octets[:2] in TAGS and len(octets) >= 4:
-            octets = octets[4:]
-    return octets[2:] if octets[:2] == IPV4 else b""
-
-
-def linked(rng, link, octets):
-    """Returns a packet of a link that has these octets, or, at times, another header."""
-    kind = IPV4 if rng.random() < 0.99 else b"\x08\x06"
-    tags = b"".join(rng.choice(TAGS) + rng.randbytes(2) for _ in range(rng.choice([0, 0, 0, 1, 2, 3])))
-    if link in (101, 228):
-        return octets
-    if link in (0, 108):
-        return rng.choice([b"\2\0\0\0", b"\0\0\0\2"]) + octets if kind == IPV4 else b"\x1e\0\0\0" + octets
-    if link == 276:
-        return kind + rng.randbytes(18) + octets
-    return rng.randbytes(12 if link == 1 else 14) + tags + kind + octets
-
-
 def block_in(link, octets, source, channel, is_sdcch):
     """Returns the frame number and the block that a packet carries, or None."""
-    octets = internet_in(link, octets)
-    if len(octets) < 20 or octets[0] >> 4 != 4 or octets[9] != 17:
+    inside = internet_in(link, octets)
+    octets = carried_in(inside, UDP)
+    if octets is None or len(octets) < 8:
         return None
-    size = 4 * (octets[0] & 15)
-    if size < 20 or len(octets) < size or struct.unpack_from(">H", octets, 6)[0] & 0x3FFF:
-        return None
-    if source is not None and octets[12:16] != source:
-        return None
-    octets = octets[size:]
-    if len(octets) < 8:
+    if source is not None and inside[12:16] != source:
         return None
     _, port, size, _ = struct.unpack_from(">HHHH", octets)
     if port != 4729 or size < 8 or size > len(octets):
@@ -270,7 +95,7 @@ def sender_in(link, octets):
         if found is not None and found[0] // 51 % 8 < 4:
             inside = internet_in(link, octets)
             source, = struct.unpack_from(">I", inside, 12)
-            arfcn, = struct.unpack_from(">H", inside, 4 * (inside[0] & 15) + 8 + 4)
+            arfcn, = struct.unpack_from(">H", carried_in(inside, UDP), 8 + 4)
             return source, arfcn & 0x3FFF, "sdcch" if is_sdcch else "cbch"
     return None
 
@@ -278,9 +103,7 @@ def sender_in(link, octets):
 def senders_of(octets):
     """Returns the table of who sends in a capture."""
     found = {}
-    for number, link, when, inside in packets_of(octets):
-        if link not in LINKS:
-            raise Refused(f"packet {number}: {unknown(link)}")
+    for number, link, when, inside in known_packets_of(octets):
         sender = sender_in(link, inside)
         if sender is not None:
             found.setdefault(sender, []).append((number, when))
@@ -311,32 +134,44 @@ def carried_by(octets, source, arfcn, is_sdcch):
     return len(blocks) // 4, len(pages), " ".join(map(str, identifiers))
 
 
+class Track:
+    """Where blocks stand: in slots from that of the first one on."""
+
+    def __init__(self):
+        self.first = self.latest = None
+
+    def slot_of(self, slot, number):
+        """Returns the slot in which the next block stands, by its slot in the hyperframe; a packet has this number."""
+        if self.first is None:
+            self.first, self.latest = slot, 0
+        step = (slot - self.first - self.latest) % SLOTS
+        if step == SLOTS - 1 and self.latest > 0:
+            return self.latest - 1
+        if step >= SLOTS // 2:
+            raise Refused(f"packet {number}: steps back{CHOOSE}")
+        self.latest += step
+        return self.latest
+
+
+def place_of(frame):
+    """Returns the slot in the hyperframe that has a frame, and the frame's place there."""
+    return divmod(frame // 51 % (FRAMES // 51), 8)
+
+
 def tape_of(octets, lac, cell, slots, source=None, channel=None, is_sdcch=False, first_slot=0):
-    blocks, first, latest = {}, None, None
-    for number, link, _, inside in packets_of(octets):
-        if link not in LINKS:
-            raise Refused(f"packet {number}: {unknown(link)}")
+    blocks, track = {}, Track()
+    for number, link, _, inside in known_packets_of(octets):
         found = block_in(link, inside, source, channel, is_sdcch)
         if found is None:
             continue
         frame, block = found
-        slot, part = divmod(frame // 51 % (FRAMES // 51), 8)
+        slot, part = place_of(frame)
         if part >= 4:
             continue
-        if first is None:
-            first, latest, here = slot, 0, 0
-        else:
-            step = (slot - first - latest) % SLOTS
-            if step == SLOTS - 1 and latest > 0:
-                step = -1
-            elif step >= SLOTS // 2:
-                raise Refused(f"packet {number}: steps back{CHOOSE}")
-            here = latest + step
-            latest = max(latest, here)
-        there = first_slot + here
+        there = first_slot + track.slot_of(slot, number)
         if there < (MOST_SLOTS if slots is None else slots) and blocks.setdefault(4 * there + part, block) != block:
             raise Refused(f"packet {number}: block differs{CHOOSE}")
-    if first is None:
+    if track.first is None:
         raise Refused("no block of the wanted sender: warnc cells lists who sends, over IPv4 alone")
     if slots is None:
         slots = max(blocks) // 4 + 1 if blocks else first_slot
@@ -412,32 +247,6 @@ def random_file(rng, tape, is_sdcch=False):
     return out
 
 
-def block_of(order, kind, body):
-    body += bytes(-len(body) % 4)
-    size = struct.pack(order + "I", 12 + len(body))
-    return struct.pack(order + "I", kind) + size + body + size
-
-
-def clock(rng, order):
-    """Options that say how an interface counts time, among others."""
-    out = options(rng, order).removesuffix(bytes(4)) if rng.random() < 0.5 else b""
-    if rng.random() < 0.6:
-        value = bytes([rng.choice([0, 3, 6, 6, 9, 9, 10, 0x86, 0x8A])]) + rng.choice([b"", b"", b"", b"\0"])
-        out += struct.pack(order + "HH", TS_RESOLUTION, len(value)) + value + bytes(-len(value) % 4)
-    if rng.random() < 0.05:
-        out += struct.pack(order + "HHQ", TS_OFFSET, 8, rng.randrange(1 << 20))
-    return out + rng.choice([b"", bytes(4)])
-
-
-def options(rng, order):
-    """A few options of a block, at times with their end."""
-    out = b""
-    for _ in range(rng.choice([0, 0, 1, 2])):
-        value = rng.randbytes(rng.randrange(9))
-        out += struct.pack(order + "HH", rng.randrange(1, 20), len(value)) + value + bytes(-len(value) % 4)
-    return out + rng.choice([b"", bytes(4)]) if out else out
-
-
 def random_blocks(rng, inside):
     """A file of pcapng of IPv4 packets: sections of both orders, interfaces of several link types, blocks of other
     types, and all kinds of packet blocks; at times a block that contradicts itself."""
@@ -467,15 +276,22 @@ def random_blocks(rng, inside):
 
 
 def packet_block(rng, order, faces, at, octets):
-    """A block of one of the three kinds, of the interface of this number, or of number 0."""
+    """A block of one of the three kinds, of the interface of this number, or of number 0, and at a random time."""
     kind = rng.choice([PACKET, PACKET, PACKET, OLD_PACKET, SIMPLE_PACKET if faces[0][0] in LINKS else PACKET])
-    link, longest = faces[0 if kind == SIMPLE_PACKET else at]
-    octets = linked(rng, link if link in LINKS else 101, octets)
+    link = faces[0 if kind == SIMPLE_PACKET else at][0]
+    return packet_block_of(rng, order, kind, faces, at, linked(rng, link if link in LINKS else 101, octets))
+
+
+def packet_block_of(rng, order, kind, faces, at, octets, ticks=None):
+    """A block of this kind, of the interface of this number, or of number 0 if it is a simple one, and at this time, or
+    at a random one. Of an interface its link type and the most octets of a packet come first."""
+    longest = faces[0 if kind == SIMPLE_PACKET else at][1]
     kept = octets[:longest or len(octets)]
     if kind == SIMPLE_PACKET:
         return block_of(order, kind, struct.pack(order + "I", len(octets)) + kept)
     first = struct.pack(order + "I", at) if kind == PACKET else struct.pack(order + "HH", at, rng.randrange(9))
-    body = first + struct.pack(order + "III", rng.randrange(1 << 20), rng.randrange(1 << 32), len(kept))
+    time = (rng.randrange(1 << 20), rng.randrange(1 << 32)) if ticks is None else divmod(ticks, 1 << 32)
+    body = first + struct.pack(order + "III", *time, len(kept))
     body += struct.pack(order + "I", len(octets)) + kept + bytes(-len(kept) % 4)
     return block_of(order, kind, body + options(rng, order))
 

@@ -30,6 +30,7 @@ import tempfile
 import time
 import zlib
 
+import capture_files
 import capture_reference as reference
 import gsm
 
@@ -55,7 +56,7 @@ NEW_NETWORK, PATIENCE = 0x40000000, 20
 
 def tagged(rng, count):
     """Returns tags of virtual networks, and the type of IPv4."""
-    return b"".join(rng.choice(reference.TAGS) + rng.randbytes(2) for _ in range(count)) + reference.IPV4
+    return b"".join(rng.choice(capture_files.TAGS) + rng.randbytes(2) for _ in range(count)) + capture_files.IPV4
 
 
 # what editcap calls the link type of a form, and what stands before IPv4
@@ -66,7 +67,7 @@ FORMS = {
     "one tag": (ETHERNET, lambda rng: rng.randbytes(12) + tagged(rng, 1)),
     "two tags": (ETHERNET, lambda rng: rng.randbytes(12) + tagged(rng, 2)),
     "cooked 1": ("linux-sll", lambda rng: rng.randbytes(14) + tagged(rng, rng.choice((0, 0, 0, 1, 2)))),
-    "cooked 2": ("linux-sll2", lambda rng: reference.IPV4 + rng.randbytes(18)),
+    "cooked 2": ("linux-sll2", lambda rng: capture_files.IPV4 + rng.randbytes(18)),
     # in the order of the machine that captured; OpenBSD has that of networks
     "BSD loopback": ("null", lambda rng: rng.choice((b"\2\0\0\0", b"\0\0\0\2"))),
     "OpenBSD loopback": ("loop", lambda rng: b"\0\0\0\2"),
@@ -148,13 +149,14 @@ def in_form(rng, form, capture):
     is as before: it is editcap that is told the link type."""
     header, trailer = FORMS[form][1], rng.choice((0, 0, 4))
     return capture[:FILE_HEADER] + b"".join(
-        reference.packet(header(rng) + octets + rng.randbytes(trailer), when) for *when, octets in packets_in(capture))
+        capture_files.packet(header(rng) + octets + rng.randbytes(trailer), when)
+        for *when, octets in packets_in(capture))
 
 
 def in_order(capture):
     """Returns a capture with the packets of all senders in the order of their times, as a recorder has them."""
     packets = sorted(packets_in(capture), key=lambda it: it[:2])
-    return capture[:FILE_HEADER] + b"".join(reference.packet(octets, when) for *when, octets in packets)
+    return capture[:FILE_HEADER] + b"".join(capture_files.packet(octets, when) for *when, octets in packets)
 
 
 def rewritten(rng, form, kind, capture, more=()):
@@ -341,7 +343,7 @@ def recordings_of(capture, folder):
 
         until(have_begun, "recorders begin")
         # the last octet of the destination is the tape's number
-        for *_, octets in reference.packets_of(capture):
+        for *_, octets in capture_files.packets_of(capture):
             send(octets[19], octets[HEADERS:])
         send(0, END)
         until(lambda: have(END), "packets are recorded")
@@ -374,7 +376,7 @@ def live(program):
     for words, file in recordings.items():
         found = without_all_but_names(by_program(program, file, asked))
         wrong += not is_right(" ".join(words), file, asked, wanted, found)
-        links.update(link for _, link, *_ in reference.packets_of(file))
+        links.update(link for _, link, *_ in capture_files.packets_of(file))
     print(f"captures_converted: {len(recordings)} recordings, {wrong} differ; link types were {sorted(links)}")
     return 1 if wrong else 0
 

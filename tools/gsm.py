@@ -2,7 +2,7 @@
 
 It is a plain reading of docs/formats.md, and for alphabets of docs/definitions.md. It shares nothing with the crates,
 so malformed.py, capture_reference.py, verify_reference.py and network_reference.py, which share it, still judge by the
-documents alone. fuzz.py and bench/ use it, too. books.py has books.
+documents alone. fuzz.py and bench/ use it, too. books.py has books, and capture_files.py has capture files.
 """
 import functools
 import struct

@@ -13,14 +13,17 @@ a line says so.
 import collections
 import os
 import random
-import re
 import shutil
 import subprocess
 import sys
 import tempfile
 
+from tried_rows import Bench, all_hold, in_parts
+
 TOP = os.path.dirname(os.path.dirname(os.path.realpath(__file__)))
-CRATES = "cbs_page cbsp_link cbsp_tests cbsp_wire gsm_alphabet septets test_support ucs2_text".split()
+# without the other tests of cbsp_tests: those of refused memory take a memory that `rt try` doesn't have
+BENCH = Bench(tests="cbsp_tests", module="of_cbsp_link", reader="table", others=("said",),
+              needs=("cbs_page", "cbsp_link", "cbsp_wire", "test_support"))
 # the types of messages: an order to write and its two replies, an order to stop and its two replies
 WRITE, WRITTEN, NOT_WRITTEN, KILL, KILLED, NOT_KILLED = range(1, 7)
 # the discriminators of cells: CGI, LAC and CI, CI, LAI, LAC, and all cells
@@ -166,49 +169,6 @@ def written_by_peer(folder, messages):
     return octets, read
 
 
-def test_of(rows):
-    """Returns the source of tests of some rows."""
-    parts = [rows[at:at + ROWS] for at in range(0, len(rows), ROWS)]
-    source = ["//! Random messages.\n\nuse crate::of_cbsp_link::table::expect_rows;\nuse std::test::Fail;\n"]
-    for number, part in enumerate(parts):
-        text = "\n".join(part)
-        source.append(f'\nconst ROWS{number}: &str = "\n{text}\n";\n\n#[test]\n'
-                      f"fn rows{number}(rt: HostRuntime) -> Result<(), Fail> {{\n"
-                      f"    expect_rows(&rt, rt.alloc(), ROWS{number}, {len(part)})\n}}\n")
-    return "".join(source)
-
-
-def run_rows(folder, rows):
-    """Runs rows as tests of a copy of cbsp_tests, and returns whether all hold."""
-    for crate in CRATES:
-        shutil.copytree(os.path.join(TOP, "crates", crate), os.path.join(folder, "crates", crate))
-    for name in ("crates.txt", "HANDLES"):
-        shutil.copy(os.path.join(TOP, name), folder)
-    with open(os.path.join(TOP, "crates.txt"), encoding="utf-8") as it:
-        lines = [line for line in it if re.match(r"\w+", line) and line.split(":")[0].split()[0] in CRATES]
-    with open(os.path.join(folder, "crates.txt"), "w", encoding="utf-8") as it:
-        it.writelines(lines)
-    crate = os.path.join(folder, "crates", "cbsp_tests")
-    # without the other tests: those of refused memory take a memory that `rt try` doesn't have
-    for name in ("captured", "memory", "refusals"):
-        os.remove(os.path.join(crate, "src", "of_cbsp_link", f"{name}.rt"))
-    os.remove(os.path.join(crate, "src", "of_cbsp_wire.rt"))
-    shutil.rmtree(os.path.join(crate, "src", "of_cbsp_wire"))
-    shutil.rmtree(os.path.join(crate, "proofs"))
-    sources = {"lib": "//! Random messages.\n#![tactic(auto)]\n\n#[cfg(test)]\nmod of_cbsp_link;\n",
-               "of_cbsp_link": "//! Random messages.\n\nmod libosmogsm;\nmod said;\nmod table;\n",
-               "of_cbsp_link/libosmogsm": test_of(rows)}
-    for name, source in sources.items():
-        with open(os.path.join(crate, "src", f"{name}.rt"), "w", encoding="utf-8") as it:
-            it.write(source)
-    done = subprocess.run(["rt", "try", "--test", "--seconds", "600"], cwd=crate, capture_output=True, check=False,
-                          text=True)
-    said = done.stdout + done.stderr
-    if done.returncode:
-        print(said[-3000:])
-    return done.returncode == 0
-
-
 def shown_by_tshark(folder, octets):
     """Returns the fields of messages that tshark shows, each message in a segment of TCP; None without it."""
     if not shutil.which("tshark") or not shutil.which("text2pcap"):
@@ -247,7 +207,7 @@ def main():
                 differ("libosmogsm", digits, wanted, words)
                 differing += 1
         rows = [f"in_order {digits} -> {' '.join(it.words)}" for it, digits in zip(messages, octets, strict=True)]
-        if run_rows(folder, rows):
+        if all_hold(BENCH, in_parts(rows, ROWS)):
             counts["cbsp_link reads and writes"] += len(rows)
         else:
             differing += 1

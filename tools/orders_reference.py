@@ -11,16 +11,13 @@ A random link has orders and answers to a few cells, of few identifiers and seri
 answers find orders of the same names, answers that nobody asked for, and messages that take messages away. What comes
 of it becomes rows of tests, which run unproved in a copy, and so take the libraries that `rt lib` built.
 """
-import os
 import random
-import re
-import shutil
-import subprocess
 import sys
-import tempfile
 
-TOP = os.path.dirname(os.path.dirname(os.path.realpath(__file__)))
-CRATES = "cbs_page cbsp_link cbsp_wire cell_orders gsm_alphabet septets test_support ucs2_text".split()
+from tried_rows import Bench, all_hold, in_parts
+
+BENCH = Bench(tests="recording_tests", module="of_cell_orders", reader="table", others=(),
+              needs=("cbsp_link", "cbsp_wire", "cell_orders", "test_support"))
 # the types of messages
 WRITE, WRITTEN, NOT_WRITTEN, KILL, KILLED, NOT_KILLED = range(1, 7)
 RESET, WAS_RESET, NOT_RESET, RESTART, FAILURE = range(16, 21)
@@ -56,23 +53,43 @@ def items_of(body, after):
         yield kind, body[at:at + step]
 
 
+def is_read(kind):
+    """Whether messages of a type are looked into."""
+    return WRITE <= kind <= NOT_KILLED or RESET <= kind <= FAILURE
+
+
+class Unread(Exception):
+    """A message that can't be read."""
+
+
+def elements_of(body):
+    """Yields the elements of a message's body: identifiers, with the octets after them and after the length of a list.
+    One that isn't known or is cut raises Unread."""
+    at = 0
+    while at < len(body):
+        name, begin = body[at], at + 1
+        if name not in SIZES:
+            raise Unread
+        size = SIZES[name]
+        if size is None:
+            size = int.from_bytes(body[begin:begin + 2], "big")
+            begin += 2
+        at = begin + size
+        if at > len(body):
+            raise Unread
+        yield name, body[begin:at]
+
+
 class Message:
     """What a message says of a cell: only that is read."""
 
     def __init__(self, octets, cell):
         self.kind, body = octets[0], octets[4:4 + int.from_bytes(octets[1:4], "big")]
         self.elements, self.pages = {}, []
-        at = 0
-        while at < len(body) and (self.kind <= NOT_KILLED or RESET <= self.kind <= FAILURE):
-            name, size = body[at], SIZES[body[at]]
-            at += 1
-            if size is None:
-                size = int.from_bytes(body[at:at + 2], "big")
-                at += 2
+        for name, inside in elements_of(body) if is_read(self.kind) else ():
             if name == 0x01:
-                self.pages.append(body[at:at + size])
-            self.elements.setdefault(name, body[at:at + size])
-            at += size
+                self.pages.append(inside)
+            self.elements.setdefault(name, inside)
         self.cell = cell
 
     def number(self, name):
@@ -194,25 +211,13 @@ def listed(name, octets):
     return number(name, len(octets)) + octets
 
 
-class Link:
-    """A random link."""
+class Messages:
+    """Random messages over so many connections."""
 
-    def __init__(self, rng):
-        self.rng, self.slot, self.packet, self.words = rng, 0, 0, []
+    def __init__(self, rng, connections=2):
+        self.rng, self.connections = rng, connections
         # of each order, its kind, its names and its connection
         self.asked = []
-        for _ in range(rng.randint(1, 14)):
-            self.slot += rng.choice((0, 0, 1, 1, 2, 7, 70000))
-            self.packet += rng.randint(1, 9)
-            connection = rng.choice((0, 0, 0, 1))
-            choice = rng.random()
-            if choice < 0.45:
-                octets = self.order(connection)
-            elif choice < 0.85 and self.asked:
-                octets, connection = self.answer()
-            else:
-                octets = self.other()
-            self.words.append(f"@{self.slot}.{self.packet}.{connection} {octets.hex()}")
 
     def cell(self, kind):
         """Returns the octets of a cell, by its discriminator."""
@@ -274,7 +279,7 @@ class Link:
         rng = self.rng
         kind, names, connection = rng.choice(self.asked)
         if rng.random() < 0.1:
-            connection = 1 - connection
+            connection = (connection + 1) % self.connections
         failed = rng.random() < 0.4
         body = names + (self.failures() if failed else b"")
         if kind != RESET:
@@ -301,45 +306,22 @@ class Link:
         return number(kind, len(body), 3) + body
 
 
-def test_of(rows):
-    """Returns the source of tests of some rows."""
-    parts = [rows[at:at + ROWS] for at in range(0, len(rows), ROWS)]
-    source = ["//! Random links.\n\nuse crate::of_cell_orders::table::expect_rows;\nuse std::test::Fail;\n"]
-    for place, part in enumerate(parts):
-        text = "\n".join(part)
-        source.append(f'\nconst ROWS{place}: &str = "\n{text}\n";\n\n#[test]\n'
-                      f"fn rows{place}(rt: HostRuntime) -> Result<(), Fail> {{\n"
-                      f"    expect_rows(&rt, rt.alloc(), ROWS{place}, {len(part)})\n}}\n")
-    return "".join(source)
-
-
-def run_rows(folder, rows):
-    """Runs rows as tests of a crate of their own in a copy, and returns whether all hold."""
-    for crate in CRATES:
-        shutil.copytree(os.path.join(TOP, "crates", crate), os.path.join(folder, "crates", crate))
-    shutil.copy(os.path.join(TOP, "HANDLES"), folder)
-    with open(os.path.join(TOP, "crates.txt"), encoding="utf-8") as it:
-        lines = [line for line in it if re.match(r"\w+", line) and line.split(":")[0].split()[0] in CRATES]
-    with open(os.path.join(folder, "crates.txt"), "w", encoding="utf-8") as it:
-        it.writelines([*lines, "orders_rows: cbsp_link cbsp_wire cell_orders test_support\n"])
-    crate = os.path.join(folder, "crates", "orders_rows")
-    os.makedirs(os.path.join(crate, "src", "of_cell_orders"))
-    os.makedirs(os.path.join(crate, "proofs"))
-    os.makedirs(os.path.join(crate, "specs"))
-    shutil.copy(os.path.join(TOP, "crates", "recording_tests", "src", "of_cell_orders", "table.rt"),
-                os.path.join(crate, "src", "of_cell_orders"))
-    sources = {"lib": "//! Random links.\n#![tactic(auto)]\n\n#[cfg(test)]\nmod of_cell_orders;\n",
-               "of_cell_orders": "//! Random links.\n\nmod links;\nmod table;\n",
-               "of_cell_orders/links": test_of(rows)}
-    for name, source in sources.items():
-        with open(os.path.join(crate, "src", f"{name}.rt"), "w", encoding="utf-8") as it:
-            it.write(source)
-    done = subprocess.run(["rt", "try", "--test", "--seconds", "600"], cwd=crate, capture_output=True, check=False,
-                          text=True)
-    said = done.stdout + done.stderr
-    if done.returncode:
-        print(said[-3000:])
-    return done.returncode == 0
+def random_link(rng):
+    """Returns a random link as the words of a row."""
+    messages, words, slot, packet = Messages(rng), [], 0, 0
+    for _ in range(rng.randint(1, 14)):
+        slot += rng.choice((0, 0, 1, 1, 2, 7, 70000))
+        packet += rng.randint(1, 9)
+        connection = rng.choice((0, 0, 0, 1))
+        choice = rng.random()
+        if choice < 0.45:
+            octets = messages.order(connection)
+        elif choice < 0.85 and messages.asked:
+            octets, connection = messages.answer()
+        else:
+            octets = messages.other()
+        words.append(f"@{slot}.{packet}.{connection} {octets.hex()}")
+    return " ".join(words)
 
 
 def main():
@@ -352,9 +334,8 @@ def main():
         return
     runs = int(sys.argv[1]) if len(sys.argv) > 1 else 300
     rng = random.Random(int(sys.argv[2]) if len(sys.argv) > 2 else 1)
-    rows = [table_row("orders 1-1 " + " ".join(Link(rng).words)) for _ in range(runs)]
-    with tempfile.TemporaryDirectory() as folder:
-        right = run_rows(folder, rows)
+    rows = [table_row("orders 1-1 " + random_link(rng)) for _ in range(runs)]
+    right = all_hold(BENCH, in_parts(rows, ROWS))
     count = sum(row.rsplit(" -> ", 1)[1].count(":") for row in rows)
     print(f"orders_reference: {runs} links with {count} rows: {'as cell_orders has them' if right else 'some DIFFER'}")
     sys.exit(not right)

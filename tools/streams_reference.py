@@ -10,104 +10,35 @@ other octets, overlapping, with gaps, begun in the middle and begun again, with 
 become rows of the crate's tests, which run unproved in a copy.
 """
 import collections
-import os
 import random
-import re
-import shutil
 import struct
-import subprocess
 import sys
-import tempfile
 
-TOP = os.path.dirname(os.path.dirname(os.path.realpath(__file__)))
+from capture_files import TCP, carried_in, file_header, internet, internet_in, known_packets_of, packet, segment
+from tried_rows import Bench, all_hold, in_parts
+
+BENCH = Bench(tests="recording_tests", module="of_link_streams", reader="bench", others=(),
+              needs=("gsmtap", "link_streams", "test_support"))
 PORT = 48049
 MOST_WAITING = 256
 ROUND, HALF = 1 << 32, 1 << 31
 # so many captures go into a test
 ROWS = 20
 
-Packet = collections.namedtuple("Packet", "number time link octets")
 Segment = collections.namedtuple("Segment", "way sequence syn octets")
 Message = collections.namedtuple("Message", "number time way octets")
 
 
-def classic(octets):
-    """Yields the packets of a classic capture file."""
-    order, unit = {b"\xd4\xc3\xb2\xa1": ("<", 1000), b"\xa1\xb2\xc3\xd4": (">", 1000), b"\x4d\x3c\xb2\xa1": ("<", 1),
-                   b"\xa1\xb2\x3c\x4d": (">", 1)}[octets[:4]]
-    link, at = struct.unpack_from(order + "I", octets, 20)[0], 24
-    while at < len(octets):
-        second, fraction, length = struct.unpack_from(order + "III", octets, at)
-        yield second * 10**9 + fraction * unit, link, octets[at + 16:at + 16 + length]
-        at += 16 + length
-
-
-def pcapng(octets):
-    """Yields the packets of a file of pcapng, but for old ones, and with times in microseconds or nanoseconds alone."""
-    at, order, faces = 0, "<", []
-    while at < len(octets):
-        if octets[at:at + 4] == b"\x0a\x0d\x0d\x0a":
-            order, faces = "<" if octets[at + 8:at + 12] == b"\x4d\x3c\x2b\x1a" else ">", []
-        kind, length = struct.unpack_from(order + "II", octets, at)
-        body = octets[at + 8:at + length - 4]
-        if kind == 1:
-            faces.append((struct.unpack_from(order + "H", body)[0], tick(order, body[8:])))
-        elif kind == 6:
-            face, high, low, kept = struct.unpack_from(order + "IIII", body)
-            link, unit = faces[face]
-            yield (high << 32 | low) * unit, link, body[20:20 + kept]
-        elif kind == 3:
-            link, _ = faces[0]
-            yield None, link, body[4:4 + struct.unpack_from(order + "I", body)[0]]
-        at += length
-
-
-def tick(order, options):
-    """Returns how many nanoseconds an interface's tick has."""
-    at = 0
-    while at + 4 <= len(options):
-        code, length = struct.unpack_from(order + "HH", options, at)
-        if code == 0:
-            break
-        if code == 9:
-            return {6: 1000, 9: 1}[options[at + 4]]
-        at += 4 + (length + 3) // 4 * 4
-    return 1000
-
-
-def packets_of(octets):
-    """Yields the packets of a capture file, numbered from 1."""
-    reader = pcapng if octets[:4] == b"\x0a\x0d\x0d\x0a" else classic
-    for number, (time, link, packet) in enumerate(reader(octets), 1):
-        yield Packet(number, time, link, packet)
-
-
-def internet_of(packet):
-    """Returns the IPv4 packet in a packet, or None."""
-    link, octets = packet.link, packet.octets
-    if link in (101, 228):
-        return octets
-    if link in (0, 108):
-        return octets[4:] if octets[:4] in (b"\2\0\0\0", b"\0\0\0\2") else None
-    if link == 276:
-        return octets[20:] if octets[:2] == b"\x08\x00" else None
-    at = {1: 12, 113: 14}[link]
-    for _ in range(2):
-        if octets[at:at + 2] in (b"\x81\x00", b"\x88\xa8"):
-            at += 4
-    return octets[at + 2:] if octets[at:at + 2] == b"\x08\x00" else None
-
-
-def segment_of(packet):
-    """Returns the segment of the link in a packet, or None."""
-    ip = internet_of(packet)
-    if ip is None or len(ip) < 20 or ip[0] >> 4 != 4:
+def segment_of(link, octets):
+    """Returns the segment of the link in a packet of a link type, or None."""
+    ip = internet_in(link, octets)
+    tcp = carried_in(ip, TCP)
+    if tcp is None:
         return None
-    header, total = (ip[0] & 15) * 4, int.from_bytes(ip[2:4], "big")
-    is_fragment = int.from_bytes(ip[6:8], "big") & 0x3FFF
-    if header < 20 or not header <= total <= len(ip) or is_fragment or ip[9] != 6:
+    header, total = len(ip) - len(tcp), int.from_bytes(ip[2:4], "big")
+    if not header <= total <= len(ip):
         return None
-    tcp = ip[header:total]
+    tcp = tcp[:total - header]
     if len(tcp) < 20 or not 20 <= (tcp[12] >> 4) * 4 <= len(tcp):
         return None
     source, destination, sequence = struct.unpack_from(">HHI", tcp)
@@ -175,19 +106,30 @@ def may_be_messages(octets):
     return True
 
 
+class Streams:
+    """The directions of all connections, each with what came of it so far."""
+
+    def __init__(self):
+        self.directions = {}
+
+    def take(self, number, link, time, octets):
+        """Takes a packet, and returns the messages of the link that are whole by it."""
+        it = segment_of(link, octets)
+        if it is None:
+            return []
+        first = (it.sequence + it.syn) % ROUND
+        if it.syn or it.way not in self.directions and may_be_messages(it.octets):
+            self.directions[it.way] = Direction(first)
+        if it.way not in self.directions:
+            return []
+        return [Message(number, time, it.way, message) for message in self.directions[it.way].take(first, it.octets)]
+
+
 def messages_of(octets):
     """Yields the messages of the link in a capture file."""
-    directions = {}
-    for packet in packets_of(octets):
-        it = segment_of(packet)
-        if it is None:
-            continue
-        first = (it.sequence + it.syn) % ROUND
-        if it.syn or it.way not in directions and may_be_messages(it.octets):
-            directions[it.way] = Direction(first)
-        if it.way in directions:
-            for message in directions[it.way].take(first, it.octets):
-                yield Message(packet.number, packet.time, it.way, message)
+    streams = Streams()
+    for packet in known_packets_of(octets):
+        yield from streams.take(*packet)
 
 
 def line_of(message):
@@ -259,17 +201,15 @@ ENDS = {">": (1, 40000, 2, PORT), "<": (2, PORT, 1, 40000), ")": (1, 40000, 3, P
 
 def capture_of(rows):
     """Returns the capture file that rows make."""
-    octets = bytes.fromhex("d4c3b2a1020004000000000000000000ffff000065000000")
+    octets = file_header(link=101)
     for number, row in enumerate(rows, 1):
         words = (row + " ").split(" ")
         source, source_port, destination, destination_port = ENDS[words[0]]
         payload = bytes.fromhex(words[3] if len(words) > 3 else "")
         flags = 0x12 if words[2] == "S" else 0x18
-        tcp = struct.pack(">HHIIBBHHH", source_port, destination_port, int(words[1]), 0, 0x50, flags, 65535, 0, 0)
-        length = 40 + len(payload)
-        ip = struct.pack(">BBHHHBBH", 0x45, 0, length, 0, 0x4000, 64, 6, 0)
-        ip += bytes([10, 0, 0, source, 10, 0, 0, destination])
-        octets += struct.pack("<IIII", number, 0, length, length) + ip + tcp + payload
+        tcp = segment((source_port, destination_port), int(words[1]), flags, payload)
+        ends = (bytes([10, 0, 0, it]) for it in (source, destination))
+        octets += packet(internet(*ends, 0, tcp, TCP), (number, 0))
     return octets
 
 
@@ -281,64 +221,6 @@ def random_capture(rng):
     while any(queues):
         rows.append(rng.choice([it for it in queues if it]).pop(0))
     return rows
-
-
-def test_of(tables):
-    """Returns the source of tests of some tables of rows."""
-    parts = [tables[at:at + ROWS] for at in range(0, len(tables), ROWS)]
-    source = ["//! Random captures.\n\nuse crate::of_link_streams::bench::expect_rows;\nuse std::test::Fail;\n"]
-    for number, part in enumerate(parts):
-        rows = [row for table in part for row in table]
-        text = "\n".join(rows)
-        source.append(f'\nconst ROWS{number}: &str = "\n{text}\n";\n\n#[test]\n'
-                      f"fn rows{number}(rt: HostRuntime) -> Result<(), Fail> {{\n"
-                      f"    expect_rows(&rt, rt.alloc(), ROWS{number}, {len(rows)})\n}}\n")
-    return "".join(source)
-
-
-def crates_below(names):
-    """Returns these crates of the repository and those that they stand on, as lines of crates.txt."""
-    with open(os.path.join(TOP, "crates.txt"), encoding="utf-8") as it:
-        lines = {line.split(":")[0].split()[0]: line for line in it if re.match(r"\w+.*:", line)}
-    found, left = {}, list(names)
-    while left:
-        one = left.pop()
-        if one in lines and one not in found:
-            found[one] = lines[one]
-            left += lines[one].split(":")[1].split()
-    return found
-
-
-def run_rows(folder, tables):
-    """Runs rows as tests of a copy of recording_tests, and returns whether all hold."""
-    needs = ["gsmtap", "link_streams", "test_support"]
-    lines = crates_below(needs)
-    lines["recording_tests"] = f"recording_tests: {' '.join(needs)}\n"
-    for crate in lines:
-        shutil.copytree(os.path.join(TOP, "crates", crate), os.path.join(folder, "crates", crate),
-                        ignore=shutil.ignore_patterns("out"))
-    shutil.copy(os.path.join(TOP, "HANDLES"), folder)
-    with open(os.path.join(folder, "crates.txt"), "w", encoding="utf-8") as it:
-        it.writelines(lines.values())
-    crate = os.path.join(folder, "crates", "recording_tests")
-    bench = os.path.join(crate, "src", "of_link_streams", "bench.rt")
-    with open(bench, encoding="utf-8") as it:
-        kept = it.read()
-    shutil.rmtree(os.path.join(crate, "src"))
-    shutil.rmtree(os.path.join(crate, "proofs"))
-    sources = {"lib": "//! Random captures.\n#![tactic(auto)]\n\n#[cfg(test)]\nmod of_link_streams;\n",
-               "of_link_streams": "//! Random captures.\n\nmod bench;\nmod rows;\n",
-               "of_link_streams/bench": kept,
-               "of_link_streams/rows": test_of(tables)}
-    os.makedirs(os.path.dirname(bench))
-    for name, source in sources.items():
-        with open(os.path.join(crate, "src", f"{name}.rt"), "w", encoding="utf-8") as it:
-            it.write(source)
-    done = subprocess.run(["rt", "try", "--test", "--seconds", "600"], cwd=crate, capture_output=True, check=False,
-                          text=True)
-    if done.returncode:
-        print((done.stdout + done.stderr)[-3000:])
-    return done.returncode == 0
 
 
 def main():
@@ -361,8 +243,7 @@ def main():
         messages = list(messages_of(capture_of(rows)))
         found += len(messages)
         tables.append(["file", *rows, "messages -> " + "".join(map(line_of, messages))])
-    with tempfile.TemporaryDirectory() as folder:
-        same = run_rows(folder, tables)
+    same = all_hold(BENCH, [[row for table in part for row in table] for part in in_parts(tables, ROWS)])
     print(f"streams_reference: {runs} captures with {found} messages: {'the same' if same else 'NOT the same'}")
     sys.exit(not same)
 
