@@ -114,7 +114,8 @@ writes_some words task.Plan asked compile live whole plan orders report = absurd
 writes_some words (task.Pcap settings) asked compile live whole plan orders report = tt
 writes_some words task.Cells asked compile live whole plan orders report = tt
 writes_some words (task.Tape wanted) asked compile live whole plan orders report = tt
-writes_some words (task.Orders wanted packets) asked compile live whole plan orders report = absurd (orders asked.command)
+writes_some words (task.Orders wanted packets) asked compile live whole plan orders report =
+    absurd (orders asked.command)
 writes_some words (task.Tapes wanted file) asked compile live whole plan orders report = tt
 writes_some words task.Groups asked compile live whole plan orders report = tt
 writes_some words task.Check asked compile live whole plan orders report = tt

@@ -105,7 +105,7 @@ all -> worked
 ";
 
 const PASSED_OVER: &str = "
-# a write, a stop without a serial number, an emergency message to the cell and one to another, and RESET with its answer
+# a write, a stop without a serial number, an emergency message to the cell, one to another, and RESET and its answer
 args orders --cell 1-1
 in-hex d4c3b2a1020004000000000000000000ffff0000e4000000
 in-hex 00ca9a3b20a107009c0000009c000000 4500009c000000004006665a0a0000010a000002
