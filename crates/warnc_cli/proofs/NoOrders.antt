@@ -1,5 +1,5 @@
--- What `orders` writes and refuses: the messages that it passed over are some, and a fault of status 1 is one of the
--- input.
+-- What `orders` writes and refuses: a table beside which it passed some messages over, and a fault of status 1 is one of
+-- the input.
 use Rattle.std.proofs.Common.{◌≡◌, ℕ, Bool, List, arith, inl, inr}
 use Rattle.std.proofs.Common.{Option, None, Some, IfSome}
 use Rattle.std.specs.Io.KnownBytes.{Appends}
@@ -13,7 +13,6 @@ use Rattle.warnc_cli.specs.Status.{status_of_orders_fault}
 use Rattle.warnc_cli.specs.Tasks.{IsNoOrders, Means}
 use Rattle.warnc_cli.specs.declared.command.Task.TheVariants as task
 
--- a table with these numbers of messages that were passed over is one with some
 of_input : (wanted : OrdersWanted) (packets : Bool) (passed : PassedOver) (input old new : Option (List ℕ))
     → IfSome input (λ octets. (output : List ℕ) × IsOrdersOutput wanted packets passed octets output
     × Appends old new output)
@@ -22,6 +21,7 @@ of_input : (wanted : OrdersWanted) (packets : Bool) (passed : PassedOver) (input
 of_input wanted packets passed None old new wrote = tt
 of_input wanted packets passed (Some octets) old new wrote = (wrote.0, (passed, wrote.1), wrote.2)
 
+-- a table beside which these messages were passed over is one beside which some were
 pub orders_written : (wanted : OrdersWanted) (packets : Bool) (passed : PassedOver) (input old new : Option (List ℕ))
     → WritesOutput (IsOrdersOutput wanted packets passed) input old new
     → WritesOutput (Means (task.Orders wanted packets)) input old new

@@ -525,11 +525,12 @@ fn channel_type_in<S: AsStr>(words: &[S]) -> Option<ChannelType>
 fn address_in<S: AsStr>(words: &[S], name: &str) -> Option<Option<u32>>
     ensures { IfSome result (GivesAddress (map S.text words.now) name.now) }
 {
-    if !is_given(words, name) {
-        return Some(None);
+    if is_given(words, name) {
+        let address = address_of(value_of(words, name)?)?;
+        Some(Some(address))
+    } else {
+        Some(None)
     }
-    let address = address_of(value_of(words, name)?)?;
-    Some(Some(address))
 }
 
 /// The IPv4 address that a text writes.
