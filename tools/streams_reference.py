@@ -177,8 +177,13 @@ def may_be_messages(octets):
 
 def messages_of(octets):
     """Yields the messages of the link in a capture file."""
+    yield from messages_in(packets_of(octets))
+
+
+def messages_in(packets):
+    """Yields the messages of the link in packets."""
     directions = {}
-    for packet in packets_of(octets):
+    for packet in packets:
         it = segment_of(packet)
         if it is None:
             continue

@@ -1,5 +1,5 @@
--- What `orders` writes and refuses: a table beside which it passed some messages over, and a fault of status 1 is one of
--- the input.
+-- What `orders` writes and refuses: a table beside which it passed some messages over; and a fault of status 1 is one
+-- of the input.
 use Rattle.std.proofs.Common.{◌≡◌, ℕ, Bool, List, arith, inl, inr}
 use Rattle.std.proofs.Common.{Option, None, Some, IfSome}
 use Rattle.std.specs.Io.KnownBytes.{Appends}
