@@ -334,7 +334,7 @@ class Network:
 def random_words(rng):
     """Returns random words of `orders`."""
     words = ["--cell", rng.choice(("1-1", "1-1", "1-1", "2-1", "1-65535"))]
-    for name, values in (("--bsc", ("10.0.0.2", "10.0.0.3", "10.0.0.4")), ("--first-slot", ("0", "1", "2", "7", "65535")),
+    for name, values in (("--bsc", ("10.0.0.2", "10.0.0.3", "10.0.0.4")), ("--first-slot", ("0", "1", "7", "65535")),
                          ("--from", ("0.1.0.1", "0.1.0.2")), ("--arfcn", ("0", "0", "1")),
                          ("--channel", ("cbch", "cbch", "sdcch"))):
         if rng.random() < 0.3:
