@@ -124,7 +124,7 @@ FAULTS = {"page": TEXT_FAULT + "|text is not UTF-8|text is too long", "read": TA
           "orders": rf"not a capture file|{LINK_FAULT}"
                     rf"|packet [1-9]\d*: (?:{LINK_FAULT}|capture is short|wrong block|no time"
                     r"|steps back: if several send, choose one by --from or --arfcn"
-                    r"|[1-9]\d* slots before the tape: use --first-slot [1-9]\d*)",
+                    r"|before the tape begins: use --first-slot [1-9]\d*)",
           "cells": rf"not a capture file|{LINK_FAULT}"
                    rf"|packet [1-9]\d*: (?:{LINK_FAULT}|capture is short|wrong block)",
           "verify": rf"{ROW_FAULT}|{TAPE_FAULT}|differences: [1-9]\d*", **dict.fromkeys(OF_BOOKS, ROW_FAULT),

@@ -186,7 +186,7 @@ def slots_of(heard, clock, wanted):
     slots = [(ticks(it.packet.time) - begin) // SLOT for it in heard]
     for it, slot in zip(heard, slots):
         if slot < 0 and it.message.concerns_cell():
-            more = f"{-slot} slots before the tape: use --first-slot {wanted.first_slot - slot}"
+            more = f"before the tape begins: use --first-slot {wanted.first_slot - slot}"
             raise Refused(f"packet {it.packet.number}: {more}")
     return slots
 

@@ -4,7 +4,7 @@ use Rattle.std.proofs.Common.{◌≡◌, ℕ, Bool, List, arith, inl, inr}
 use Rattle.std.proofs.Common.{Option, None, Some, IfSome}
 use Rattle.std.specs.Io.KnownBytes.{Appends}
 use Rattle.device_ends.specs.Moves.{WritesOutput}
-use Rattle.link_orders.specs.declared.wanted.OrdersWanted.{OrdersWanted}
+use Rattle.link_orders.specs.declared.orders.OrdersWanted.{OrdersWanted}
 use Rattle.warnc_air.specs.OrdersOutput.{IsOrdersCommandFault, IsOrdersOutput}
 use Rattle.warnc_air.specs.declared.orders.OrdersCommandFault.{OrdersCommandFault}
 use Rattle.warnc_air.specs.declared.orders.OrdersCommandFault.TheVariants as fault
@@ -41,8 +41,8 @@ refused_here wanted packets input old new fault.ReadFailed told is = absurd (ome
 refused_here wanted packets input old new fault.TooLong told is = inl told.0
 refused_here wanted packets input old new (fault.Air why) told is = inr (fault.Air why, told.1)
 refused_here wanted packets input old new (fault.NoTime packet) told is = inr (fault.NoTime packet, told.1)
-refused_here wanted packets input old new (fault.Early packet slots more) told is =
-    inr (fault.Early packet slots more, told.1)
+refused_here wanted packets input old new (fault.Early packet first_slot) told is =
+    inr (fault.Early packet first_slot, told.1)
 refused_here wanted packets input old new fault.Refused told is = absurd (omega (arith, is))
 refused_here wanted packets input old new fault.WriteFailed told is = absurd (omega (arith, is))
 

@@ -26,7 +26,7 @@ use Rattle.gsmtap.specs.declared.packet.Channel.TheVariants.{BesideSdcch4, Besid
 use Rattle.gsmtap.specs.declared.tape.ChannelType.{ChannelType}
 use Rattle.gsmtap.specs.declared.tape.ChannelType.TheVariants.{Cbch, Sdcch}
 use Rattle.jiff.specs.Words.{parse_timestamp}
-use Rattle.link_orders.specs.declared.wanted.OrdersWanted.{OrdersWanted}
+use Rattle.link_orders.specs.declared.orders.OrdersWanted.{OrdersWanted}
 use Rattle.report.specs.declared.row.Columns.{Columns}
 use Rattle.report.specs.declared.row.Columns.TheVariants.{Full, Plain}
 use Rattle.short_pages.specs.declared.pages.Pages.{Pages}

@@ -85,7 +85,7 @@ status_of_orders_fault orders.ReadFailed = 3
 status_of_orders_fault orders.TooLong = 1
 status_of_orders_fault (orders.Air why) = 1
 status_of_orders_fault (orders.NoTime packet) = 1
-status_of_orders_fault (orders.Early packet slots wanted) = 1
+status_of_orders_fault (orders.Early packet first_slot) = 1
 status_of_orders_fault orders.Refused = 4
 status_of_orders_fault orders.WriteFailed = 3
 

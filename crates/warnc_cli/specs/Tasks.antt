@@ -17,7 +17,7 @@ use Rattle.gsmtap.specs.TapeOfCapture.{IsAirFault, IsTapeOfCapture}
 use Rattle.gsmtap.specs.declared.fault.AirFault.{AirFault}
 use Rattle.gsmtap.specs.declared.tape.Wanted.{Wanted}
 use Rattle.handset.specs.Tape.{IsShort, IsLong}
-use Rattle.link_orders.specs.declared.wanted.OrdersWanted.{OrdersWanted}
+use Rattle.link_orders.specs.declared.orders.OrdersWanted.{OrdersWanted}
 use Rattle.plan.specs.PlanOutput.{IsPlanOutput, IsPlanRowFault, IsTooLong}
 use Rattle.plan.specs.declared.fault.PlanRowFault.{PlanRowFault}
 use Rattle.short_pages.specs.declared.pages.Pages.{Pages}

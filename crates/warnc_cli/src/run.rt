@@ -408,7 +408,10 @@ fn run_orders<R: Read, W: Write, F: Write>(
         sink.new }
     ensures ends { IsRunBetween (Task.Orders wanted packets) result W.contents source.new sink.old sink.new }
 {
-    let mut passed = PassedOver::default();
+    let mut passed = PassedOver {
+        unread: 0,
+        emergencies: 0,
+    };
     match orders_stream(alloc, source, sink, &wanted, packets, &mut passed) {
         Ok(()) => {
             tell_passed(passed, faults);

@@ -148,9 +148,9 @@ in-hex 00ca9a3b20a107003c0000003c000000 4500003c00000000400666ba0a0000010a000002
 in-hex 9c41bbb100000065000000015018ffff04270000040000100e111202001004000501000100011200
 in-hex 04ca9a3b20a107004300000043000000 4500004300000000401170a9000100010a000000
 in-hex 12791279002f00000204010000000000000004e80f000200200010111201118046a3d168341a8d46a3d168341a8d46
-fails -> 1 warnc: packet 1: 3 slots before the tape: use --first-slot 3
+fails -> 1 warnc: packet 1: before the tape begins: use --first-slot 3
 args orders --cell 1-1 --first-slot 2
-fails -> 1 warnc: packet 1: 1 slots before the tape: use --first-slot 3
+fails -> 1 warnc: packet 1: before the tape begins: use --first-slot 3
 args orders --cell 1-1 --first-slot 3 --packets
 worked 1,1000000000.500000000,kill,0,4370,0010,,
 run -> 0
