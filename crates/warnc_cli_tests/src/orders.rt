@@ -1,5 +1,6 @@
-//! Runs of `orders`. The captures were put together by the documents alone, with a block of the air and segments of the
-//! link; a clock that has 13 ticks in a microsecond, 60,000 in a frame and 24,480,000 in a slot says the slots.
+//! Runs of `orders`. The captures were put together by the documents alone, with blocks of the air and segments of the
+//! link, but for one of osmo-bsc. Slots are by a clock of 13 ticks in a microsecond, 60,000 in a frame, and 24,480,000 in
+//! a slot. `tools/link_orders_reference.py` makes the same of each.
 
 use crate::rows::expect_rows;
 use std::test::Fail;
@@ -100,6 +101,46 @@ all -> worked
 # the other's first order comes later
 args orders --bsc 10.0.0.3 --cell 1-1
 worked kill,1,4370,0010,ok,1
+run -> 0
+all -> worked
+";
+
+const CAPTURED: &str = "
+# of examples/osmo.pcap a block, what the controller said, and a stop: it restarts, and answers writes that aren't here
+args orders --cell 1-1
+in-hex d4c3b2a10200040000000000000000000000040001000000
+in-hex ced3086b2a8602005100000051000000 000000000000000000000000080045000043c18040000111b16700000000efc11701
+in-hex e3be1279002f07030204010003673f3f000000200f0000002f2b2b2b2b2b2b2b2b2b2b2b2b2b2b2b2b2b2b2b2b2b2b
+in-hex ced3086b29f902004e0000004e000000 000000000000000000000000080045000040c72b4000400675817f00000a7f000001
+in-hex bbb18bdeda5393bb1b7d7b7780180040fe3d00000101080a12f63bbfbc788197130000080400010616000d01
+in-hex cfd3086ba2fb02005900000059000000 00000000000000000000000008004500004bc72d4000400675747f00000a7f000001
+in-hex bbb18bdeda5393c71b7d7beb80180040fe4800000101080a12f63fa7bc78857f020000130e11120300100400080000f1100001000112
+in-hex 00
+in-hex cfd3086be0fc02005900000059000000 00000000000000000000000008004500004bc72e4000400675737f00000a7f000001
+in-hex bbb18bdeda5393de1b7d7c5f80180040fe4800000101080a12f63fa8bc788580020000130e111f0300200400080000f1100001000112
+in-hex 00
+in-hex d8d3086b4c5209006a0000006a000000 00000000000000000000000008004500005cc72f4000400675617f00000a7f000001
+in-hex bbb18bdeda5393f51b7d7cd680180040fe5900000101080a12f6646fbc78aa47020000240e111203001102001008000b0000f1100001
+in-hex 00010002000400080000f110000100011200
+in-hex ded3086b38f703005600000056000000 00000000000000000000000008004500004847df40004006f4c57f0000017f00000a
+in-hex 8bdebbb11b7d7cd6da53941d80180040fe4500000101080abc78c05812f6646f040000100e111f02002004000501000100011200
+in-hex ded3086b09f803005c0000005c000000 00000000000000000000000008004500004ec73040004006756e7f00000a7f000001
+in-hex bbb18bdeda53941d1b7d7cea80180040fe4b00000101080a12f67a80bc78c058050000160e111f02002008000b0000f1100001000100
+in-hex 03001200
+worked clear,0
+worked kill,8,4383,0020,ok,3
+run -> 0
+all -> worked
+args orders --cell 1-1 --packets --bsc 127.0.0.10
+worked 2,1795740622.194857000,clear,0
+worked 7,1795740638.260105000,kill,8,4383,0020,ok,3
+run -> 0
+all -> worked
+# it has another address than the centre
+args orders --cell 1-1 --bsc 127.0.0.1
+run -> 0
+args orders --cell 1-2
+worked clear,0
 run -> 0
 all -> worked
 ";
@@ -260,7 +301,8 @@ says Example: warnc orders --cell 1-1 < link.pcap > orders.csv -> yes
 #[test]
 fn links_give_the_orders_of_a_cell(rt: HostRuntime) -> Result<(), Fail> {
     expect_rows(&rt, ORDERS, 64)?;
-    expect_rows(&rt, CONTROLLERS, 22)
+    expect_rows(&rt, CONTROLLERS, 22)?;
+    expect_rows(&rt, CAPTURED, 35)
 }
 
 #[test]
