@@ -1,6 +1,6 @@
 //! Runs of `orders`. The captures were put together by the documents alone, with blocks of the air and segments of the
-//! link, but for one of osmo-bsc. Slots are by a clock of 13 ticks in a microsecond, 60,000 in a frame and 24,480,000 in
-//! a slot. `tools/link_orders_reference.py` makes the same of each.
+//! link, but for one of osmo-bsc. Slots are by a clock of 13 ticks in a microsecond, 60,000 in a frame, 24,480,000 in a
+//! slot. `tools/link_orders_reference.py` makes the same of each.
 
 use crate::rows::expect_rows;
 use std::test::Fail;
