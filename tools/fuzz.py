@@ -25,7 +25,8 @@ A finding is one of these:
 - octets on standard output with status 1 (but for the differences of `verify`), 2 or 4, or with `read failed`; with
   status 0 other output than the command's;
   with `write failed` anything but a front of the output;
-- a fault line that is missing, is not alone or has another form; anything on standard error with status 0;
+- a fault line that is missing, is not alone or has another form; anything on standard error with status 0, but for the
+  line of `orders`;
 - two answers that should be one: of the same input twice; with 1 worker and with several; of `live` with one session
   and `compile`; of an input that comes in pieces; with little memory, unless it is `out of memory`;
 - tapes of `compile` or `live` that `read` refuses, or in which `verify` finds a difference from their book, in any
@@ -68,15 +69,17 @@ import time
 import capture_reference
 import books
 import gsm
+import link_captures
 
 TOP = os.path.dirname(os.path.dirname(os.path.realpath(__file__)))
 PROGRAM = os.path.join(TOP, "crates", "warnc", "out", "warnc")
 SEEDS = os.path.join(TOP, "tools", "fuzz")
 COMMANDS = ("plan", "check", "texts", "page", "read", "whole", "compile", "live", "report", "chart", "verify", "pcap",
-            "cells", "tape")
+            "cells", "tape", "orders")
 OF_BOOKS = ("compile", "live", "report", "chart")
 # an option without which clap refuses a command
-NEEDED = {"page": "--lang", "tape": "--cell", "verify": "--slots", **dict.fromkeys(OF_BOOKS, "--slots")}
+NEEDED = {"page": "--lang", "tape": "--cell", "orders": "--cell", "verify": "--slots",
+          **dict.fromkeys(OF_BOOKS, "--slots")}
 MEBI = 1 << 20
 # seconds that a run may take
 BOUND = 20
@@ -118,6 +121,10 @@ FAULTS = {"page": TEXT_FAULT + "|text is not UTF-8|text is too long", "read": TA
                   r"|no block of the wanted sender: warnc cells lists who sends, over IPv4 alone"
                   rf"|packet [1-9]\d*: (?:{LINK_FAULT}|capture is short|wrong block"
                   r"|(?:block differs|steps back): if several send, choose one by --from or --arfcn)",
+          "orders": rf"not a capture file|{LINK_FAULT}"
+                    rf"|packet [1-9]\d*: (?:{LINK_FAULT}|capture is short|wrong block|no time"
+                    r"|steps back: if several send, choose one by --from or --arfcn"
+                    r"|before the tape begins: use --first-slot [1-9]\d*)",
           "cells": rf"not a capture file|{LINK_FAULT}"
                    rf"|packet [1-9]\d*: (?:{LINK_FAULT}|capture is short|wrong block)",
           "verify": rf"{ROW_FAULT}|{TAPE_FAULT}|differences: [1-9]\d*", **dict.fromkeys(OF_BOOKS, ROW_FAULT),
@@ -132,6 +139,12 @@ REMARK_NAMES = ["row", "name", "cell", "says"]
 TEXTS_NAMES = ["row", "name", "lang", "coding", "characters", "pages", "room", "first_ucs2", "place"]
 SENDER = re.compile(rb"(?:(?:25[0-5]|2[0-4]\d|1?\d?\d)(?:\.(?!,)|,)){4}\d+,(?:cbch|sdcch)(?:,[1-9]\d*){3}"
                     rb"(?:,\d+,\d+,(?:\d+(?: \d+)*)?|,,,)(?:,(?:\d+\.\d{9})?){2}")
+ORDER = re.compile(rb"clear,\d+|kill,\d+,\d+,[0-9a-f]{4},(?:,|(?:ok|[0-9a-f]{2}),\d*)"
+                   rb"|write,\d+,\d+,[0-9a-f]{4},(?:[0-9a-f]{4})?(?:,\d+){3},[0-9a-f]{2},(?:,|(?:ok|[0-9a-f]{2}),\d*)"
+                   rb"(?:,\d{1,3}-[0-9a-f]{164}){1,15}")
+PACKET = re.compile(rb"[1-9]\d*,\d+\.\d{9},")
+# what is said with status 0
+SAID = {"orders": rb"(?:warnc: not in the table: \d+ messages that can't be read, \d+ emergency messages\n)?"}
 # what captures begin with: the magic numbers of the classic format in both orders, and the type of pcapng
 MAGICS = tuple(map(bytes.fromhex, ("A1B2C3D4", "D4C3B2A1", "A1B23C4D", "4D3CB2A1", "0A0D0D0A")))
 STARTS = ("1970-01-01T00:00:00Z", "2026-11-28T20:00:00.5+01:00", "2099-12-31T23:59:58.116923Z",
@@ -553,6 +566,16 @@ def is_of_cells(out):
     return lines[0] == names and lines[-1] == b"" and len(rows) == len(lines) - 2
 
 
+def is_of_orders(run, out):
+    """Whether an output is an orders file, with the packets of its lines or without."""
+    lines = out.split(b"\n")
+    if "--packets" in run.words:
+        if not all(PACKET.match(it) for it in lines[:-1]):
+            return False
+        lines = [PACKET.sub(b"", it, count=1) for it in lines]
+    return lines[-1] == b"" and all(ORDER.fullmatch(it) for it in lines[:-1])
+
+
 def is_output(run, out):
     """Whether an output has the form of the command's."""
     if run.wanted == "text":
@@ -562,7 +585,7 @@ def is_output(run, out):
              "plan": lambda: is_of_plan(run, out),
              "check": lambda: is_of_check(run, out), "texts": lambda: is_of_texts(run, out),
              "pcap": lambda: is_capture(out), "cells": lambda: is_of_cells(out),
-             "whole": lambda: len(out) == len(run.data),
+             "orders": lambda: is_of_orders(run, out), "whole": lambda: len(out) == len(run.data),
              "tape": lambda: len(out) == gsm.size_of_tape(run.number("--slots", int.from_bytes(out[4:8])))}
     return forms.get(run.command(), lambda: is_tapes(run, out))()
 
@@ -592,7 +615,8 @@ def likeness(octets):
 def hint_of(run):
     """Returns what follows a fault if the book or the input looks like another kind than the command takes."""
     book, data = run.parts()
-    own = {"tape": "a capture", "cells": "a capture", **dict.fromkeys(("read", "whole", "pcap", "verify"), "tapes")}
+    own = {**dict.fromkeys(("tape", "cells", "orders"), "a capture"),
+           **dict.fromkeys(("read", "whole", "pcap", "verify"), "tapes")}
     taken = own.get(run.command(), "a book")
     for name, octets, kind in (("book", book or b"", "a book"), ("input", data, taken)):
         like = likeness(octets)
@@ -607,14 +631,16 @@ def line_fault(run, ran):
         fronts = (b"error: ", b"warnc: words are not UTF-8\n", b"warnc: no such cell: ",
                   b"warnc: no such cell or address: ")
         right = ran.err.startswith(fronts) or not run.words and ran.err
+    elif ran.status == 0:
+        right = re.fullmatch(SAID.get(run.command(), b""), ran.err)
     else:
         reader = "read failed" if run.reader in ("folder", "shut") else "write failed"
-        texts = {0: None, 1: FAULTS.get(run.command(), "[]"), 3: reader, 4: "out of memory"}
+        texts = {1: FAULTS.get(run.command(), "[]"), 3: reader, 4: "out of memory"}
         wanted = texts[ran.status]
         # where the book of `verify` is at fault the tapes aren't read
         hint = re.escape(hint_of(run)) if ran.status == 1 else ""
         hint = f"(?:{hint})?" if run.command() == "verify" else hint
-        right = ran.err == b"" if wanted is None else re.fullmatch(f"warnc: (?:{wanted}){hint}\n".encode(), ran.err)
+        right = re.fullmatch(f"warnc: (?:{wanted}){hint}\n".encode(), ran.err)
     return None if right else "the fault line of status {0} has another form"
 
 
@@ -1190,11 +1216,13 @@ def joined(tapes):
     return b"".join(cell + (count & 0xffffffff).to_bytes(4) + b"".join(slots) for cell, count, slots in tapes)
 
 
-# Captures: those of one random tape, as a network may give them, or of some tapes
+# Captures: those of random links and of one random tape, as a network may give them, or of some tapes
 
 
 def some_capture(chance, seeds):
     kind = chance.random()
+    if kind < 0.3:
+        return link_captures.random_capture(chance).octets
     if kind < 0.6:
         slots = chance.choice((1, 2, 7, 40, 300))
         return capture_reference.random_file(chance, capture_reference.random_tape(chance, slots))
@@ -1306,6 +1334,17 @@ def capture_options(chance):
     return options
 
 
+def orders_options(chance):
+    """Returns the options of `orders`."""
+    options = {"--cell": cell_word(chance)}
+    for name, values in (("--bsc", ("10.0.0.2", "10.0.0.3", "0.0.0.0")), ("--first-slot", ("0", "1", "7", "65535")),
+                         ("--from", ("0.1.0.1", "255.255.255.255")), ("--arfcn", ("0", "1023")),
+                         ("--channel", ("cbch", "sdcch")), ("--packets", (None,))):
+        if chance.random() < 0.2:
+            options[name] = chance.choice(values)
+    return options
+
+
 def tape_options(chance, command):
     """Returns the options of `read`, `whole` and `pcap`."""
     options = {}
@@ -1337,6 +1376,8 @@ def good_options(chance, command, data):
         return page_options(chance)
     if command == "tape":
         return capture_options(chance)
+    if command == "orders":
+        return orders_options(chance)
     if command == "cells":
         return {}
     if command in COMMANDS_OF["rows"]:
@@ -1347,7 +1388,8 @@ def good_options(chance, command, data):
 def spoilt_words(chance, command, options):
     """Returns words that clap refuses."""
     limits = {"--id": 65536, "--scope": 4, "--code": 1024, "--update": 16, "--slots": 65536, "--workers": 65,
-              "--sessions": 65, "--channel": 53, "--pages": 16, "--cell": "1-65536", "--from": "1.2.3.256"}
+              "--sessions": 65, "--channel": 53, "--pages": 16, "--cell": "1-65536", "--from": "1.2.3.256",
+              "--bsc": "1.2.3.256", "--first-slot": 65536, "--arfcn": 1024}
     kind = chance.randrange(6)
     numbers = [name for name in options if name in limits]
     if kind == 0 and numbers:
@@ -1405,7 +1447,7 @@ SIZES = {"workers": (2, 3, 4, 4, 64), "sessions": (2, 2, 3, 64), "pieces": (1, 2
 # kibioctets over the floor
 SPARES = (0, 1, 4, 16, 64, 256, 1024, 4096, 16384, 98304)
 COMMANDS_OF = {"book": (*OF_BOOKS, "verify"), "rows": ("plan", "check", "texts"), "tape": ("read", "whole", "pcap"),
-               "text": ("page",), "capture": ("tape", "cells")}
+               "text": ("page",), "capture": ("tape", "cells", "orders")}
 MAKERS = {"book": some_book, "rows": some_book, "tape": some_tapes, "text": some_text, "capture": some_capture}
 
 

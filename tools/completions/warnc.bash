@@ -10,9 +10,9 @@ _warnc() {
         before=${COMP_WORDS[COMP_CWORD - 2]}
     fi
     # after an option without a value comes another option
-    case $before in --strict | --network | --full | --short | --explain | --used | --all) before= ;; esac
+    case $before in --strict | --network | --full | --short | --explain | --used | --all | --packets) before= ;; esac
     if [ "$COMP_CWORD" -eq 1 ]; then
-        words="plan check texts compile report chart read verify page live pcap cells tape whole groups help -h --help -V --version"
+        words="plan check texts compile report chart read verify page live pcap cells tape orders whole groups help -h --help -V --version"
     else
         case ${COMP_WORDS[1]}$before in
         texts--pages) words="1 2 3 4 5 6 7 8 9 10 11 12 13 14 15" ;;
@@ -21,7 +21,7 @@ _warnc() {
         page--scope) words="0 1 2 3" ;;
         page--update) words="0 1 2 3 4 5 6 7 8 9 10 11 12 13 14 15" ;;
         pcap--channel) words="51 52" ;;
-        tape--channel) words="cbch sdcch" ;;
+        tape--channel | orders--channel) words="cbch sdcch" ;;
         *--book | *--cells)
             mapfile -t COMPREPLY < <(compgen -f -- "$word")
             compopt -o filenames
@@ -45,9 +45,10 @@ _warnc() {
             pcap) words="--used --channel --start -h --help" ;;
             cells) words="-h --help" ;;
             tape) words="--cell --all --cells --slots --first-slot --from --arfcn --channel -h --help" ;;
+            orders) words="--cell --bsc --first-slot --from --arfcn --channel --packets -h --help" ;;
             whole) words="-h --help" ;;
             groups) words="-h --help" ;;
-            help) words="plan check texts compile report chart read verify page live pcap cells tape whole groups" ;;
+            help) words="plan check texts compile report chart read verify page live pcap cells tape orders whole groups" ;;
             esac
             ;;
         esac

@@ -10,4 +10,5 @@ pub mod Words
 pub mod OneInput
 pub mod RemarkedRuns
 pub mod NoPlan
+pub mod NoOrders
 pub mod AllTapes

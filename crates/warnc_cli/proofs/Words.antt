@@ -26,6 +26,7 @@ of_one_input words task.Plan asked other = tt
 of_one_input words (task.Pcap settings) asked other = tt
 of_one_input words task.Cells asked other = tt
 of_one_input words (task.Tape wanted) asked other = tt
+of_one_input words (task.Orders wanted packets) asked other = tt
 of_one_input words task.Groups asked other = tt
 of_one_input words task.Check asked other = tt
 of_one_input words (task.Remark slots start strict) asked other = tt
@@ -63,8 +64,10 @@ may_write words (task.Pcap settings) status asked (inr device) = inr (inl device
 may_write words task.Cells status asked (inl done) = inl done
 may_write words task.Cells status asked (inr device) = inr (inl device)
 may_write words (task.Tape wanted) status asked (inl done) = inl done
+may_write words (task.Orders wanted packets) status asked (inl done) = inl done
 may_write words (task.Tapes wanted file) status asked (inl done) = inl done
 may_write words (task.Tape wanted) status asked (inr device) = inr (inl device)
+may_write words (task.Orders wanted packets) status asked (inr device) = inr (inl device)
 may_write words (task.Tapes wanted file) status asked (inr device) = inr (inl device)
 may_write words task.Groups status asked (inl done) = inl done
 may_write words task.Groups status asked (inr device) = inr (inl device)
@@ -95,23 +98,26 @@ pub writes_some : (words : List (List ℕ)) (t : Task) → IsTaskOf words t
     → slice_get words 1 ≢ Some (codes "live")
     → slice_get words 1 ≢ Some (codes "whole")
     → slice_get words 1 ≢ Some (codes "plan")
+    → slice_get words 1 ≢ Some (codes "orders")
     → (slice_get words 1 ≡ Some (codes "report") → is_given words (codes "--group") ≡ false)
     → AlwaysWrites t
-writes_some words (task.Make run product.Tapes) asked compile live whole plan report =
+writes_some words (task.Make run product.Tapes) asked compile live whole plan orders report =
     absurd (of_tapes words run.sessions.number asked.made_given compile live)
-writes_some words (task.Make run (product.Report layout)) asked compile live whole plan report =
+writes_some words (task.Make run (product.Report layout)) asked compile live whole plan orders report =
     headed words run.books asked.books_given (report asked.made_given.0)
-writes_some words (task.Make run (product.Chart wanted)) asked compile live whole plan report = tt
-writes_some words (task.Verify from slots pages layout file workers) asked compile live whole plan report = tt
-writes_some words (task.Page language id serial) asked compile live whole plan report = tt
-writes_some words (task.Read wanted) asked compile live whole plan report = tt
-writes_some words task.Whole asked compile live whole plan report = absurd (whole asked)
-writes_some words task.Plan asked compile live whole plan report = absurd (plan asked)
-writes_some words (task.Pcap settings) asked compile live whole plan report = tt
-writes_some words task.Cells asked compile live whole plan report = tt
-writes_some words (task.Tape wanted) asked compile live whole plan report = tt
-writes_some words (task.Tapes wanted file) asked compile live whole plan report = tt
-writes_some words task.Groups asked compile live whole plan report = tt
-writes_some words task.Check asked compile live whole plan report = tt
-writes_some words (task.Remark slots start strict) asked compile live whole plan report = tt
-writes_some words (task.Texts pages) asked compile live whole plan report = tt
+writes_some words (task.Make run (product.Chart wanted)) asked compile live whole plan orders report = tt
+writes_some words (task.Verify from slots pages layout file workers) asked compile live whole plan orders report = tt
+writes_some words (task.Page language id serial) asked compile live whole plan orders report = tt
+writes_some words (task.Read wanted) asked compile live whole plan orders report = tt
+writes_some words task.Whole asked compile live whole plan orders report = absurd (whole asked)
+writes_some words task.Plan asked compile live whole plan orders report = absurd (plan asked)
+writes_some words (task.Pcap settings) asked compile live whole plan orders report = tt
+writes_some words task.Cells asked compile live whole plan orders report = tt
+writes_some words (task.Tape wanted) asked compile live whole plan orders report = tt
+writes_some words (task.Orders wanted packets) asked compile live whole plan orders report =
+    absurd (orders asked.command)
+writes_some words (task.Tapes wanted file) asked compile live whole plan orders report = tt
+writes_some words task.Groups asked compile live whole plan orders report = tt
+writes_some words task.Check asked compile live whole plan orders report = tt
+writes_some words (task.Remark slots start strict) asked compile live whole plan orders report = tt
+writes_some words (task.Texts pages) asked compile live whole plan orders report = tt

@@ -26,6 +26,7 @@ use Rattle.gsmtap.specs.declared.packet.Channel.TheVariants.{BesideSdcch4, Besid
 use Rattle.gsmtap.specs.declared.tape.ChannelType.{ChannelType}
 use Rattle.gsmtap.specs.declared.tape.ChannelType.TheVariants.{Cbch, Sdcch}
 use Rattle.jiff.specs.Words.{parse_timestamp}
+use Rattle.link_orders.specs.declared.orders.OrdersWanted.{OrdersWanted}
 use Rattle.report.specs.declared.row.Columns.{Columns}
 use Rattle.report.specs.declared.row.Columns.TheVariants.{Full, Plain}
 use Rattle.short_pages.specs.declared.pages.Pages.{Pages}
@@ -252,11 +253,10 @@ pub record IsAddress (text : List ℕ) (address : ℕ) : Type 0 where
   pub small : (a < 256) × (b < 256) × (c < 256) × (d < 256)
   pub value : address ≡ big_number 4 (a ∷ b ∷ c ∷ d ∷ [])
 
--- the words give the address that packets come from, or none
-abbrev pub GivesFrom : (words : List (List ℕ)) → Option ℕ → Type 0
-GivesFrom words None = is_given words (codes "--from") ≡ false
-GivesFrom words (Some address) =
-    (text : List ℕ) × GivesValue words (codes "--from") text × IsAddress text address
+-- the words give the option of this name an address, or none
+abbrev pub GivesAddress : (words : List (List ℕ)) (name : List ℕ) → Option ℕ → Type 0
+GivesAddress words name None = is_given words name ≡ false
+GivesAddress words name (Some address) = (text : List ℕ) × GivesValue words name text × IsAddress text address
 
 -- the words give the radio channel that packets name, or none
 abbrev pub GivesArfcn : (words : List (List ℕ)) → Option ℕ → Type 0
@@ -290,7 +290,7 @@ pub record AsksForTape (words : List (List ℕ)) (wanted : Wanted) : Type 0 wher
   pub cell_given : GivesCell words wanted.cell
   pub slots_given : GivesTapeSlots words wanted.slots
   pub first_given : GivesFirstSlot words wanted.first_slot
-  pub from_given : GivesFrom words wanted.from.address
+  pub from_given : GivesAddress words (codes "--from") wanted.from.address
   pub arfcn_given : GivesArfcn words wanted.from.arfcn
   pub channel_given : GivesChannelType words wanted.from.channel
 
@@ -302,6 +302,17 @@ pub record AsksForTapes (words : List (List ℕ)) (wanted : AllWanted) (file : L
   pub slots_given : GivesTapeSlots words wanted.slots
   pub first_given : GivesFirstSlot words wanted.first_slot
   pub channel_given : GivesChannelType words wanted.channel
+
+-- the words ask for `orders`, with the packets of the lines or without
+pub record AsksForOrders (words : List (List ℕ)) (wanted : OrdersWanted) (packets : Bool) : Type 0 where
+  pub command : slice_get words 1 ≡ Some (codes "orders")
+  pub cell_given : GivesCell words wanted.cell
+  pub controller_given : GivesAddress words (codes "--bsc") wanted.controller
+  pub first_given : GivesFirstSlot words wanted.first_slot
+  pub from_given : GivesAddress words (codes "--from") wanted.from.address
+  pub arfcn_given : GivesArfcn words wanted.from.arfcn
+  pub channel_given : GivesChannelType words wanted.from.channel
+  pub packets_is : packets ≡ is_given words (codes "--packets")
 
 -- which books the words want: of a network book each group, where a word begins with the name `--network`
 abbrev pub GivesBooks : (words : List (List ℕ)) → Books → Type 0

@@ -40,7 +40,8 @@ kind_of front =
 abbrev pub kind_taken : (command : List ℕ) → Option Kind
 kind_taken command =
     if bytes_eq command (codes "page") then None
-    else if bytes_eq command (codes "tape") || bytes_eq command (codes "cells") then Some kind.Capture
+    else if bytes_eq command (codes "tape") || bytes_eq command (codes "cells") || bytes_eq command (codes "orders")
+    then Some kind.Capture
     else if bytes_eq command (codes "read") || bytes_eq command (codes "whole") || bytes_eq command (codes "pcap")
     || bytes_eq command (codes "verify") then Some kind.Tapes
     else Some kind.Book

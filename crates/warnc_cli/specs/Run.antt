@@ -21,13 +21,14 @@ abbrev pub WritesSome : (old new : Option (List ℕ)) → Type 0
 WritesSome old new = (output : List ℕ) × (0 < length output) × Appends old new output
 
 -- something was written, unless the words ask for `compile` or `live`, since a book without cells has no tapes, for
--- `whole`, since no tapes have none, for `plan`, since no rows come to none, or for the report of a group, since that
--- of a later group has no line of the columns' names
+-- `whole`, since no tapes have none, for `plan`, since no rows come to none, for `orders`, since a cell may have got
+-- none, or for the report of a group, since that of a later group has no line of the columns' names
 abbrev pub WritesSomeUnlessTapes : (words : List (List ℕ)) → (old new : Option (List ℕ)) → Type 0
 WritesSomeUnlessTapes words old new = slice_get words 1 ≢ Some (codes "compile")
     → slice_get words 1 ≢ Some (codes "live")
     → slice_get words 1 ≢ Some (codes "whole")
     → slice_get words 1 ≢ Some (codes "plan")
+    → slice_get words 1 ≢ Some (codes "orders")
     → (slice_get words 1 ≡ Some (codes "report") → is_given words (codes "--group") ≡ false)
     → WritesSome old new
 

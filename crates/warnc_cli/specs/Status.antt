@@ -22,6 +22,8 @@ use Rattle.plan.specs.declared.fault.PlanFault.{PlanFault}
 use Rattle.plan.specs.declared.fault.PlanFault.TheVariants as plan
 use Rattle.warnc_air.specs.declared.all.AllTapesFault.{AllTapesFault}
 use Rattle.warnc_air.specs.declared.all.AllTapesFault.TheVariants as all
+use Rattle.warnc_air.specs.declared.orders.OrdersCommandFault.{OrdersCommandFault}
+use Rattle.warnc_air.specs.declared.orders.OrdersCommandFault.TheVariants as orders
 use Rattle.warnc_air.specs.declared.pcap.PcapFault.{PcapFault}
 use Rattle.warnc_air.specs.declared.pcap.PcapFault.TheVariants as pcap
 use Rattle.warnc_air.specs.declared.tape.TapeCommandFault.{TapeCommandFault}
@@ -77,6 +79,15 @@ status_of_tape_fault tape.TooLong = 1
 status_of_tape_fault (tape.Air why) = 1
 status_of_tape_fault tape.Refused = 4
 status_of_tape_fault tape.WriteFailed = 3
+
+abbrev pub status_of_orders_fault : OrdersCommandFault → ℕ
+status_of_orders_fault orders.ReadFailed = 3
+status_of_orders_fault orders.TooLong = 1
+status_of_orders_fault (orders.Air why) = 1
+status_of_orders_fault (orders.NoTime packet) = 1
+status_of_orders_fault (orders.Early packet first_slot) = 1
+status_of_orders_fault orders.Refused = 4
+status_of_orders_fault orders.WriteFailed = 3
 
 -- that of `tape` of all cells
 abbrev pub status_of_tapes_of_all : AllTapesFault → ℕ

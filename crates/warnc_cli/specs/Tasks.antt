@@ -17,6 +17,7 @@ use Rattle.gsmtap.specs.TapeOfCapture.{IsAirFault, IsTapeOfCapture}
 use Rattle.gsmtap.specs.declared.fault.AirFault.{AirFault}
 use Rattle.gsmtap.specs.declared.tape.Wanted.{Wanted}
 use Rattle.handset.specs.Tape.{IsShort, IsLong}
+use Rattle.link_orders.specs.declared.orders.OrdersWanted.{OrdersWanted}
 use Rattle.plan.specs.PlanOutput.{IsPlanOutput, IsPlanRowFault, IsTooLong}
 use Rattle.plan.specs.declared.fault.PlanRowFault.{PlanRowFault}
 use Rattle.short_pages.specs.declared.pages.Pages.{Pages}
@@ -25,10 +26,13 @@ use Rattle.gsmtap.specs.TapesOfCapture.{AreTapesOfCapture, IsTapesFault}
 use Rattle.gsmtap.specs.declared.tapes.TapesFault.{TapesFault}
 use Rattle.warnc_air.specs.AllTapes.{all_wanted}
 use Rattle.warnc_air.specs.CellTable.{IsCellTable, IsTableFault, max_table}
+use Rattle.warnc_air.specs.OrdersOutput.{IsOrdersFault, IsOrdersOutput}
 use Rattle.warnc_air.specs.TapeOutput.{IsCellsOutput, max_capture}
 use Rattle.warnc_air.specs.declared.all.AllWanted.{AllWanted}
 use Rattle.warnc_air.specs.declared.cell_table.CellRow.{CellRow}
 use Rattle.warnc_air.specs.declared.cell_table.TableFault.{TableFault}
+use Rattle.warnc_air.specs.declared.orders.OrdersCommandFault.{OrdersCommandFault}
+use Rattle.warnc_air.specs.declared.orders.PassedOver.{PassedOver}
 use Rattle.warnc_inspect.specs.PageOutput.{IsPageFault, IsPageOutput}
 use Rattle.warnc_inspect.specs.ReadOutput.{IsReadOutput}
 use Rattle.warnc_inspect.specs.WholeOutput.{IsWholeOutput}
@@ -42,7 +46,7 @@ use Rattle.warnc_run.specs.Faults.{StopsRun}
 use Rattle.warnc_run.specs.Groups.{IsGroupCount}
 use Rattle.warnc_run.specs.Network.{AreFirstParts}
 use Rattle.warnc_verify.specs.Verified.{Differs, HasDifferences, HasRun, IsVerified}
-use Rattle.warnc_cli.specs.CommandLine.{AsksForCells, AsksForTapes}
+use Rattle.warnc_cli.specs.CommandLine.{AsksForCells, AsksForOrders, AsksForTapes}
 use Rattle.warnc_cli.specs.CommandLine.{AsksForGroups, AsksForPage, AsksForPcap, AsksForRead, AsksForRun, AsksForTape}
 use Rattle.warnc_cli.specs.CommandLine.{AsksForCheck, AsksForPlan, AsksForRemarks, AsksForTexts, AsksForVerify}
 use Rattle.warnc_cli.specs.CommandLine.{AsksForWhole}
@@ -59,6 +63,7 @@ IsTaskOf words (task.Pcap settings) = AsksForPcap words settings
 IsTaskOf words task.Cells = AsksForCells words
 IsTaskOf words (task.Tape wanted) = AsksForTape words wanted
 IsTaskOf words (task.Tapes wanted file) = AsksForTapes words wanted file.now
+IsTaskOf words (task.Orders wanted packets) = AsksForOrders words wanted packets
 IsTaskOf words task.Groups = AsksForGroups words
 IsTaskOf words task.Check = AsksForCheck words
 IsTaskOf words (task.Remark slots start strict) = AsksForRemarks words slots start strict
@@ -79,6 +84,8 @@ Means (task.Pcap settings) = IsCapture settings
 Means task.Cells = IsCellsOutput
 Means (task.Tape wanted) = IsTapeOfCapture wanted
 Means (task.Tapes wanted file) = λ input output. ⊥
+Means (task.Orders wanted packets) =
+    λ input output. (passed : PassedOver) × IsOrdersOutput wanted packets passed input output
 Means task.Groups = IsGroupCount
 Means task.Check = IsClean
 Means (task.Remark slots start strict) = IsRemarkedFor slots start strict
@@ -118,12 +125,13 @@ IsHeaded (books.One (origin.Group group)) = ⊥
 IsHeaded other = ⊤
 
 -- it writes something: tapes are none of a book without cells, nor whole tapes of no tapes, a plan of no row comes to
--- none, and the report of a later group has no line of the columns' names
+-- none, a cell may have got no orders, and the report of a later group has no line of the columns' names
 abbrev pub AlwaysWrites : Task → Type 0
 AlwaysWrites (task.Make run product.Tapes) = ⊥
 AlwaysWrites (task.Make run (product.Report layout)) = IsHeaded run.books
 AlwaysWrites task.Whole = ⊥
 AlwaysWrites task.Plan = ⊥
+AlwaysWrites (task.Orders wanted packets) = ⊥
 AlwaysWrites other = ⊤
 
 -- What is refused with status 1.
@@ -139,6 +147,10 @@ IsNoTapes input = IsShort input ⊎ IsLong input
 -- the input is refused: it is too long for a capture, or no capture file that has a tape
 abbrev pub IsNoAir : Wanted → (input : List ℕ) → Type 0
 IsNoAir wanted input = (max_capture < length input) ⊎ ((why : AirFault) × IsAirFault wanted input why)
+
+-- the input is refused: it is too long for a capture, or no capture file that has a table of the orders
+abbrev pub IsNoOrders : OrdersWanted → (input : List ℕ) → Type 0
+IsNoOrders wanted input = (max_capture < length input) ⊎ ((why : OrdersCommandFault) × IsOrdersFault wanted input why)
 
 -- the input is refused: it is too long for a capture, or no capture file
 abbrev pub IsNoHeard : (input : List ℕ) → Type 0
@@ -228,6 +240,7 @@ RefusesOne (task.Pcap settings) = IsNoTapes
 RefusesOne task.Cells = IsNoHeard
 RefusesOne (task.Tape wanted) = IsNoAir wanted
 RefusesOne (task.Tapes wanted file) = λ input. ⊥
+RefusesOne (task.Orders wanted packets) = IsNoOrders wanted
 RefusesOne task.Groups = IsNoNetwork 0
 RefusesOne task.Check = IsNotClean
 RefusesOne (task.Remark slots start strict) = IsRemarkable slots start strict

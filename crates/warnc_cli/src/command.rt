@@ -4,9 +4,9 @@ ghost use Rattle.std.specs.Prelude.{◌≡◌, ◌<◌, ◌∷◌, ◌++◌, ◌
 ghost use Rattle.std.specs.Prelude.{slice_get};
 ghost use Rattle.warnc_cli.specs.CommandLine.{asks_for_text, begins_with, is_given, is_text_word, GivesNumber};
 ghost use Rattle.warnc_cli.specs.CommandLine.{GivesChannel, GivesChannelType, GivesSlots, GivesThreads, GivesValue};
-ghost use Rattle.warnc_cli.specs.CommandLine.{GivesArfcn, GivesCell, GivesEdge, GivesFile, GivesFirstSlot, GivesFrom};
-ghost use Rattle.warnc_cli.specs.CommandLine.{GivesLanguage, GivesPart, GivesSlotStart, GivesView, GivesWanted};
-ghost use Rattle.warnc_cli.specs.CommandLine.{IsAddress, IsCell};
+ghost use Rattle.warnc_cli.specs.CommandLine.{GivesAddress, GivesArfcn, GivesCell, GivesEdge, GivesFile};
+ghost use Rattle.warnc_cli.specs.CommandLine.{GivesFirstSlot, GivesLanguage, GivesPart, GivesSlotStart, GivesView};
+ghost use Rattle.warnc_cli.specs.CommandLine.{GivesWanted, IsAddress, IsCell};
 ghost use Rattle.warnc_cli.specs.CommandLine.{columns_given, slots_given, GivesBooks, GivesOrigin, GivesPages};
 ghost use Rattle.warnc_cli.specs.CommandLine.{detail_given, pages_given, GivesProduct, GivesTapeSlots, IsNumber};
 ghost use Rattle.warnc_cli.specs.CommandLine.{GivesTableLayout};
@@ -20,6 +20,7 @@ use chart::{Language, Part, View};
 use clap::builder::ValueParser;
 use clap::{Arg, ArgAction, Command, Error, value_parser};
 use gsmtap::{Channel, ChannelType, Sender, Settings, Slots, Wanted};
+use link_orders::OrdersWanted;
 use parallel_compile::MAX_WORKERS;
 use report::{Columns, Layout};
 use short_pages::Pages;
@@ -30,7 +31,7 @@ use warnc_air::all::AllWanted;
 use warnc_run::{Books, Product, Run, Sessions, Workers};
 
 /// The version of the program, and on a line of its own what `rt version` says of the toolchain that proved it.
-const VERSION: &str = "1.14.0\nrattle-kit-13f logic dac8208d650f15bf";
+const VERSION: &str = "1.15.0\nrattle-kit-13f logic dac8208d650f15bf";
 
 /// The words for the channel that packets name.
 const CHANNEL_TYPES: &[&str] = &["cbch", "sdcch"];
@@ -66,6 +67,13 @@ pub enum Task<'a> {
         wanted: AllWanted,
         /// The name of the table's file.
         file: &'a str,
+    },
+    /// `orders`.
+    Orders {
+        /// Whose orders are wanted, and by which clock.
+        wanted: OrdersWanted,
+        /// Whether each line begins with a packet and its time.
+        packets: bool,
     },
     /// `groups`.
     Groups,
@@ -142,6 +150,7 @@ fn task_in<'a, S: AsStr>(words: &'a [S]) -> Option<Task<'a>>
         })),
         "cells" => Some(Task::Cells),
         "tape" => tape_in(words),
+        "orders" => orders_in(words),
         "groups" => Some(Task::Groups),
         "check" => check_in(words),
         "plan" => Some(Task::Plan),
@@ -201,7 +210,7 @@ fn tape_in<'a, S: AsStr>(words: &'a [S]) -> Option<Task<'a>>
         slots: tape_slots_in(words)?,
         first_slot: first_slot_in(words)?,
         from: Sender {
-            address: from_in(words)?,
+            address: address_in(words, "--from")?,
             arfcn: arfcn_in(words)?,
             channel: channel_type_in(words)?,
         },
@@ -222,6 +231,30 @@ fn tapes_in<'a, S: AsStr>(words: &'a [S]) -> Option<Task<'a>>
             channel: channel_type_in(words)?,
         },
         file: value_of(words, "--cells")?,
+    })
+}
+
+/// The `orders` that the words ask for.
+fn orders_in<'a, S: AsStr>(words: &'a [S]) -> Option<Task<'a>>
+    requires { slice_get (map S.text words.now) 1 ≡ Some (codes "orders") }
+    ensures { IfSome result (IsTaskOf (map S.text words.now)) }
+{
+    let cell = cell_in(words)?;
+    let controller = address_in(words, "--bsc")?;
+    let first_slot = first_slot_in(words)?;
+    let from = Sender {
+        address: address_in(words, "--from")?,
+        arfcn: arfcn_in(words)?,
+        channel: channel_type_in(words)?,
+    };
+    Some(Task::Orders {
+        wanted: OrdersWanted {
+            cell,
+            controller,
+            first_slot,
+            from,
+        },
+        packets: is_given(words, "--packets"),
     })
 }
 
@@ -488,15 +521,16 @@ fn channel_type_in<S: AsStr>(words: &[S]) -> Option<ChannelType>
     }
 }
 
-/// The address that the words give, if they give one.
-fn from_in<S: AsStr>(words: &[S]) -> Option<Option<u32>>
-    ensures { IfSome result (GivesFrom (map S.text words.now)) }
+/// The address that the words give the option of this name, if they give one.
+fn address_in<S: AsStr>(words: &[S], name: &str) -> Option<Option<u32>>
+    ensures { IfSome result (GivesAddress (map S.text words.now) name.now) }
 {
-    if !is_given(words, "--from") {
-        return Some(None);
+    if is_given(words, name) {
+        let address = address_of(value_of(words, name)?)?;
+        Some(Some(address))
+    } else {
+        Some(None)
     }
-    let address = address_of(value_of(words, "--from")?)?;
-    Some(Some(address))
 }
 
 /// The IPv4 address that a text writes.
@@ -700,6 +734,7 @@ fn warnc<'a>(alloc: Global) -> Result<Command<'a>, AllocError> {
         .subcommand(pcap(alloc)?)?
         .subcommand(cells(alloc))?
         .subcommand(tape(alloc)?)?
+        .subcommand(orders(alloc)?)?
         .subcommand(whole(alloc))?
         .subcommand(groups(alloc))
 }
@@ -872,6 +907,22 @@ fn tape<'a>(alloc: Global) -> Result<Command<'a>, AllocError> {
         .arg(from(alloc))?
         .arg(arfcn(alloc))?
         .arg(channel_type(alloc))
+}
+
+/// The command line of `orders`.
+fn orders<'a>(alloc: Global) -> Result<Command<'a>, AllocError> {
+    Command::new(alloc, "orders")
+        .about(
+            "Reads a capture file of the link between a cell broadcast centre and\na base station controller, and writes what one cell was ordered, as\nCSV",
+        )
+        .after_help("Example: warnc orders --cell 1-1 < link.pcap > orders.csv")
+        .arg(ordered_cell(alloc))?
+        .arg(controller(alloc))?
+        .arg(ordered_first_slot(alloc))?
+        .arg(from(alloc))?
+        .arg(arfcn(alloc))?
+        .arg(channel_type(alloc))?
+        .arg(packets(alloc))
 }
 
 /// The command line of `whole`.
@@ -1195,6 +1246,46 @@ fn first_slot<'a>(alloc: Global) -> Arg<'a> {
         "The slot of the tape in which the first block stands,\n0 to 65535; 0 if it isn't given",
     )
     .value_parser(value_parser!(u16))
+}
+
+/// The option of the cell whose orders are wanted.
+fn ordered_cell<'a>(alloc: Global) -> Arg<'a> {
+    option(
+        alloc,
+        "cell",
+        "LAC-CI",
+        "The cell whose orders are wanted, as 1-2: its\nlocation area code and its cell identity, 0 to 65535\neach",
+    )
+}
+
+/// The option of the controller's address.
+fn controller<'a>(alloc: Global) -> Arg<'a> {
+    optional(
+        alloc,
+        "bsc",
+        "IPV4",
+        "Takes the messages of the controller of this IPv4\naddress alone, as 127.0.0.1; all if it isn't given",
+    )
+}
+
+/// The option of the slot in which the first block of the air stands.
+fn ordered_first_slot<'a>(alloc: Global) -> Arg<'a> {
+    optional(
+        alloc,
+        "first-slot",
+        "SLOT",
+        "The slot in which the first block stands, or the\nfirst message to the cell if there is no block, 0 to\n65535; 0 if it isn't given",
+    )
+    .value_parser(value_parser!(u16))
+}
+
+/// The option of packets and their times.
+fn packets<'a>(alloc: Global) -> Arg<'a> {
+    flag(
+        alloc,
+        "packets",
+        "Begins each line with the number of the packet of the\nanswer, or of the order if none came, and with the\ntime at which it came, in seconds from 1970 on",
+    )
 }
 
 /// The option of the address that packets come from.

@@ -72,7 +72,7 @@ fn kind_taken(command: &str) -> Option<Kind>
 {
     match command {
         "page" => None,
-        "tape" | "cells" => Some(Kind::Capture),
+        "tape" | "cells" | "orders" => Some(Kind::Capture),
         "read" | "whole" | "pcap" | "verify" => Some(Kind::Tapes),
         _ => Some(Kind::Book),
     }

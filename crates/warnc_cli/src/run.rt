@@ -30,6 +30,7 @@ use clap::Error;
 use clap::error::ErrorKind;
 use device_ends::{Sink, Source, write_all};
 use gsmtap::{Settings, Wanted};
+use link_orders::OrdersWanted;
 use order_desk::Open;
 use plan::plan_stream;
 use short_pages::Pages;
@@ -42,6 +43,7 @@ use std::thread::Threads;
 use verification::TableLayout;
 use warnc_air::all::{AllWanted, all_tapes_stream};
 use warnc_air::cells::cells_stream;
+use warnc_air::orders::{PassedOver, orders_stream};
 use warnc_air::pcap::pcap_stream;
 use warnc_air::tape::tape_stream;
 use warnc_inspect::page::page_stream;
@@ -125,11 +127,11 @@ fn run_noted<
 }
 
 /// The same, between the ends. With status 0 what the words ask for is written. That is one octet at least, but for
-/// `compile` and `live`, since a book without cells has no tapes, for `whole` and `plan`, and for the report of a
-/// group. With 2 and 4 nothing is written. With 1 `verify` has written the differences, or nothing where there is no
-/// run or no tape to judge; `check` has written the faults or the remarks, or nothing of a book that is too long or has
-/// no run; other commands have written nothing. Of a network whose run ends early the first groups are written with 1
-/// and with 4.
+/// `compile` and `live`, since a book without cells has no tapes, for `whole`, `plan` and `orders`, and for the report
+/// of a group. With 2 and 4 nothing is written. With 1 `verify` has written the differences, or nothing where there is
+/// no run or no tape to judge; `check` has written the faults or the remarks, or nothing of a book that is too long or
+/// has no run; other commands have written nothing. Of a network whose run ends early the first groups are written
+/// with 1 and with 4.
 pub fn run_between<
     T: AllocGlobal + Threads + Wait + Sync,
     S: AsStr,
@@ -176,17 +178,19 @@ pub fn run_between<
     }
 }
 
-/// Whether the words ask for a chart.
-fn is_chart<S: AsStr>(words: &[S]) -> bool {
-    words.get(1).map(|word| word.as_str()) == Some("chart")
+/// Whether the words ask for this command.
+fn asks_for<S: AsStr>(words: &[S], command: &str) -> bool {
+    words.get(1).map(|word| word.as_str()) == Some(command)
 }
 
 /// What is wrong with words that the parser takes and that are no task: the cell, the address, the part or the time.
 fn wrong_value<S: AsStr>(words: &[S]) -> &'static str {
     if is_given(words, "--start") {
         "no such time: --start is as 2026-11-28T20:00:00Z, from 1970 to 2105"
-    } else if is_chart(words) && (is_given(words, "--from") || is_given(words, "--to")) {
+    } else if asks_for(words, "chart") && (is_given(words, "--from") || is_given(words, "--to")) {
         "no such cell or part: --cell is as 1-2, --from is before --to, --to at most --slots"
+    } else if asks_for(words, "orders") && (is_given(words, "--from") || is_given(words, "--bsc")) {
+        "no such cell or address: --cell is as 1-2, --from and --bsc as 127.0.0.1"
     } else if is_given(words, "--from") {
         "no such cell or address: --cell is as 1-2, --from as 127.0.0.1"
     } else {
@@ -220,6 +224,9 @@ fn run_task<T: AllocGlobal + Threads + Wait + Sync, B: Read, R: Read, W: Write, 
         Task::Tape(wanted) => run_tape(alloc, wanted, source, sink, faults),
         Task::Tapes { wanted, file } => {
             run_all_tapes(alloc, wanted, file, book, source, sink, faults)
+        }
+        Task::Orders { wanted, packets } => {
+            run_orders(alloc, wanted, packets, source, sink, faults)
         }
         Task::Groups => run_groups(rt, source, sink, faults),
         Task::Check => run_check(alloc, source, sink, faults),
@@ -383,6 +390,50 @@ fn run_all_tapes<B: Read, R: Read, W: Write, F: Write>(
         Ok(()) => DONE,
         Err(fault) => failed_with_table(&fault, file, faults),
     }
+}
+
+/// Runs `orders`, and returns the status.
+fn run_orders<R: Read, W: Write, F: Write>(
+    alloc: Global,
+    wanted: OrdersWanted,
+    packets: bool,
+    source: &mut Source<R>,
+    sink: &mut Sink<W>,
+    faults: &mut F,
+) -> u8
+    ensures done { IsDoneBy (Task.Orders wanted packets) result R.remaining W.contents source.old sink.old sink.new }
+    ensures wrote { WroteSomeBy (Task.Orders wanted packets) result W.contents sink.old sink.new }
+    ensures refused { IsRefusedBy (Task.Orders wanted packets) result R.remaining source.old }
+    ensures front { WroteFrontBy (Task.Orders wanted packets) result R.remaining W.contents source.old sink.old
+        sink.new }
+    ensures ends { IsRunBetween (Task.Orders wanted packets) result W.contents source.new sink.old sink.new }
+{
+    let mut passed = PassedOver {
+        unread: 0,
+        emergencies: 0,
+    };
+    match orders_stream(alloc, source, sink, &wanted, packets, &mut passed) {
+        Ok(()) => {
+            tell_passed(passed, faults);
+            DONE
+        }
+        Err(fault) => failed(&fault, faults),
+    }
+}
+
+/// Says how many messages aren't in the table, if there are any. What `faults` doesn't take changes nothing.
+fn tell_passed<F: Write>(passed: PassedOver, faults: &mut F) {
+    let PassedOver {
+        unread,
+        emergencies,
+    } = passed;
+    if unread == 0 && emergencies == 0 {
+        return;
+    }
+    let _ = writeln!(
+        faults,
+        "warnc: not in the table: {unread} messages that can't be read, {emergencies} emergency messages"
+    );
 }
 
 /// Runs `groups`, and returns the status.

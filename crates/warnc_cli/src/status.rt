@@ -2,7 +2,7 @@
 
 ghost use Rattle.std.specs.Prelude.{◌≡◌, ℕ};
 ghost use Rattle.warnc_cli.specs.Status.{status_of_book_fault, status_of_check_fault, status_of_page_fault};
-ghost use Rattle.warnc_cli.specs.Status.{status_of_pcap_fault, status_of_plan_fault};
+ghost use Rattle.warnc_cli.specs.Status.{status_of_orders_fault, status_of_pcap_fault, status_of_plan_fault};
 ghost use Rattle.warnc_cli.specs.Status.{status_of_product_fault, status_of_read_fault, status_of_remark_fault};
 ghost use Rattle.warnc_cli.specs.Status.{status_of_run_fault};
 ghost use Rattle.warnc_cli.specs.Status.{status_of_tape_fault, status_of_tapes_fault, status_of_texts_fault};
@@ -20,6 +20,7 @@ use plan::PlanFault;
 use std::fmt::Display;
 use std::io::Write;
 use warnc_air::all::AllTapesFault;
+use warnc_air::orders::OrdersCommandFault;
 use warnc_air::pcap::PcapFault;
 use warnc_air::tape::TapeCommandFault;
 use warnc_inspect::page::PageFault;
@@ -148,6 +149,19 @@ impl Fault for TapeCommandFault {
             TapeCommandFault::TooLong | TapeCommandFault::Air(_) => REFUSED_INPUT,
             TapeCommandFault::ReadFailed | TapeCommandFault::WriteFailed => DEVICE,
             TapeCommandFault::Refused => MEMORY,
+        }
+    }
+}
+
+impl Fault for OrdersCommandFault {
+    ghost status_of = { status_of_orders_fault };
+
+    fn status(&self) -> u8 {
+        match *self {
+            OrdersCommandFault::TooLong | OrdersCommandFault::Air(_) => REFUSED_INPUT,
+            OrdersCommandFault::NoTime(_) | OrdersCommandFault::Early { .. } => REFUSED_INPUT,
+            OrdersCommandFault::ReadFailed | OrdersCommandFault::WriteFailed => DEVICE,
+            OrdersCommandFault::Refused => MEMORY,
         }
     }
 }

@@ -19,6 +19,8 @@ mod malformed_table;
 #[cfg(test)]
 mod mistaken;
 #[cfg(test)]
+mod orders;
+#[cfg(test)]
 mod page;
 #[cfg(test)]
 mod read;

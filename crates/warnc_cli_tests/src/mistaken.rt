@@ -13,6 +13,8 @@ args cells
 fails -> 1 warnc: not a capture file (the input looks like tapes: warnc read shows them)
 args tape --cell 1-1
 fails -> 1 warnc: not a capture file (the input looks like tapes: warnc read shows them)
+args orders --cell 1-1
+fails -> 1 warnc: not a capture file (the input looks like tapes: warnc read shows them)
 # eight octets don't look like one yet; and a run that only needs a few of them
 fronts 0 8 -> 1 warnc: not a capture file
 fronts 9 23 -> 1 warnc: not a capture file (the input looks like tapes: warnc read shows them)
@@ -105,6 +107,8 @@ args cells
 fails -> 1 warnc: not a capture file (the input looks like a book: warnc compile makes tapes of it)
 args tape --cell 1-1
 fails -> 1 warnc: not a capture file (the input looks like a book: warnc compile makes tapes of it)
+args orders --cell 1-1
+fails -> 1 warnc: not a capture file (the input looks like a book: warnc compile makes tapes of it)
 fronts 0 4 -> 1 warnc: not a capture file
 args verify --slots 1 --book book.csv
 book cell,1,1
@@ -116,7 +120,7 @@ fails -> 1 warnc: row 1: verb
 
 #[test]
 fn tapes_are_named_where_they_are_not_taken(rt: HostRuntime) -> Result<(), Fail> {
-    expect_rows(&rt, TAPES, 41)
+    expect_rows(&rt, TAPES, 43)
 }
 
 #[test]
@@ -126,5 +130,5 @@ fn captures_are_named_where_they_are_not_taken(rt: HostRuntime) -> Result<(), Fa
 
 #[test]
 fn books_are_named_where_they_are_not_taken(rt: HostRuntime) -> Result<(), Fail> {
-    expect_rows(&rt, BOOKS, 17)
+    expect_rows(&rt, BOOKS, 19)
 }
