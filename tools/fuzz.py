@@ -1222,7 +1222,7 @@ def joined(tapes):
 def some_capture(chance, seeds):
     kind = chance.random()
     if kind < 0.3:
-        return link_captures.random_capture(chance).octets
+        return link_captures.random_capture(chance).file
     if kind < 0.6:
         slots = chance.choice((1, 2, 7, 40, 300))
         return capture_reference.random_file(chance, capture_reference.random_tape(chance, slots))
