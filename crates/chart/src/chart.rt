@@ -255,11 +255,7 @@ fn push_begin(page: &mut Page, wording: Wording, start: Start) -> Result<(), All
 }
 
 /// Appends that, if the page has the time of day.
-fn push_begin_if(
-    page: &mut Page,
-    wording: Wording,
-    start: Option<Start>,
-) -> Result<(), AllocError>
+fn push_begin_if(page: &mut Page, wording: Wording, start: Option<Start>) -> Result<(), AllocError>
     ensures { OnOk result (page.new ≡ page.old ++ begin_if wording start) }
 {
     match start {

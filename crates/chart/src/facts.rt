@@ -114,11 +114,7 @@ pub(crate) fn push_fullest(
 
 /// Appends what counts of a cell.
 #[tactic(auto, unfolding(crate::specs::Facts::facts_text))]
-pub(crate) fn push_facts(
-    page: &mut Page,
-    wording: Wording,
-    facts: Facts,
-) -> Result<(), AllocError>
+pub(crate) fn push_facts(page: &mut Page, wording: Wording, facts: Facts) -> Result<(), AllocError>
     requires { facts.most ≤ SCALE }
     ensures { OnOk result (page.new ≡ page.old ++ facts_text wording facts) }
 {

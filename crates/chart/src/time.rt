@@ -105,11 +105,7 @@ fn seconds_at(start: Option<Start>, slot: u32) -> u64
 
 /// Appends when a slot begins.
 #[tactic(auto, unfolding(crate::specs::Time::time_text))]
-pub(crate) fn push_time(
-    page: &mut Page,
-    start: Option<Start>,
-    slot: u32,
-) -> Result<(), AllocError>
+pub(crate) fn push_time(page: &mut Page, start: Option<Start>, slot: u32) -> Result<(), AllocError>
     ensures { OnOk result (page.new ≡ page.old ++ time_text start slot) }
 {
     push_clock(page, start, seconds_at(start, slot))
@@ -131,11 +127,7 @@ pub(crate) fn push_time_in_brackets(
 
 /// Appends a slot and its time.
 #[tactic(auto, unfolding(crate::specs::Time::slot_text))]
-pub(crate) fn push_slot(
-    page: &mut Page,
-    start: Option<Start>,
-    slot: u32,
-) -> Result<(), AllocError>
+pub(crate) fn push_slot(page: &mut Page, start: Option<Start>, slot: u32) -> Result<(), AllocError>
     ensures { OnOk result (page.new ≡ page.old ++ slot_text start slot) }
 {
     page.number(u64::from(slot))?;
