@@ -13,11 +13,13 @@ heading has. In the chart of a network each group has to hold its own cells. Chr
 page: it has to find the same bars, and no element that the program didn't write, whatever the texts say; and at three
 widths nothing may be wider than the window. The chart of a part of the run, by `--from` and `--to`, has to have the
 bars, marks and loads of the run that are in it, which are put together of parts so short that they have all marks. A
-message has marks, or their number, by the rule of docs/formats.md. The page in German has to have the same elements and
+message has marks, or their number, by the rule of docs/formats.md. A third of the charts has the times of the day, by
+`--start`, and ticks at round ones of these. The page in German has to have the same elements and
 numbers, the German words that the page for browsers has, and none of the English ones. What titles say that identifiers
 mean has to be what Wireshark says, where it is installed.
 """
 import csv
+import datetime
 import fractions
 import functools
 import html.parser
@@ -35,6 +37,9 @@ from books import GROUP, Alert, Sending, cell_line, random_orders
 
 # how long a slot lasts in seconds: 8 multiframes of 51 frames of 120/26 ms
 SLOT = fractions.Fraction(8 * 51 * 120, 26 * 1000)
+# the seconds of a day, and those from 1970 to 2106, in which a run may begin
+DAY, END = 86_400, 4_291_747_200
+MICROSECOND = datetime.timedelta(microseconds=1)
 # the round times in seconds at whose multiples an axis may have ticks
 STEPS = (10, 30, 60, 120, 300, 600, 1800, 3600, 7200, 14400, 21600)
 # the height of a full cell in the picture of the loads
@@ -195,24 +200,42 @@ def clock_of(seconds):
     return f"{seconds // 3600}:{seconds // 60 % 60:02}:{seconds % 60:02}"
 
 
-def seconds_at(slot):
-    """Returns when a slot begins, in whole seconds."""
-    return int(slot * SLOT)
+class Clock:
+    """The times of a chart: those since the run began, or those of the day, if it is known when it begins."""
 
+    def __init__(self, start=None):
+        self.start = start
+        midnight = start and start.replace(hour=0, minute=0, second=0, microsecond=0)
+        self.begun = fractions.Fraction((start - midnight) // MICROSECOND, 1_000_000) if start else fractions.Fraction(0)
 
-def time_of(slot):
-    return clock_of(seconds_at(slot))
+    def words(self):
+        """Returns the words of the command line."""
+        return ["--start", self.start.strftime("%Y-%m-%dT%H:%M:%S.%fZ")] if self.start else []
 
+    def sentence(self):
+        """Returns what the page says of the begin, which is cut to the millisecond."""
+        text = self.start and self.start.strftime("%Y-%m-%dT%H:%M:%S.%f")[:-3]
+        return f" Slot 0 begins at {text}Z; times are of the day, in UTC." if self.start else ""
 
-def ticks_of(slots):
-    """Returns the ticks of the axis of a run: where each stands, and the slot that is sent there, and the time."""
-    step = next(it for it in STEPS if seconds_at(slots) < 6 * it)
-    ticks = []
-    for seconds in range(0, seconds_at(slots) + 1, step):
-        place = int(100 * seconds / SLOT)
-        where = f"--at:calc(100%*{place // 100}.{place % 100:02}/{slots})"
-        ticks.append([where, f"{place // 100}{clock_of(seconds)}"])
-    return ticks
+    def seconds_at(self, slot):
+        """Returns when a slot begins, in whole seconds."""
+        return int(self.begun + slot * SLOT)
+
+    def text(self, seconds):
+        return clock_of(seconds % DAY).rjust(8, "0") if self.start else clock_of(seconds)
+
+    def time_of(self, slot):
+        return self.text(self.seconds_at(slot))
+
+    def ticks_of(self, slots):
+        """Returns the ticks of the axis of a run: where each stands, and the slot that is sent there, and the time."""
+        step = next(it for it in STEPS if self.seconds_at(slots) - self.seconds_at(0) < 6 * it)
+        ticks = []
+        for seconds in range(-(-self.begun // step) * step, self.seconds_at(slots) + 1, step):
+            place = int(100 * (seconds - self.begun) / SLOT)
+            where = f"--at:calc(100%*{place // 100}.{place % 100:02}/{slots})"
+            ticks.append([where, f"{place // 100}{self.text(seconds)}"])
+        return ticks
 
 
 @functools.cache
@@ -252,8 +275,8 @@ def wrong_meanings():
             yield f"identifier {number} means {meanings().get(number)}, but by Wireshark {table.get(number)}"
 
 
-def title_of(row):
-    """Returns the title of a row's picture."""
+def title_of(row, time_of):
+    """Returns the title of a row's picture, where this gives the time of a slot."""
     meaning = meanings().get(int(row["id"]))
     name = f"{row['id']} {row['serial']}" + (f" ({meaning})" if meaning else "")
     start, end = int(row["start"]), int(row["end"])
@@ -286,7 +309,7 @@ def has_marks(period, whole, slots):
     return whole <= MOST_MARKS and LEAST_GAP * slots <= period * PAGE_WIDTH
 
 
-def expected(rows, shown, asked, slots):
+def expected(rows, shown, asked, slots, time_of):
     """Returns by cell what the lines of its rows have to be: a title, and a bar, its marks or their number, and its
     text, or a refusal; and the name of the alert."""
     cells = {}
@@ -295,7 +318,7 @@ def expected(rows, shown, asked, slots):
         start, end = int(row["start"]), int(row["end"])
         name = row["id"], row["serial"]
         text = shown.get((row["lac"], row["ci"], *name)) if row["shown"] == "yes" else asked.get(name)
-        title = title_of(row)
+        title = title_of(row, time_of)
         if row["shown"].startswith("refused"):
             line = (title, "refusal", start, f"refused: {row['cause']} ({row['shown'][-2:]})", row["name"])
         else:
@@ -355,7 +378,7 @@ def fullest_of(line):
     return (-(-most * 100 // FULL), -slot) if most else (0, 0)
 
 
-def wrong_facts(page):
+def wrong_facts(page, time_of):
     """Yields what is wrong with the headings and the overview."""
     if len(page.cells) != len({(it["group"], it["contents"]) for it in page.cells}):
         yield "two sections have the same contents"
@@ -407,12 +430,12 @@ def wrong_loads(page, slots):
             yield f"{cell['name']}: {line} leaves the picture"
 
 
-def wrong_axes(page, slots):
+def wrong_axes(page, slots, clock):
     """Yields where the axis of a section isn't that of a run of so many slots."""
     for cell in page.cells:
         ticks = cell["lines"][-1].get("ticks")
-        if ticks != ticks_of(slots):
-            yield f"{cell['name']} has the ticks {ticks}, a run of {slots} slots {ticks_of(slots)}"
+        if ticks != clock.ticks_of(slots):
+            yield f"{cell['name']} has the ticks {ticks}, a run of {slots} slots {clock.ticks_of(slots)}"
 
 
 def dom_of(browser, path, *more):
@@ -435,16 +458,17 @@ def groups_of(book):
     return [(f"Group {first // GROUP}", sorted(names[first:first + GROUP])) for first in range(0, len(names), GROUP)]
 
 
-def differences(program, browser, book, options, slots=SLOTS_BY_HAND):
+def differences(program, browser, book, options, slots, clock):
     """Yields in what the chart of a book, or of a network book, differs from its report."""
     given, groups, length = book.encode(), groups_of(book) if "--network" in options else [], ["--slots", str(slots)]
     rows = rows_of(program, ["report", "--full", *options, *length], given)
     shown = {}
     for each in [["--group", str(it)] for it in range(len(groups))] or [options]:
         shown.update(shown_of(program, given, [*each, *length]))
-    chart = run(program, ["chart", *options, *length], given)
-    wanted = expected(rows, shown, texts_asked(book), slots)
-    yield from wrong_german(chart.decode(), run(program, ["chart", "--lang", "de", *options, *length], given).decode())
+    words = ["chart", *options, *length, *clock.words()]
+    chart = run(program, words, given)
+    wanted = expected(rows, shown, texts_asked(book), slots, clock.time_of)
+    yield from wrong_german(chart.decode(), run(program, [*words, "--lang", "de"], given).decode())
     pages = [("the chart", Page(chart.decode()))]
     if browser:
         with tempfile.TemporaryDirectory() as folder:
@@ -453,8 +477,9 @@ def differences(program, browser, book, options, slots=SLOTS_BY_HAND):
                 file.write(chart)
             pages.append(("the browser", Page(dom_of(browser, path))))
             yield from too_wide(browser, path)
-    if f"<p>A run of {slots} slots of 1.883 s, {time_of(slots)} (h:mm:ss).</p>" not in chart.decode():
-        yield f"the chart doesn't say that {slots} slots are {time_of(slots)}"
+    lasting = Clock().time_of(slots)
+    if f"<p>A run of {slots} slots of 1.883 s, {lasting} (h:mm:ss).{clock.sentence()}</p>" not in chart.decode():
+        yield f"the chart doesn't say that {slots} slots are {lasting}, or when it begins"
     for name, page in pages:
         if found(page) != wanted:
             yield f"{name} has {found(page)}, the report {wanted}"
@@ -465,8 +490,8 @@ def differences(program, browser, book, options, slots=SLOTS_BY_HAND):
         if page.title != "Warnings by cell":
             yield f"{name} has the title {page.title}"
         yield from wrong_loads(page, slots)
-        yield from wrong_axes(page, slots)
-        yield from wrong_facts(page)
+        yield from wrong_axes(page, slots, clock)
+        yield from wrong_facts(page, clock.time_of)
 
 
 def heights_of(line, last):
@@ -598,6 +623,13 @@ def wrong_part(program, book, chance, slots=SLOTS_BY_HAND):
             yield f"slots {first} to {last}: {name} has the loads {drawn_loads['load']}, the whole run {loads['load']}"
 
 
+def random_clock(chance):
+    """Returns a clock of a run that begins at any time, or shortly before midnight."""
+    seconds = chance.choice((chance.randrange(END), chance.randrange(1, END // DAY) * DAY - chance.randrange(1, 1000)))
+    return Clock(datetime.datetime(1970, 1, 1) + seconds * 1_000_000 * MICROSECOND
+                 + chance.choice((0, chance.randrange(1_000_000))) * MICROSECOND)
+
+
 def book_by_hand():
     """Returns the book of which docs/ has a picture."""
     with open(os.path.join(TOP, "examples", "picture.csv"), encoding="utf-8") as it:
@@ -632,7 +664,8 @@ def main(words):
     books[5:5] = [(random_book(chance, 4 * GROUP), ["--network"]) for _ in range(-(-count // 10))]
     wrong = [it for number, (book, options) in enumerate(books)
              for it in differences(program, browser if number < BROWSED else None, book, options,
-                                   SLOTS_LONG if number % 4 == 3 else SLOTS_BY_HAND)]
+                                   SLOTS_LONG if number % 4 == 3 else SLOTS_BY_HAND,
+                                   random_clock(chance) if number % 3 == 2 else Clock())]
     wrong += wrong_meanings()
     wrong += [it for book, options in books if not options for it in wrong_part(program, book, chance)]
     wrong += [it for book, options in books[::4] if not options for it in wrong_part(program, book, chance, SLOTS_LONG)]

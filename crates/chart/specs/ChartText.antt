@@ -20,7 +20,7 @@ use Rattle.chart.specs.declared.line.TheConstants as lines
 use Rattle.chart.specs.declared.load.TheConstants as loads
 use Rattle.chart.specs.declared.facts.Facts.{Facts}
 use Rattle.chart.specs.declared.panel.Panel.{Panel}
-use Rattle.chart.specs.declared.word.Language.{Language}
+use Rattle.chart.specs.declared.word.Wording.{Wording}
 use Rattle.chart.specs.declared.word.Word.{Word}
 use Rattle.chart.specs.declared.word.Word.TheVariants as words
 use Rattle.chart.specs.Causes.{cause_text}
@@ -30,7 +30,9 @@ use Rattle.chart.specs.Identifier.{meaning_text}
 use Rattle.chart.specs.Load.{load_line, loads_in}
 use Rattle.chart.specs.Panels.{sections_text}
 use Rattle.chart.specs.Time.{axis, slot_text, time_in_brackets, time_text}
-use Rattle.chart.specs.Words.{word_in}
+use Rattle.slot_times.specs.SlotTime.{slot_time}
+use Rattle.slot_times.specs.declared.start.Start.{Start}
+use Rattle.chart.specs.Words.{word_by}
 use Rattle.chart.specs.View.{bar_from, bar_width, is_drawn, stretch_of, width_of}
 use Rattle.chart.specs.declared.view.Part.{Part}
 use Rattle.chart.specs.declared.view.Stretch.{Stretch}
@@ -52,34 +54,34 @@ line_front orders row =
 unfoldable pub picture_size : Stretch → List ℕ
 picture_size s = lines.PICTURE.now ++ decimal s.from ++ lines.ORIGIN.now ++ decimal (width_of s)
 
-unfoldable pub picture_front : Language → Stretch → Row → List ℕ
-picture_front l s row = picture_size s ++ lines.TITLE.now ++ name_text row ++ meaning_text l row.id
+unfoldable pub picture_front : Wording → Stretch → Row → List ℕ
+picture_front w s row = picture_size s ++ lines.TITLE.now ++ name_text row ++ meaning_text w.language row.id
 
 -- a period in slots
-unfoldable pub slots_text : Language → (period : ℕ) → List ℕ
-slots_text l period = word_in l words.Every ++ decimal period
+unfoldable pub slots_text : Wording → (period : ℕ) → List ℕ
+slots_text w period = word_by w words.Every ++ decimal period
 
-abbrev pub every_text : Language → (period : ℕ) → List ℕ
-every_text l period = if period == 1 then word_in l words.EverySlot else slots_text l period
+abbrev pub every_text : Wording → (period : ℕ) → List ℕ
+every_text w period = if period == 1 then word_by w words.EverySlot else slots_text w period
 
 -- from when to when an accepted message stood, and how often it was to be sent
-unfoldable pub standing_text : Language → Row → List ℕ
-standing_text l row =
-    word_in l words.From ++ slot_text row.start ++ word_in l words.To ++ slot_text row.end
-    ++ every_text l (period_of row.demand)
+unfoldable pub standing_text : Wording → Row → List ℕ
+standing_text w row =
+    word_by w words.From ++ slot_text w.start row.start ++ word_by w words.To ++ slot_text w.start row.end
+    ++ every_text w (period_of row.demand)
 
 -- after which slot a phone shows it first, with the time at which that slot is over, or that none does
-unfoldable pub shown_after : Language → (slot : ℕ) → List ℕ
-shown_after l slot = word_in l words.Shown ++ decimal slot ++ time_in_brackets (slot + 1)
+unfoldable pub shown_after : Wording → (slot : ℕ) → List ℕ
+shown_after w slot = word_by w words.Shown ++ decimal slot ++ time_in_brackets w.start (slot + 1)
 
-abbrev pub first_text : Language → (first : Option ℕ) → List ℕ
-first_text l None = word_in l words.NotShown
-first_text l (Some slot) = shown_after l slot
+abbrev pub first_text : Wording → (first : Option ℕ) → List ℕ
+first_text w None = word_by w words.NotShown
+first_text w (Some slot) = shown_after w slot
 
 -- what its title says: these, with the number of its whole broadcasts in all of the run between them
-unfoldable pub message_title : Language → Row → List ℕ
-message_title l row =
-    standing_text l row ++ word_in l words.Whole ++ decimal row.completed ++ first_text l row.first_shown
+unfoldable pub message_title : Wording → Row → List ℕ
+message_title w row =
+    standing_text w row ++ word_by w words.Whole ++ decimal row.completed ++ first_text w row.first_shown
 
 -- its bar, from its start to its end, in slots, as far as these are drawn; none where it never started. Its class says
 -- how often it is broadcast
@@ -92,32 +94,32 @@ bar s row =
 
 -- what is said of it: its alert's name and its own, its category, how many broadcasts are whole at the slots that are
 -- drawn, where that stands in place of marks, that no phone shows it, where none does, and its text
-unfoldable pub message_name : Language → Orders → Row → Option Accepted → List ℕ
-message_name l orders row found =
-    line_front orders row ++ lines.NAME_END.now ++ category_words l found ++ lines.CATEGORY_END.now
+unfoldable pub message_name : Wording → Orders → Row → Option Accepted → List ℕ
+message_name w orders row found =
+    line_front orders row ++ lines.NAME_END.now ++ category_words w.language found ++ lines.CATEGORY_END.now
 
 abbrev pub number_word : (whole : ℕ) → Word
 number_word whole = if whole == 1 then words.Broadcast else words.Broadcasts
 
-unfoldable pub number_text : Language → (whole : ℕ) → List ℕ
-number_text l whole = lines.SMALL.now ++ decimal whole ++ word_in l (number_word whole) ++ lines.SMALL_END.now
+unfoldable pub number_text : Wording → (whole : ℕ) → List ℕ
+number_text w whole = lines.SMALL.now ++ decimal whole ++ word_by w (number_word whole) ++ lines.SMALL_END.now
 
-abbrev pub number_if : Language → (number : Option ℕ) → List ℕ
-number_if l None = []
-number_if l (Some whole) = number_text l whole
+abbrev pub number_if : Wording → (number : Option ℕ) → List ℕ
+number_if w None = []
+number_if w (Some whole) = number_text w whole
 
-unfoldable pub not_shown_text : Language → List ℕ
-not_shown_text l = lines.SMALL.now ++ word_in l words.Unseen ++ lines.SMALL_END.now
+unfoldable pub not_shown_text : Wording → List ℕ
+not_shown_text w = lines.SMALL.now ++ word_by w words.Unseen ++ lines.SMALL_END.now
 
-abbrev pub unseen_text : Language → Showing → List ℕ
-unseen_text l shown_status.Yes = []
-unseen_text l shown_status.No = not_shown_text l
-unseen_text l (shown_status.Refused number) = []
+abbrev pub unseen_text : Wording → Showing → List ℕ
+unseen_text w shown_status.Yes = []
+unseen_text w shown_status.No = not_shown_text w
+unseen_text w (shown_status.Refused number) = []
 
-unfoldable pub message_front : Language → Orders → Row → Option Accepted → (number : Option ℕ) → (text : List ℕ)
+unfoldable pub message_front : Wording → Orders → Row → Option Accepted → (number : Option ℕ) → (text : List ℕ)
     → List ℕ
-message_front l orders row found number text =
-    message_name l orders row found ++ number_if l number ++ unseen_text l row.shown ++ lines.TEXT.now ++ escaped text
+message_front w orders row found number text =
+    message_name w orders row found ++ number_if w number ++ unseen_text w row.shown ++ lines.TEXT.now ++ escaped text
     ++ lines.TEXT_END.now
 
 -- the end of its line, with the mark where a phone shows it first
@@ -126,46 +128,46 @@ message_end s first = lines.SHOWN_MARK.now ++ first_mark s first ++ lines.LINE_E
 
 -- the line of an accepted message: what is said of it, and its picture, a bar with a mark for each whole broadcast, or
 -- without marks where their number is said
-abbrev pub line_with : Language → Stretch → Orders → Row → Option Accepted → (text : List ℕ) → (number : Option ℕ)
+abbrev pub line_with : Wording → Stretch → Orders → Row → Option Accepted → (text : List ℕ) → (number : Option ℕ)
     → (marks : List ℕ) → List ℕ
-line_with l s orders row found text number marks =
-    message_front l orders row found number text ++ picture_front l s row ++ message_title l row ++ bar s row
+line_with w s orders row found text number marks =
+    message_front w orders row found number text ++ picture_front w s row ++ message_title w row ++ bar s row
     ++ drawn_marks number marks ++ message_end s row.first_shown
 
-abbrev pub message_line : Language → Record → Stretch → Orders → Row → Option Accepted → (text : List ℕ) → List ℕ
-message_line l r s orders row found text =
-    line_with l s orders row found text (number_instead s r.slots r.air found) (marks_of s r.slots r.air found)
+abbrev pub message_line : Wording → Record → Stretch → Orders → Row → Option Accepted → (text : List ℕ) → List ℕ
+message_line w r s orders row found text =
+    line_with w s orders row found text (number_instead s r.slots r.air found) (marks_of s r.slots r.air found)
 
 -- what the title says of a refused order: when
-unfoldable pub refusal_title : Language → Row → List ℕ
-refusal_title l row = word_in l words.RefusedAt ++ slot_text row.start
+unfoldable pub refusal_title : Wording → Row → List ℕ
+refusal_title w row = word_by w words.RefusedAt ++ slot_text w.start row.start
 
 -- its picture: a mark at the slot of the answer
-unfoldable pub refusal_picture : Language → Stretch → Row → List ℕ
-refusal_picture l s row =
-    picture_front l s row ++ refusal_title l row ++ lines.REFUSAL.now ++ decimal row.start ++ lines.REFUSAL_END.now
+unfoldable pub refusal_picture : Wording → Stretch → Row → List ℕ
+refusal_picture w s row =
+    picture_front w s row ++ refusal_title w row ++ lines.REFUSAL.now ++ decimal row.start ++ lines.REFUSAL_END.now
 
 -- what is said of a refused order: its alert's name and its own, and the cause
-unfoldable pub refusal_front : Language → Orders → Row → (number : ℕ) → List ℕ
-refusal_front l orders row number =
-    line_front orders row ++ lines.CAUSE.now ++ word_in l words.RefusedBecause ++ cause_text l number
+unfoldable pub refusal_front : Wording → Orders → Row → (number : ℕ) → List ℕ
+refusal_front w orders row number =
+    line_front orders row ++ lines.CAUSE.now ++ word_by w words.RefusedBecause ++ cause_text w.language number
     ++ lines.CAUSE_END.now
 
 -- the line of a refused order
-abbrev pub refusal_line : Language → Stretch → Orders → Row → (number : ℕ) → List ℕ
-refusal_line l s orders row number = refusal_front l orders row number ++ refusal_picture l s row
+abbrev pub refusal_line : Wording → Stretch → Orders → Row → (number : ℕ) → List ℕ
+refusal_line w s orders row number = refusal_front w orders row number ++ refusal_picture w s row
 
 -- the line of a row. A message that phones show has the text that they show, another one the text that it was to show
-abbrev pub line_by : Language → Record → Stretch → Orders → List ShownMessage → Row → Showing → List ℕ
-line_by l r s orders shown row shown_status.Yes =
-    message_line l r s orders row (accepted_named row.id row.serial r.log) (text_shown shown row.id row.serial)
-line_by l r s orders shown row shown_status.No =
-    message_line l r s orders row (accepted_named row.id row.serial r.log)
+abbrev pub line_by : Wording → Record → Stretch → Orders → List ShownMessage → Row → Showing → List ℕ
+line_by w r s orders shown row shown_status.Yes =
+    message_line w r s orders row (accepted_named row.id row.serial r.log) (text_shown shown row.id row.serial)
+line_by w r s orders shown row shown_status.No =
+    message_line w r s orders row (accepted_named row.id row.serial r.log)
     (text_asked r.log (accepted_named row.id row.serial r.log))
-line_by l r s orders shown row (shown_status.Refused number) = refusal_line l s orders row number
+line_by w r s orders shown row (shown_status.Refused number) = refusal_line w s orders row number
 
-abbrev pub line_of : Language → Record → Stretch → Orders → List ShownMessage → Row → List ℕ
-line_of l r s orders shown row = line_by l r s orders shown row row.shown
+abbrev pub line_of : Wording → Record → Stretch → Orders → List ShownMessage → Row → List ℕ
+line_of w r s orders shown row = line_by w r s orders shown row row.shown
 
 -- the rows that are drawn
 abbrev pub rows_in : Record → Stretch → List ShownMessage → List Row
@@ -176,55 +178,55 @@ unfoldable pub load_width : Stretch → List ℕ
 load_width s = decimal s.from ++ loads.LOAD_ORIGIN.now ++ decimal (width_of s) ++ loads.LOAD_BOX.now
 
 -- and as high as a full cell, whose load is at its upper edge; the line begins and ends at its bottom
-unfoldable pub load_title : Language → List ℕ
-load_title l = loads.LOAD_TITLE.now ++ word_in l words.Load ++ loads.LOAD_PATH.now
+unfoldable pub load_title : Wording → List ℕ
+load_title w = loads.LOAD_TITLE.now ++ word_by w words.Load ++ loads.LOAD_PATH.now
 
-unfoldable pub load_front : Language → Stretch → List ℕ
-load_front l s =
-    load_width s ++ decimal loads.LOAD_HEIGHT ++ load_title l ++ decimal s.from ++ loads.LOAD_BOX.now
+unfoldable pub load_front : Wording → Stretch → List ℕ
+load_front w s =
+    load_width s ++ decimal loads.LOAD_HEIGHT ++ load_title w ++ decimal s.from ++ loads.LOAD_BOX.now
     ++ decimal loads.LOAD_HEIGHT
 
 unfoldable pub load_end : (to : ℕ) → List ℕ
 load_end to =
     loads.TO_SLOT.now ++ decimal to ++ loads.TO_LOAD.now ++ decimal loads.LOAD_HEIGHT ++ loads.SHAPE_END.now
 
-unfoldable pub load_shape : Language → Record → Stretch → List ℕ
-load_shape l r s = load_front l s ++ load_line r s ++ load_end s.to
+unfoldable pub load_shape : Wording → Record → Stretch → List ℕ
+load_shape w r s = load_front w s ++ load_line r s ++ load_end s.to
 
 -- the line of the loads under those of the rows
-abbrev pub load_picture : Language → Record → Stretch → List ℕ
-load_picture l r s =
-    loads.LOAD.now ++ word_in l words.Load ++ loads.LOAD_NAMED.now ++ load_shape l r s ++ loads.LOAD_END.now
+abbrev pub load_picture : Wording → Record → Stretch → List ℕ
+load_picture w r s =
+    loads.LOAD.now ++ word_by w words.Load ++ loads.LOAD_NAMED.now ++ load_shape w r s ++ loads.LOAD_END.now
 
 -- what the overview has of a cell after its name: its loads, how full it gets, and how many orders it refused
-unfoldable pub strip_facts : Language → Facts → List ℕ
-strip_facts l facts =
-    cells.STRIP_FACTS.now ++ fullest_text l facts ++ word_in l words.Refused ++ decimal facts.refused
+unfoldable pub strip_facts : Wording → Facts → List ℕ
+strip_facts w facts =
+    cells.STRIP_FACTS.now ++ fullest_text w facts ++ word_by w words.Refused ++ decimal facts.refused
     ++ cells.STRIP_END.now
 
-abbrev pub strip_text : Language → Record → Stretch → Facts → List ℕ
-strip_text l r s facts = load_shape l r s ++ strip_facts l facts
+abbrev pub strip_text : Wording → Record → Stretch → Facts → List ℕ
+strip_text w r s facts = load_shape w r s ++ strip_facts w facts
 
 -- what its section has after its name: what counts of it, the rows of its report in their order, each a line, then its
 -- loads and the axis
-abbrev pub contents_text : Language → Record → Stretch → Orders → List ShownMessage → Facts → List ℕ
-contents_text l r s orders shown facts =
-    cells.NAME_END.now ++ facts_text l facts ++ cells.FACTS_END.now
-    ++ flat_map (line_of l r s orders shown) (rows_in r s shown) ++ load_picture l r s ++ axis l s ++ cells.CELL_END.now
+abbrev pub contents_text : Wording → Record → Stretch → Orders → List ShownMessage → Facts → List ℕ
+contents_text w r s orders shown facts =
+    cells.NAME_END.now ++ facts_text w facts ++ cells.FACTS_END.now
+    ++ flat_map (line_of w r s orders shown) (rows_in r s shown) ++ load_picture w r s ++ axis w s ++ cells.CELL_END.now
 
 -- what is drawn of a cell
 abbrev pub facts_in : Record → Stretch → List ShownMessage → Facts
 facts_in r s shown = facts_of (rows_in r s shown) s.from (loads_in r s)
 
-abbrev pub panel_in : Language → Record → Stretch → Orders → List ShownMessage → Panel
-panel_in l r s orders shown = record {
+abbrev pub panel_in : Wording → Record → Stretch → Orders → List ShownMessage → Panel
+panel_in w r s orders shown = record {
   cell = r.cell;
-  strip = strip_text l r s (facts_in r s shown);
-  contents = contents_text l r s orders shown (facts_in r s shown);
+  strip = strip_text w r s (facts_in r s shown);
+  contents = contents_text w r s orders shown (facts_in r s shown);
 }
 
-abbrev pub panel_of : Language → Option Part → Record → Orders → List ShownMessage → Panel
-panel_of l part r orders shown = panel_in l r (stretch_of part r.slots) orders shown
+abbrev pub panel_of : Wording → Option Part → Record → Orders → List ShownMessage → Panel
+panel_of w part r orders shown = panel_in w r (stretch_of part r.slots) orders shown
 
 -- the cells that are drawn: the one that is wanted, or all
 abbrev pub is_wanted : Option Cell → Cell → Bool
@@ -233,7 +235,7 @@ is_wanted (Some wanted) cell = (wanted.lac == cell.lac) && (wanted.ci == cell.ci
 
 abbrev pub panel_if : View → Record → Orders → List ShownMessage → List Panel
 panel_if view r orders shown =
-    if is_wanted view.cell r.cell then panel_of view.language view.part r orders shown ∷ [] else []
+    if is_wanted view.cell r.cell then panel_of view.wording view.part r orders shown ∷ [] else []
 
 -- the panels of cells, each with the reading of its blocks
 abbrev pub panels_of : View → Orders → List Record → List TapeReading → List Panel
@@ -244,57 +246,66 @@ panels_of view orders (r ∷ records) (reading ∷ readings) =
 
 -- what is drawn of the cells
 abbrev pub sections_of : View → Orders → List Record → List TapeReading → List ℕ
-sections_of view orders records readings = sections_text view.language (panels_of view orders records readings)
+sections_of view orders records readings = sections_text view.wording (panels_of view orders records readings)
 
 -- the head of the page, and what its reader is told first
-unfoldable pub head : Language → List ℕ
-head l =
-    charts.HEAD.now ++ word_in l words.Code ++ charts.HEAD_LANGUAGE_END.now ++ word_in l words.Title
-    ++ charts.HEAD_TITLE_END.now ++ word_in l words.Title ++ charts.HEADING_END.now
+unfoldable pub head : Wording → List ℕ
+head w =
+    charts.HEAD.now ++ word_by w words.Code ++ charts.HEAD_LANGUAGE_END.now ++ word_by w words.Title
+    ++ charts.HEAD_TITLE_END.now ++ word_by w words.Title ++ charts.HEADING_END.now
 
-unfoldable pub introduction : Language → List ℕ
-introduction l = word_in l words.Introduction
+unfoldable pub introduction : Wording → List ℕ
+introduction w = word_by w words.Introduction
 
 -- the front of the page, which says how long the runs are
 abbrev pub slots_word : (slots : ℕ) → Word
 slots_word slots = if slots == 1 then words.Slot else words.Slots
 
-unfoldable pub run_text : Language → (slots : ℕ) → List ℕ
-run_text l slots =
-    word_in l words.Run ++ decimal slots ++ word_in l (slots_word slots) ++ time_text slots ++ charts.RUN_END.now
+unfoldable pub run_text : Wording → (slots : ℕ) → List ℕ
+run_text w slots =
+    word_by w words.Run ++ decimal slots ++ word_by w (slots_word slots) ++ time_text None slots ++ charts.RUN_END.now
+
+-- when slot 0 begins, where the page has the time of day
+unfoldable pub begin_text : Wording → Start → List ℕ
+begin_text w start = word_by w words.Begins ++ escaped (slot_time start 0) ++ word_by w words.BeginsEnd
+
+abbrev pub begin_if : Wording → Option Start → List ℕ
+begin_if w None = []
+begin_if w (Some start) = begin_text w start
 
 -- and which part of them is drawn
-unfoldable pub stretch_text : Language → Stretch → List ℕ
-stretch_text l s =
-    word_in l words.Part ++ slot_text s.from ++ word_in l words.PartTo ++ slot_text s.to ++ charts.PART_END.now
+unfoldable pub stretch_text : Wording → Stretch → List ℕ
+stretch_text w s =
+    word_by w words.Part ++ slot_text w.start s.from ++ word_by w words.PartTo ++ slot_text w.start s.to ++ charts.PART_END.now
 
-abbrev pub part_text : Language → Stretch → List ℕ
-part_text l s = if s.is_part then stretch_text l s else []
+abbrev pub part_text : Wording → Stretch → List ℕ
+part_text w s = if s.is_part then stretch_text w s else []
 
-unfoldable pub chart_front : Language → (slots : ℕ) → Option Part → List ℕ
-chart_front l slots part = head l ++ run_text l slots ++ part_text l (stretch_of part slots) ++ introduction l
+unfoldable pub chart_front : Wording → (slots : ℕ) → Option Part → List ℕ
+chart_front w slots part =
+    head w ++ run_text w slots ++ begin_if w w.start ++ part_text w (stretch_of part slots) ++ introduction w
 
 -- the chart of records, of the orders that asked their cells, and of what handsets read of their blocks
 abbrev pub chart_text : (slots : ℕ) → View → Orders → List Record → List TapeReading → List ℕ
 chart_text slots view orders records readings =
-    chart_front view.language slots view.part ++ sections_of view orders records readings ++ charts.FOOT.now
+    chart_front view.wording slots view.part ++ sections_of view orders records readings ++ charts.FOOT.now
 
 -- the sections of a group of a network are folded under its number; there is nothing where no cell of it is drawn
-unfoldable pub group_front : Language → (group : ℕ) → List ℕ
-group_front l group = charts.GROUP.now ++ word_in l words.Group ++ decimal group ++ charts.GROUP_NAME_END.now
+unfoldable pub group_front : Wording → (group : ℕ) → List ℕ
+group_front w group = charts.GROUP.now ++ word_by w words.Group ++ decimal group ++ charts.GROUP_NAME_END.now
 
-abbrev pub folded : Language → (group : ℕ) → (sections : List ℕ) → List ℕ
-folded l group [] = []
-folded l group (octet ∷ sections) = group_front l group ++ (octet ∷ sections) ++ charts.GROUP_FOOT.now
+abbrev pub folded : Wording → (group : ℕ) → (sections : List ℕ) → List ℕ
+folded w group [] = []
+folded w group (octet ∷ sections) = group_front w group ++ (octet ∷ sections) ++ charts.GROUP_FOOT.now
 
 -- the part of a group in the chart of its network: the front of the page is the first group's, and the end the last's
-abbrev pub front_if_first : Language → (slots group : ℕ) → Option Part → List ℕ
-front_if_first l slots group part = if group == 0 then chart_front l slots part else []
+abbrev pub front_if_first : Wording → (slots group : ℕ) → Option Part → List ℕ
+front_if_first w slots group part = if group == 0 then chart_front w slots part else []
 
 abbrev pub foot_if : (last : Bool) → List ℕ
 foot_if last = if last then charts.FOOT.now else []
 
 abbrev pub chart_part : (slots group : ℕ) → (last : Bool) → View → Orders → List Record → List TapeReading → List ℕ
 chart_part slots group last view orders records readings =
-    front_if_first view.language slots group view.part
-    ++ folded view.language group (sections_of view orders records readings) ++ foot_if last
+    front_if_first view.wording slots group view.part
+    ++ folded view.wording group (sections_of view orders records readings) ++ foot_if last

@@ -11,9 +11,9 @@ use Rattle.report.specs.declared.row.Showing.TheVariants as shown_status
 use Rattle.bsc_table.specs.Record.{Record}
 use Rattle.chart.specs.declared.facts.Facts.{Facts}
 use Rattle.chart.specs.declared.fullest.Fullest.{Fullest}
-use Rattle.chart.specs.declared.word.Language.{Language}
+use Rattle.chart.specs.declared.word.Wording.{Wording}
 use Rattle.chart.specs.declared.word.Word.TheVariants as words
-use Rattle.chart.specs.Words.{word_in}
+use Rattle.chart.specs.Words.{word_by}
 use Rattle.chart.specs.Load.{all_loads}
 use Rattle.chart.specs.Time.{time_text}
 
@@ -53,11 +53,11 @@ abbrev pub fullest_in : Record → Fullest
 fullest_in r = record { share = hundredths (most_of (all_loads r)); slot = fullest_slot (all_loads r) }
 
 -- how full a cell gets, and when
-unfoldable pub fullest_text : Language → Facts → List ℕ
-fullest_text l facts = decimal (hundredths facts.most) ++ word_in l words.ShareAt ++ time_text facts.slot
+unfoldable pub fullest_text : Wording → Facts → List ℕ
+fullest_text w facts = decimal (hundredths facts.most) ++ word_by w words.ShareAt ++ time_text w.start facts.slot
 
 -- what counts of it in words
-unfoldable pub facts_text : Language → Facts → List ℕ
-facts_text l facts =
-    word_in l words.Messages ++ decimal facts.messages ++ word_in l words.Refused ++ decimal facts.refused
-    ++ word_in l words.Fullest ++ fullest_text l facts
+unfoldable pub facts_text : Wording → Facts → List ℕ
+facts_text w facts =
+    word_by w words.Messages ++ decimal facts.messages ++ word_by w words.Refused ++ decimal facts.refused
+    ++ word_by w words.Fullest ++ fullest_text w facts

@@ -1,6 +1,6 @@
 -- What the marks, the loads, the fullest slots, the sections and the axis of a chart promise (own).
 use Rattle.std.specs.Prelude.{◌≡◌, ◌↔◌, ◌&&◌, ℕ, ◌+◌, ◌-◌, ◌*◌, ◌<◌, ◌≤◌, Bool, true, All, if◌then◌else◌, nat_le}
-use Rattle.std.specs.Prelude.{None, Some}
+use Rattle.std.specs.Prelude.{Option, None, Some}
 use Rattle.admission.specs.declared.measure.TheConstants.{SCALE}
 use Rattle.scheduler.specs.Completed.{completed}
 use Rattle.bsc_table.specs.Claim.{claimed_at}
@@ -14,10 +14,11 @@ use Rattle.chart.specs.declared.fullest.Fullest.{Fullest}
 use Rattle.chart.specs.declared.panel.Panel.{Panel}
 use Rattle.chart.specs.declared.load.TheConstants.{LOAD_HEIGHT, LOAD_STEP}
 use Rattle.chart.specs.declared.time.TheConstants.{MOST_TICKS}
-use Rattle.chart.specs.Time.{first_number, seconds_at, step_in}
+use Rattle.chart.specs.Time.{day_begun, first_number, seconds_at, step_in}
 use Rattle.chart.specs.View.{stretch_of}
 use Rattle.chart.specs.declared.view.Part.{Part}
 use Rattle.chart.specs.declared.view.Stretch.{Stretch}
+use Rattle.slot_times.specs.declared.start.Start.{Start}
 
 -- whether marks are drawn of a message of this period of which so many broadcasts are whole in so many slots: at most
 -- 400 are, and a period is at least 4 px wide where the slots are 1,280 px wide
@@ -59,9 +60,10 @@ LikeAreTheSame = (p other : Panel) → (is_like p other ≡ true) ↔ (other.con
 -- an axis has a tick at each multiple of its step within what is drawn: the one before its first comes earlier, and one
 -- more than it may have would come later
 abbrev pub TicksReachTheEnd : Type 0
-TicksReachTheEnd = (s : Stretch) → s.from ≤ s.to → s.to < 65536
-    → (((number : ℕ) → number < first_number s.from (step_in s) → number * step_in s * 13000 < s.from * 24480)
-    × (seconds_at s.to < (first_number s.from (step_in s) + MOST_TICKS) * step_in s))
+TicksReachTheEnd = (start : Option Start) (s : Stretch) → s.from ≤ s.to → s.to < 65536
+    → (((number : ℕ) → number < first_number start s.from (step_in start s)
+    → number * step_in start s * 13000000 < day_begun start * 13 + s.from * 24480000)
+    × (seconds_at start s.to < (first_number start s.from (step_in start s) + MOST_TICKS) * step_in start s))
 
 -- a slot of a cell's run that has this share reserved: no slot has a greater load, and each before it a smaller one
 pub record IsFullest (r : Record) (fullest : Fullest) : Type 0 where

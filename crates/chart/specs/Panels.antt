@@ -8,9 +8,9 @@ use Rattle.std.specs.Str.{bytes_eq}
 use Rattle.cbsp_wire.specs.declared.message.Cell.{Cell}
 use Rattle.chart.specs.declared.panel.Panel.{Panel}
 use Rattle.chart.specs.declared.section.TheConstants as sections
-use Rattle.chart.specs.declared.word.Language.{Language}
+use Rattle.chart.specs.declared.word.Wording.{Wording}
 use Rattle.chart.specs.declared.word.Word.TheVariants as words
-use Rattle.chart.specs.Words.{word_in}
+use Rattle.chart.specs.Words.{word_by}
 
 -- whether two sections have the same contents
 abbrev pub is_like : Panel → Panel → Bool
@@ -33,70 +33,70 @@ are_in_turn lac ci [] = true
 are_in_turn lac ci (cell ∷ cells) = (cell.lac == lac) && (cell.ci == ci) && are_in_turn lac (ci + 1) cells
 
 -- the names of several cells: the first and the last one, if they are in turn, and else all
-unfoldable pub span_text : Language → (first : Cell) → (number : ℕ) → List ℕ
-span_text l first number =
-    cell_name first ++ word_in l words.To ++ decimal first.lac ++ sections.DASH.now ++ decimal (first.ci + (number - 1))
+unfoldable pub span_text : Wording → (first : Cell) → (number : ℕ) → List ℕ
+span_text w first number =
+    cell_name first ++ word_by w words.To ++ decimal first.lac ++ sections.DASH.now ++ decimal (first.ci + (number - 1))
     ++ sections.COMMA.now
 
 unfoldable pub listed_text : Cell → List ℕ
 listed_text cell = cell_name cell ++ sections.COMMA.now
 
-abbrev pub names_text : Language → (first : Cell) → List Cell → List ℕ
-names_text l first cells =
-    if are_in_turn first.lac first.ci cells then span_text l first (length cells)
+abbrev pub names_text : Wording → (first : Cell) → List Cell → List ℕ
+names_text w first cells =
+    if are_in_turn first.lac first.ci cells then span_text w first (length cells)
     else flat_map listed_text cells
 
 -- the heading of cells
-unfoldable pub one_heading : Language → Cell → List ℕ
-one_heading l cell = word_in l words.Cell ++ cell_name cell
+unfoldable pub one_heading : Wording → Cell → List ℕ
+one_heading w cell = word_by w words.Cell ++ cell_name cell
 
-unfoldable pub heading_of_all : Language → (first : Cell) → List Cell → List ℕ
-heading_of_all l first cells =
-    word_in l words.Cells ++ names_text l first cells ++ decimal (length cells) ++ word_in l words.CellsEnd
+unfoldable pub heading_of_all : Wording → (first : Cell) → List Cell → List ℕ
+heading_of_all w first cells =
+    word_by w words.Cells ++ names_text w first cells ++ decimal (length cells) ++ word_by w words.CellsEnd
 
-abbrev pub heading : Language → (first : Cell) → List Cell → List ℕ
-heading l first cells = if nat_le (length cells) 1 then one_heading l first else heading_of_all l first cells
+abbrev pub heading : Wording → (first : Cell) → List Cell → List ℕ
+heading w first cells = if nat_le (length cells) 1 then one_heading w first else heading_of_all w first cells
 
 -- the section of cells with the same contents
-unfoldable pub section_front : Language → (first : Cell) → List Cell → List ℕ
-section_front l first cells =
-    sections.SECTION.now ++ cell_name first ++ sections.SECTION_NAME.now ++ heading l first cells
+unfoldable pub section_front : Wording → (first : Cell) → List Cell → List ℕ
+section_front w first cells =
+    sections.SECTION.now ++ cell_name first ++ sections.SECTION_NAME.now ++ heading w first cells
 
 -- it stands where the first of them does
-abbrev pub section_by : Language → (before all : List Panel) → Panel → List ℕ
-section_by l before all p =
-    if is_any_like p before then [] else section_front l p.cell (cells_like p all) ++ p.contents
+abbrev pub section_by : Wording → (before all : List Panel) → Panel → List ℕ
+section_by w before all p =
+    if is_any_like p before then [] else section_front w p.cell (cells_like p all) ++ p.contents
 
-abbrev pub section_at : Language → List Panel → (place : ℕ) → List ℕ
-section_at l all place = option_map_or (section_by l (take place all) all) (slice_get all place) []
+abbrev pub section_at : Wording → List Panel → (place : ℕ) → List ℕ
+section_at w all place = option_map_or (section_by w (take place all) all) (slice_get all place) []
 
 -- what the overview has of cells with the same contents: the name of the first, how many more there are, and its strip
-unfoldable pub more_text : Language → (more : ℕ) → List ℕ
-more_text l more = word_in l words.And ++ decimal more ++ word_in l words.More
+unfoldable pub more_text : Wording → (more : ℕ) → List ℕ
+more_text w more = word_by w words.And ++ decimal more ++ word_by w words.More
 
-abbrev pub more_if : Language → (more : ℕ) → List ℕ
-more_if l more = if more == 0 then [] else more_text l more
+abbrev pub more_if : Wording → (more : ℕ) → List ℕ
+more_if w more = if more == 0 then [] else more_text w more
 
-unfoldable pub strip_front : Language → (first : Cell) → (number : ℕ) → List ℕ
-strip_front l first number =
-    sections.STRIP.now ++ cell_name first ++ sections.STRIP_NAME.now ++ cell_name first ++ more_if l (number - 1)
+unfoldable pub strip_front : Wording → (first : Cell) → (number : ℕ) → List ℕ
+strip_front w first number =
+    sections.STRIP.now ++ cell_name first ++ sections.STRIP_NAME.now ++ cell_name first ++ more_if w (number - 1)
     ++ sections.STRIP_PICTURE.now
 
-abbrev pub strip_by : Language → (before all : List Panel) → Panel → List ℕ
-strip_by l before all p =
-    if is_any_like p before then [] else strip_front l p.cell (length (cells_like p all)) ++ p.strip
+abbrev pub strip_by : Wording → (before all : List Panel) → Panel → List ℕ
+strip_by w before all p =
+    if is_any_like p before then [] else strip_front w p.cell (length (cells_like p all)) ++ p.strip
 
-abbrev pub strip_at : Language → List Panel → (place : ℕ) → List ℕ
-strip_at l all place = option_map_or (strip_by l (take place all) all) (slice_get all place) []
+abbrev pub strip_at : Wording → List Panel → (place : ℕ) → List ℕ
+strip_at w all place = option_map_or (strip_by w (take place all) all) (slice_get all place) []
 
 -- there is no overview of one cell
-abbrev pub overview_front : Language → List ℕ
-overview_front l = sections.OVERVIEW.now ++ word_in l words.Overview ++ sections.OVERVIEW_NAMED.now
+abbrev pub overview_front : Wording → List ℕ
+overview_front w = sections.OVERVIEW.now ++ word_by w words.Overview ++ sections.OVERVIEW_NAMED.now
 
-abbrev pub overview : Language → List Panel → List ℕ
-overview l all =
+abbrev pub overview : Wording → List Panel → List ℕ
+overview w all =
     if nat_le (length all) 1 then []
-    else overview_front l ++ flat_map (strip_at l all) (range_with_len 0 (length all)) ++ sections.OVERVIEW_END.now
+    else overview_front w ++ flat_map (strip_at w all) (range_with_len 0 (length all)) ++ sections.OVERVIEW_END.now
 
-abbrev pub sections_text : Language → List Panel → List ℕ
-sections_text l all = overview l all ++ flat_map (section_at l all) (range_with_len 0 (length all))
+abbrev pub sections_text : Wording → List Panel → List ℕ
+sections_text w all = overview w all ++ flat_map (section_at w all) (range_with_len 0 (length all))

@@ -6,6 +6,7 @@ use Rattle.chart.specs.declared.word.Language.{Language}
 use Rattle.chart.specs.declared.word.Language.TheVariants as languages
 use Rattle.chart.specs.declared.word.Word.{Word}
 use Rattle.chart.specs.declared.word.Word.TheVariants as words
+use Rattle.chart.specs.declared.word.Wording.{Wording}
 
 -- the two octets of letters in UTF-8
 abbrev pub oe : List ℕ
@@ -23,6 +24,8 @@ english words.Title = codes "Warnings by cell"
 english words.Run = codes "A run of "
 english words.Slots = codes " slots of 1.883 s, "
 english words.Slot = codes " slot of 1.883 s, "
+english words.Begins = codes " Slot 0 begins at "
+english words.BeginsEnd = codes "; times are of the day, in UTC."
 english words.Part = codes " Drawn from slot "
 english words.PartTo = codes " to slot "
 english words.Introduction = english_texts.INTRODUCTION.now
@@ -62,6 +65,8 @@ german words.Title = codes "Warnungen nach Zelle"
 german words.Run = codes "Ein Lauf von "
 german words.Slots = codes " Slots (Zeitschlitzen) zu 1,883 s, "
 german words.Slot = codes " Slot (Zeitschlitz) zu 1,883 s, "
+german words.Begins = codes " Slot 0 beginnt um "
+german words.BeginsEnd = codes "; Zeiten sind Tageszeiten in UTC."
 german words.Part = codes " Gezeichnet von Slot "
 german words.PartTo = codes " bis Slot "
 german words.Introduction = german_texts.INTRODUCTION.now
@@ -99,3 +104,7 @@ german words.Axis = codes "Slot, Zeit"
 abbrev pub word_in : Language → Word → List ℕ
 word_in languages.English word = english word
 word_in languages.German word = german word
+
+-- a word of a page
+abbrev pub word_by : Wording → Word → List ℕ
+word_by w word = word_in w.language word

@@ -17,7 +17,7 @@ use crate::page::Page;
 use crate::panel::Panel;
 use crate::time::push_axis;
 use crate::view::{Part, Stretch, stretch_of};
-use crate::word::{Language, Word};
+use crate::word::{Word, Wording};
 use bsc_table::CellRecord;
 use handset::Reading;
 use report::{BookOrders, ReportFault, Row, rows};
@@ -41,13 +41,13 @@ pub const STRIP_END: &str = "</i></a>\n";
 
 /// Appends what a strip says after its loads.
 #[tactic(auto, unfolding(crate::specs::ChartText::strip_facts))]
-fn push_strip_facts(page: &mut Page, language: Language, facts: Facts) -> Result<(), AllocError>
+fn push_strip_facts(page: &mut Page, wording: Wording, facts: Facts) -> Result<(), AllocError>
     requires { facts.most ≤ SCALE }
-    ensures { OnOk result (page.new ≡ page.old ++ strip_facts language facts) }
+    ensures { OnOk result (page.new ≡ page.old ++ strip_facts wording facts) }
 {
     page.markup(STRIP_FACTS)?;
-    push_fullest(page, language, facts)?;
-    page.word(language, Word::Refused)?;
+    push_fullest(page, wording, facts)?;
+    page.word(wording, Word::Refused)?;
     page.number(facts.refused as u64)?;
     page.markup(STRIP_END)
 }
@@ -55,7 +55,7 @@ fn push_strip_facts(page: &mut Page, language: Language, facts: Facts) -> Result
 /// What a strip has after its name.
 fn strip_of(
     alloc: Global,
-    language: Language,
+    wording: Wording,
     stretch: Stretch,
     loads: &[u64],
     facts: Facts,
@@ -64,11 +64,11 @@ fn strip_of(
     requires ordered { stretch.from ≤ stretch.to }
     requires most { facts.most ≤ SCALE }
     ensures { IfOk result (λ strip. (r : Record) → AreLoadsFrom stretch.from (claims_in r.log) loads.now
-        → strip ≡ strip_text language r stretch facts) }
+        → strip ≡ strip_text wording r stretch facts) }
 {
     let mut strip = Page::new(alloc);
-    push_shape(&mut strip, language, stretch, loads)?;
-    push_strip_facts(&mut strip, language, facts)?;
+    push_shape(&mut strip, wording, stretch, loads)?;
+    push_strip_facts(&mut strip, wording, facts)?;
     Ok(strip)
 }
 
@@ -87,18 +87,18 @@ fn contents_of(
     requires most { facts.most ≤ SCALE }
     ensures { IfOk result (λ contents. rows.now
         ≡ rows_in context.now.run.now context.now.stretch (messages_shown context.now.shown.now)
-        → contents ≡ contents_text context.now.language context.now.run.now context.now.stretch
+        → contents ≡ contents_text context.now.wording context.now.run.now context.now.stretch
         context.now.orders.now (messages_shown context.now.shown.now) facts) }
 {
-    let language = context.language;
+    let wording = context.wording;
     let stretch = context.stretch;
     let mut contents = Page::new(alloc);
     contents.markup(NAME_END)?;
-    push_facts(&mut contents, language, facts)?;
+    push_facts(&mut contents, wording, facts)?;
     contents.markup(FACTS_END)?;
     context.push_lines(&mut contents, rows)?;
-    push_loads(&mut contents, language, stretch, loads)?;
-    push_axis(&mut contents, language, stretch)?;
+    push_loads(&mut contents, wording, stretch, loads)?;
+    push_axis(&mut contents, wording, stretch)?;
     contents.markup(CELL_END)?;
     Ok(contents)
 }
@@ -113,14 +113,14 @@ fn keep_drawn(rows: &mut Vec<Row>, stretch: Stretch)
 /// What is drawn of a cell.
 pub(crate) fn panel_of(
     alloc: Global,
-    language: Language,
+    wording: Wording,
     part: Option<Part>,
     orders: &BookOrders,
     run: &CellRecord,
     reading: &Reading,
 ) -> Result<Panel, ReportFault>
     ensures panel { IfOk result (λ panel. panel
-        ≡ panel_of language part run.now orders.now (messages_shown reading.now.shown.items)) }
+        ≡ panel_of wording part run.now orders.now (messages_shown reading.now.shown.items)) }
     ensures cells { IfErr result (λ fault. fault ≡ ReportFault.Cells → run.now.cell ≢ reading.now.cell) }
     ensures faults { IfErr result (λ fault. fault ≢ ReportFault.WriteFailed) }
 {
@@ -139,14 +139,14 @@ pub(crate) fn panel_of(
     let facts = facts_of(&rows, stretch.from, loads);
     let context = CellContext {
         alloc,
-        language,
+        wording,
         stretch,
         orders,
         run,
         shown: &reading.shown,
         messages: &messages,
     };
-    let strip = strip_of(alloc, language, stretch, loads, facts)?;
+    let strip = strip_of(alloc, wording, stretch, loads, facts)?;
     let contents = contents_of(alloc, &context, &rows, loads, facts)?;
     Ok(Panel {
         cell: run.cell(),

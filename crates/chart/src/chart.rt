@@ -6,7 +6,7 @@ ghost use Rattle.handset.specs.Tape.{readings_of};
 ghost use Rattle.report.specs.Rows.{AreOfOneCells};
 ghost use Rattle.chart.specs.ChartText.{chart_front, chart_part, chart_text, folded, foot_if, front_if_first};
 ghost use Rattle.chart.specs.ChartText.{group_front, head, introduction, is_wanted, part_text, run_text, stretch_text};
-ghost use Rattle.chart.specs.ChartText.{panel_if, panels_of, sections_of, slots_word};
+ghost use Rattle.chart.specs.ChartText.{begin_if, begin_text, panel_if, panels_of, sections_of, slots_word};
 
 use crate::cell::panel_of;
 use crate::page::Page;
@@ -14,11 +14,12 @@ use crate::panel::Panel;
 use crate::section::push_all;
 use crate::time::{push_slot, push_time};
 use crate::view::{Part, Stretch, View, stretch_of};
-use crate::word::{Language, Word};
+use crate::word::{Word, Wording};
 use bsc_table::CellRecord;
 use cbsp_wire::Cell;
 use handset::Reading;
 use report::{BookOrders, ReportFault};
+use slot_times::{Start, slot_time};
 use std::alloc::{AllocError, Global};
 
 /// The front of the page, up to the code of its language.
@@ -144,7 +145,7 @@ fn add_if_wanted(
     ensures faults { IfErr result (λ fault. fault ≢ ReportFault.WriteFailed) }
 {
     if is_wanted(view.cell, run.cell()) {
-        let panel = match panel_of(alloc, view.language, view.part, orders, run, reading) {
+        let panel = match panel_of(alloc, view.wording, view.part, orders, run, reading) {
             Ok(panel) => panel,
             Err(fault) => return Err(fault),
         };
@@ -198,30 +199,30 @@ fn push_sections(
     ensures faults { IfErr result (λ fault. fault ≢ ReportFault.WriteFailed) }
 {
     let panels = panels_of(alloc, view, orders, records, readings)?;
-    push_all(alloc, page, view.language, &panels)?;
+    push_all(alloc, page, view.wording, &panels)?;
     Ok(())
 }
 
 /// Appends the head of the page.
 #[tactic(auto, unfolding(crate::specs::ChartText::head))]
-fn push_head(page: &mut Page, language: Language) -> Result<(), AllocError>
-    ensures { OnOk result (page.new ≡ page.old ++ head language) }
+fn push_head(page: &mut Page, wording: Wording) -> Result<(), AllocError>
+    ensures { OnOk result (page.new ≡ page.old ++ head wording) }
 {
     page.markup(HEAD)?;
-    page.word(language, Word::Code)?;
+    page.word(wording, Word::Code)?;
     page.markup(HEAD_LANGUAGE_END)?;
-    page.word(language, Word::Title)?;
+    page.word(wording, Word::Title)?;
     page.markup(HEAD_TITLE_END)?;
-    page.word(language, Word::Title)?;
+    page.word(wording, Word::Title)?;
     page.markup(HEADING_END)
 }
 
 /// Appends what the reader of the page is told first.
 #[tactic(auto, unfolding(crate::specs::ChartText::introduction))]
-fn push_introduction(page: &mut Page, language: Language) -> Result<(), AllocError>
-    ensures { OnOk result (page.new ≡ page.old ++ introduction language) }
+fn push_introduction(page: &mut Page, wording: Wording) -> Result<(), AllocError>
+    ensures { OnOk result (page.new ≡ page.old ++ introduction wording) }
 {
-    page.word(language, Word::Introduction)
+    page.word(wording, Word::Introduction)
 }
 
 /// What comes after so many slots.
@@ -233,34 +234,54 @@ fn slots_word(slots: u16) -> Word
 
 /// Appends how long the runs are.
 #[tactic(auto, unfolding(crate::specs::ChartText::run_text))]
-fn push_run(page: &mut Page, language: Language, slots: u16) -> Result<(), AllocError>
-    ensures { OnOk result (page.new ≡ page.old ++ run_text language slots) }
+fn push_run(page: &mut Page, wording: Wording, slots: u16) -> Result<(), AllocError>
+    ensures { OnOk result (page.new ≡ page.old ++ run_text wording slots) }
 {
-    page.word(language, Word::Run)?;
+    page.word(wording, Word::Run)?;
     page.number(u64::from(slots))?;
-    page.word(language, slots_word(slots))?;
-    push_time(page, u32::from(slots))?;
+    page.word(wording, slots_word(slots))?;
+    push_time(page, None, u32::from(slots))?;
     page.markup(RUN_END)
+}
+
+/// Appends when slot 0 begins.
+#[tactic(auto, unfolding(crate::specs::ChartText::begin_text))]
+fn push_begin(page: &mut Page, wording: Wording, start: Start) -> Result<(), AllocError>
+    ensures { OnOk result (page.new ≡ page.old ++ begin_text wording start) }
+{
+    page.word(wording, Word::Begins)?;
+    page.text_octets(&slot_time(start, 0))?;
+    page.word(wording, Word::BeginsEnd)
+}
+
+/// Appends that, if the page has the time of day.
+fn push_begin_if(page: &mut Page, wording: Wording, start: Option<Start>) -> Result<(), AllocError>
+    ensures { OnOk result (page.new ≡ page.old ++ begin_if wording start) }
+{
+    match start {
+        None => Ok(()),
+        Some(start) => push_begin(page, wording, start),
+    }
 }
 
 /// Appends which slots are drawn.
 #[tactic(auto, unfolding(crate::specs::ChartText::stretch_text))]
-fn push_stretch(page: &mut Page, language: Language, stretch: Stretch) -> Result<(), AllocError>
-    ensures { OnOk result (page.new ≡ page.old ++ stretch_text language stretch) }
+fn push_stretch(page: &mut Page, wording: Wording, stretch: Stretch) -> Result<(), AllocError>
+    ensures { OnOk result (page.new ≡ page.old ++ stretch_text wording stretch) }
 {
-    page.word(language, Word::Part)?;
-    push_slot(page, u32::from(stretch.from))?;
-    page.word(language, Word::PartTo)?;
-    push_slot(page, u32::from(stretch.to))?;
+    page.word(wording, Word::Part)?;
+    push_slot(page, wording.start, u32::from(stretch.from))?;
+    page.word(wording, Word::PartTo)?;
+    push_slot(page, wording.start, u32::from(stretch.to))?;
     page.markup(PART_END)
 }
 
 /// Appends which part is drawn, if it isn't all.
-fn push_part(page: &mut Page, language: Language, stretch: Stretch) -> Result<(), AllocError>
-    ensures { OnOk result (page.new ≡ page.old ++ part_text language stretch) }
+fn push_part(page: &mut Page, wording: Wording, stretch: Stretch) -> Result<(), AllocError>
+    ensures { OnOk result (page.new ≡ page.old ++ part_text wording stretch) }
 {
     if stretch.is_part {
-        push_stretch(page, language, stretch)
+        push_stretch(page, wording, stretch)
     } else {
         Ok(())
     }
@@ -270,16 +291,17 @@ fn push_part(page: &mut Page, language: Language, stretch: Stretch) -> Result<()
 #[tactic(auto, unfolding(crate::specs::ChartText::chart_front))]
 fn push_front(
     page: &mut Page,
-    language: Language,
+    wording: Wording,
     slots: u16,
     part: Option<Part>,
 ) -> Result<(), AllocError>
-    ensures { OnOk result (page.new ≡ page.old ++ chart_front language slots part) }
+    ensures { OnOk result (page.new ≡ page.old ++ chart_front wording slots part) }
 {
-    push_head(page, language)?;
-    push_run(page, language, slots)?;
-    push_part(page, language, stretch_of(part, slots))?;
-    push_introduction(page, language)
+    push_head(page, wording)?;
+    push_run(page, wording, slots)?;
+    push_begin_if(page, wording, wording.start)?;
+    push_part(page, wording, stretch_of(part, slots))?;
+    push_introduction(page, wording)
 }
 
 /// The page of a chart.
@@ -300,7 +322,7 @@ fn page_of(
         return Err(ReportFault::Cells);
     }
     let mut page = Page::new(alloc);
-    push_front(&mut page, view.language, slots, view.part)?;
+    push_front(&mut page, view.wording, slots, view.part)?;
     push_sections(alloc, &mut page, view, orders, records, readings)?;
     page.markup(FOOT)?;
     Ok(page)
@@ -335,27 +357,27 @@ pub fn chart_octets(
 /// Appends the sections of a group under its number, if there are any.
 fn push_folded(
     page: &mut Page,
-    language: Language,
+    wording: Wording,
     group: u16,
     sections: &Page,
 ) -> Result<(), AllocError>
-    ensures { OnOk result (page.new ≡ page.old ++ folded language group sections.now) }
+    ensures { OnOk result (page.new ≡ page.old ++ folded wording group sections.now) }
 {
     if sections.octets().is_empty() {
         return Ok(());
     }
-    push_group(page, language, group)?;
+    push_group(page, wording, group)?;
     page.page(sections)?;
     page.markup(GROUP_FOOT)
 }
 
 /// Appends the front of a group.
 #[tactic(auto, unfolding(crate::specs::ChartText::group_front))]
-fn push_group(page: &mut Page, language: Language, group: u16) -> Result<(), AllocError>
-    ensures { OnOk result (page.new ≡ page.old ++ group_front language group) }
+fn push_group(page: &mut Page, wording: Wording, group: u16) -> Result<(), AllocError>
+    ensures { OnOk result (page.new ≡ page.old ++ group_front wording group) }
 {
     page.markup(GROUP)?;
-    page.word(language, Word::Group)?;
+    page.word(wording, Word::Group)?;
     page.number(u64::from(group))?;
     page.markup(GROUP_NAME_END)
 }
@@ -363,15 +385,15 @@ fn push_group(page: &mut Page, language: Language, group: u16) -> Result<(), All
 /// Appends the front of the page, if the group is the first.
 fn push_front_if_first(
     page: &mut Page,
-    language: Language,
+    wording: Wording,
     slots: u16,
     group: u16,
     part: Option<Part>,
 ) -> Result<(), AllocError>
-    ensures { OnOk result (page.new ≡ page.old ++ front_if_first language slots group part) }
+    ensures { OnOk result (page.new ≡ page.old ++ front_if_first wording slots group part) }
 {
     if group == 0 {
-        push_front(page, language, slots, part)?;
+        push_front(page, wording, slots, part)?;
     }
     Ok(())
 }
@@ -411,8 +433,8 @@ pub fn part_octets(
     let mut sections = Page::new(alloc);
     push_sections(alloc, &mut sections, view, orders, records, readings)?;
     let mut page = Page::new(alloc);
-    push_front_if_first(&mut page, view.language, slots, group, view.part)?;
-    push_folded(&mut page, view.language, group, &sections)?;
+    push_front_if_first(&mut page, view.wording, slots, group, view.part)?;
+    push_folded(&mut page, view.wording, group, &sections)?;
     push_foot_if(&mut page, is_last)?;
     Ok(page.into_octets())
 }

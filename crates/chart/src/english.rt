@@ -25,6 +25,8 @@ pub(crate) fn english(word: Word) -> &'static str
         Word::Run => "A run of ",
         Word::Slots => " slots of 1.883 s, ",
         Word::Slot => " slot of 1.883 s, ",
+        Word::Begins => " Slot 0 begins at ",
+        Word::BeginsEnd => "; times are of the day, in UTC.",
         Word::Part => " Drawn from slot ",
         Word::PartTo => " to slot ",
         Word::Introduction => INTRODUCTION,

@@ -8,7 +8,7 @@ ghost use Rattle.chart.specs.Facts.{facts_of, facts_text, fullest_text, hundredt
 
 use crate::page::Page;
 use crate::time::push_time;
-use crate::word::{Language, Word};
+use crate::word::{Word, Wording};
 use admission::SCALE;
 use report::{Row, Showing};
 use std::alloc::AllocError;
@@ -101,31 +101,27 @@ pub(crate) fn hundredths(load: u64) -> u64
 #[tactic(auto, unfolding(crate::specs::Facts::fullest_text))]
 pub(crate) fn push_fullest(
     page: &mut Page,
-    language: Language,
+    wording: Wording,
     facts: Facts,
 ) -> Result<(), AllocError>
     requires { facts.most ≤ SCALE }
-    ensures { OnOk result (page.new ≡ page.old ++ fullest_text language facts) }
+    ensures { OnOk result (page.new ≡ page.old ++ fullest_text wording facts) }
 {
     page.number(hundredths(facts.most))?;
-    page.word(language, Word::ShareAt)?;
-    push_time(page, u32::from(facts.slot))
+    page.word(wording, Word::ShareAt)?;
+    push_time(page, wording.start, u32::from(facts.slot))
 }
 
 /// Appends what counts of a cell.
 #[tactic(auto, unfolding(crate::specs::Facts::facts_text))]
-pub(crate) fn push_facts(
-    page: &mut Page,
-    language: Language,
-    facts: Facts,
-) -> Result<(), AllocError>
+pub(crate) fn push_facts(page: &mut Page, wording: Wording, facts: Facts) -> Result<(), AllocError>
     requires { facts.most ≤ SCALE }
-    ensures { OnOk result (page.new ≡ page.old ++ facts_text language facts) }
+    ensures { OnOk result (page.new ≡ page.old ++ facts_text wording facts) }
 {
-    page.word(language, Word::Messages)?;
+    page.word(wording, Word::Messages)?;
     page.number(facts.messages as u64)?;
-    page.word(language, Word::Refused)?;
+    page.word(wording, Word::Refused)?;
     page.number(facts.refused as u64)?;
-    page.word(language, Word::Fullest)?;
-    push_fullest(page, language, facts)
+    page.word(wording, Word::Fullest)?;
+    push_fullest(page, wording, facts)
 }

@@ -28,6 +28,8 @@ pub(crate) fn german(word: Word) -> &'static str
         Word::Run => "Ein Lauf von ",
         Word::Slots => " Slots (Zeitschlitzen) zu 1,883 s, ",
         Word::Slot => " Slot (Zeitschlitz) zu 1,883 s, ",
+        Word::Begins => " Slot 0 beginnt um ",
+        Word::BeginsEnd => "; Zeiten sind Tageszeiten in UTC.",
         Word::Part => " Gezeichnet von Slot ",
         Word::PartTo => " bis Slot ",
         Word::Introduction => INTRODUCTION,

@@ -32,4 +32,4 @@ pub use chart::{chart_octets, part_octets};
 pub use fullest::{Fullest, fullest_of};
 pub use laws::chart_laws;
 pub use view::{Part, View};
-pub use word::Language;
+pub use word::{Language, Wording};

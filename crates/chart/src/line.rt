@@ -26,7 +26,7 @@ use crate::message::{
 use crate::page::Page;
 use crate::time::{push_slot, push_time_in_brackets};
 use crate::view::Stretch;
-use crate::word::{Language, Word};
+use crate::word::{Word, Wording};
 use bsc_table::CellRecord;
 use handset::Shown;
 use report::{BookOrders, NamedOrder, Row, Showing};
@@ -144,79 +144,79 @@ fn push_picture_size(page: &mut Page, stretch: Stretch) -> Result<(), AllocError
 #[tactic(auto, unfolding(crate::specs::ChartText::picture_front))]
 fn push_picture_front(
     page: &mut Page,
-    language: Language,
+    wording: Wording,
     stretch: Stretch,
     row: &Row,
 ) -> Result<(), AllocError>
-    ensures { OnOk result (page.new ≡ page.old ++ picture_front language stretch row.now) }
+    ensures { OnOk result (page.new ≡ page.old ++ picture_front wording stretch row.now) }
 {
     push_picture_size(page, stretch)?;
     page.markup(TITLE)?;
     push_name(page, row)?;
-    push_meaning(page, language, row.id)
+    push_meaning(page, wording.language, row.id)
 }
 
 /// Appends a period in slots.
 #[tactic(auto, unfolding(crate::specs::ChartText::slots_text))]
-fn push_slots(page: &mut Page, language: Language, period: u16) -> Result<(), AllocError>
-    ensures { OnOk result (page.new ≡ page.old ++ slots_text language period) }
+fn push_slots(page: &mut Page, wording: Wording, period: u16) -> Result<(), AllocError>
+    ensures { OnOk result (page.new ≡ page.old ++ slots_text wording period) }
 {
-    page.word(language, Word::Every)?;
+    page.word(wording, Word::Every)?;
     page.number(u64::from(period))
 }
 
 /// Appends a period in words.
-fn push_every(page: &mut Page, language: Language, period: u16) -> Result<(), AllocError>
-    ensures { OnOk result (page.new ≡ page.old ++ every_text language period) }
+fn push_every(page: &mut Page, wording: Wording, period: u16) -> Result<(), AllocError>
+    ensures { OnOk result (page.new ≡ page.old ++ every_text wording period) }
 {
     if period == 1 {
-        page.word(language, Word::EverySlot)
+        page.word(wording, Word::EverySlot)
     } else {
-        push_slots(page, language, period)
+        push_slots(page, wording, period)
     }
 }
 
 /// Appends from when to when an accepted message stands, and how often it is to be sent.
 #[tactic(auto, unfolding(crate::specs::ChartText::standing_text))]
-fn push_standing(page: &mut Page, language: Language, row: &Row) -> Result<(), AllocError>
-    ensures { OnOk result (page.new ≡ page.old ++ standing_text language row.now) }
+fn push_standing(page: &mut Page, wording: Wording, row: &Row) -> Result<(), AllocError>
+    ensures { OnOk result (page.new ≡ page.old ++ standing_text wording row.now) }
 {
-    page.word(language, Word::From)?;
-    push_slot(page, row.start)?;
-    page.word(language, Word::To)?;
-    push_slot(page, u32::from(row.end))?;
-    push_every(page, language, period_of(row.demand))
+    page.word(wording, Word::From)?;
+    push_slot(page, wording.start, row.start)?;
+    page.word(wording, Word::To)?;
+    push_slot(page, wording.start, u32::from(row.end))?;
+    push_every(page, wording, period_of(row.demand))
 }
 
 /// Appends after which slot a phone shows a message first, or that none does.
-fn push_first(page: &mut Page, language: Language, first: Option<u16>) -> Result<(), AllocError>
-    ensures { OnOk result (page.new ≡ page.old ++ first_text language first) }
+fn push_first(page: &mut Page, wording: Wording, first: Option<u16>) -> Result<(), AllocError>
+    ensures { OnOk result (page.new ≡ page.old ++ first_text wording first) }
 {
     match first {
-        None => page.word(language, Word::NotShown),
-        Some(slot) => push_shown_after(page, language, slot),
+        None => page.word(wording, Word::NotShown),
+        Some(slot) => push_shown_after(page, wording, slot),
     }
 }
 
 /// Appends the slot after which a phone shows a message first, and when it is over.
 #[tactic(auto, unfolding(crate::specs::ChartText::shown_after))]
-fn push_shown_after(page: &mut Page, language: Language, slot: u16) -> Result<(), AllocError>
-    ensures { OnOk result (page.new ≡ page.old ++ shown_after language slot) }
+fn push_shown_after(page: &mut Page, wording: Wording, slot: u16) -> Result<(), AllocError>
+    ensures { OnOk result (page.new ≡ page.old ++ shown_after wording slot) }
 {
-    page.word(language, Word::Shown)?;
+    page.word(wording, Word::Shown)?;
     page.number(u64::from(slot))?;
-    push_time_in_brackets(page, u32::from(slot) + 1)
+    push_time_in_brackets(page, wording.start, u32::from(slot) + 1)
 }
 
 /// Appends what the title says of an accepted message after its name.
 #[tactic(auto, unfolding(crate::specs::ChartText::message_title))]
-fn push_message_title(page: &mut Page, language: Language, row: &Row) -> Result<(), AllocError>
-    ensures { OnOk result (page.new ≡ page.old ++ message_title language row.now) }
+fn push_message_title(page: &mut Page, wording: Wording, row: &Row) -> Result<(), AllocError>
+    ensures { OnOk result (page.new ≡ page.old ++ message_title wording row.now) }
 {
-    push_standing(page, language, row)?;
-    page.word(language, Word::Whole)?;
+    push_standing(page, wording, row)?;
+    page.word(wording, Word::Whole)?;
     page.number(u64::from(row.completed))?;
-    push_first(page, language, row.first_shown)
+    push_first(page, wording, row.first_shown)
 }
 
 /// Appends the front of the bar of an accepted message, up to its start.
@@ -245,17 +245,17 @@ fn push_bar(page: &mut Page, stretch: Stretch, row: &Row) -> Result<(), AllocErr
 #[tactic(auto, unfolding(crate::specs::ChartText::message_name))]
 fn push_message_name(
     page: &mut Page,
-    language: Language,
+    wording: Wording,
     orders: &BookOrders,
     row: &Row,
     found: Option<KeptMessage>,
 ) -> Result<(), AllocError>
     ensures { OnOk result (page.new
-        ≡ page.old ++ message_name language orders.now row.now (option_map accepted_kept found)) }
+        ≡ page.old ++ message_name wording orders.now row.now (option_map accepted_kept found)) }
 {
     push_line_front(page, orders, row)?;
     page.markup(NAME_END)?;
-    page.markup(category_words(language, found))?;
+    page.markup(category_words(wording.language, found))?;
     page.markup(CATEGORY_END)
 }
 
@@ -272,45 +272,45 @@ fn number_word(whole: usize) -> Word
 
 /// Appends the number of a message's whole broadcasts in words.
 #[tactic(auto, unfolding(crate::specs::ChartText::number_text))]
-fn push_number(page: &mut Page, language: Language, whole: usize) -> Result<(), AllocError>
-    ensures { OnOk result (page.new ≡ page.old ++ number_text language whole) }
+fn push_number(page: &mut Page, wording: Wording, whole: usize) -> Result<(), AllocError>
+    ensures { OnOk result (page.new ≡ page.old ++ number_text wording whole) }
 {
     page.markup(SMALL)?;
     page.number(whole as u64)?;
-    page.word(language, number_word(whole))?;
+    page.word(wording, number_word(whole))?;
     page.markup(SMALL_END)
 }
 
 /// Appends it, where it stands in place of marks.
 fn push_number_if(
     page: &mut Page,
-    language: Language,
+    wording: Wording,
     number: Option<usize>,
 ) -> Result<(), AllocError>
-    ensures { OnOk result (page.new ≡ page.old ++ number_if language number) }
+    ensures { OnOk result (page.new ≡ page.old ++ number_if wording number) }
 {
     match number {
         None => Ok(()),
-        Some(whole) => push_number(page, language, whole),
+        Some(whole) => push_number(page, wording, whole),
     }
 }
 
 /// Appends that no phone shows a message.
 #[tactic(auto, unfolding(crate::specs::ChartText::not_shown_text))]
-fn push_not_shown(page: &mut Page, language: Language) -> Result<(), AllocError>
-    ensures { OnOk result (page.new ≡ page.old ++ not_shown_text language) }
+fn push_not_shown(page: &mut Page, wording: Wording) -> Result<(), AllocError>
+    ensures { OnOk result (page.new ≡ page.old ++ not_shown_text wording) }
 {
     page.markup(SMALL)?;
-    page.word(language, Word::Unseen)?;
+    page.word(wording, Word::Unseen)?;
     page.markup(SMALL_END)
 }
 
 /// Appends it of an accepted message that none shows.
-fn push_unseen(page: &mut Page, language: Language, shown: Showing) -> Result<(), AllocError>
-    ensures { OnOk result (page.new ≡ page.old ++ unseen_text language shown) }
+fn push_unseen(page: &mut Page, wording: Wording, shown: Showing) -> Result<(), AllocError>
+    ensures { OnOk result (page.new ≡ page.old ++ unseen_text wording shown) }
 {
     match shown {
-        Showing::No => push_not_shown(page, language),
+        Showing::No => push_not_shown(page, wording),
         Showing::Yes | Showing::Refused(_) => Ok(()),
     }
 }
@@ -319,7 +319,7 @@ fn push_unseen(page: &mut Page, language: Language, shown: Showing) -> Result<()
 #[tactic(auto, unfolding(crate::specs::ChartText::message_front))]
 fn push_message_front(
     page: &mut Page,
-    language: Language,
+    wording: Wording,
     orders: &BookOrders,
     row: &Row,
     found: Option<KeptMessage>,
@@ -327,11 +327,11 @@ fn push_message_front(
     text: &str,
 ) -> Result<(), AllocError>
     ensures { OnOk result (page.new ≡ page.old
-        ++ message_front language orders.now row.now (option_map accepted_kept found) number text.now) }
+        ++ message_front wording orders.now row.now (option_map accepted_kept found) number text.now) }
 {
-    push_message_name(page, language, orders, row, found)?;
-    push_number_if(page, language, number)?;
-    push_unseen(page, language, row.shown)?;
+    push_message_name(page, wording, orders, row, found)?;
+    push_number_if(page, wording, number)?;
+    push_unseen(page, wording, row.shown)?;
     page.markup(TEXT)?;
     page.text(text)?;
     page.markup(TEXT_END)
@@ -351,52 +351,52 @@ fn push_message_end(page: &mut Page, stretch: Stretch, first: Option<u16>) -> Re
 #[tactic(auto, unfolding(crate::specs::ChartText::refusal_front))]
 fn push_refusal_front(
     page: &mut Page,
-    language: Language,
+    wording: Wording,
     orders: &BookOrders,
     row: &Row,
     cause: u8,
 ) -> Result<(), AllocError>
-    ensures { OnOk result (page.new ≡ page.old ++ refusal_front language orders.now row.now cause) }
+    ensures { OnOk result (page.new ≡ page.old ++ refusal_front wording orders.now row.now cause) }
 {
     push_line_front(page, orders, row)?;
     page.markup(CAUSE)?;
-    page.word(language, Word::RefusedBecause)?;
-    push_cause(page, language, cause)?;
+    page.word(wording, Word::RefusedBecause)?;
+    push_cause(page, wording.language, cause)?;
     page.markup(CAUSE_END)
 }
 
 /// Appends what the title says of a refused order after its name.
 #[tactic(auto, unfolding(crate::specs::ChartText::refusal_title))]
-fn push_refusal_title(page: &mut Page, language: Language, row: &Row) -> Result<(), AllocError>
-    ensures { OnOk result (page.new ≡ page.old ++ refusal_title language row.now) }
+fn push_refusal_title(page: &mut Page, wording: Wording, row: &Row) -> Result<(), AllocError>
+    ensures { OnOk result (page.new ≡ page.old ++ refusal_title wording row.now) }
 {
-    page.word(language, Word::RefusedAt)?;
-    push_slot(page, row.start)
+    page.word(wording, Word::RefusedAt)?;
+    push_slot(page, wording.start, row.start)
 }
 
 /// Appends the picture of a refused order.
 #[tactic(auto, unfolding(crate::specs::ChartText::refusal_picture))]
 fn push_refusal_picture(
     page: &mut Page,
-    language: Language,
+    wording: Wording,
     stretch: Stretch,
     row: &Row,
 ) -> Result<(), AllocError>
-    ensures { OnOk result (page.new ≡ page.old ++ refusal_picture language stretch row.now) }
+    ensures { OnOk result (page.new ≡ page.old ++ refusal_picture wording stretch row.now) }
 {
-    push_picture_front(page, language, stretch, row)?;
-    push_refusal_title(page, language, row)?;
+    push_picture_front(page, wording, stretch, row)?;
+    push_refusal_title(page, wording, row)?;
     page.markup(REFUSAL)?;
     page.number(u64::from(row.start))?;
     page.markup(REFUSAL_END)
 }
 
-/// What the lines of a cell have in common: the language, the slots that are drawn, the orders of the book, the cell's
+/// What the lines of a cell have in common: the words and the clock, the slots that are drawn, the orders of the book, the cell's
 /// record, what a handset shows of its blocks, and the messages that its log accepted.
 #[derive(Clone, Copy)]
 pub(crate) struct CellContext<'a> {
     pub(crate) alloc: Global,
-    pub(crate) language: Language,
+    pub(crate) wording: Wording,
     pub(crate) stretch: Stretch,
     pub(crate) orders: &'a BookOrders,
     pub(crate) run: &'a CellRecord,
@@ -421,7 +421,7 @@ impl<'a> CellContext<'a> {
     fn push_seen(&self, page: &mut Page, row: &Row) -> Result<(), AllocError>
         requires { IsContext self.now }
         ensures { OnOk result (page.new ≡ page.old
-            ++ message_line self.now.language self.now.run.now self.now.stretch self.now.orders.now row.now
+            ++ message_line self.now.wording self.now.run.now self.now.stretch self.now.orders.now row.now
             (accepted_named row.now.id row.now.serial self.now.run.now.log)
             (text_shown (messages_shown self.now.shown.now) row.now.id row.now.serial)) }
     {
@@ -433,7 +433,7 @@ impl<'a> CellContext<'a> {
     fn push_unseen(&self, page: &mut Page, row: &Row) -> Result<(), AllocError>
         requires { IsContext self.now }
         ensures { OnOk result (page.new ≡ page.old
-            ++ message_line self.now.language self.now.run.now self.now.stretch self.now.orders.now row.now
+            ++ message_line self.now.wording self.now.run.now self.now.stretch self.now.orders.now row.now
             (accepted_named row.now.id row.now.serial self.now.run.now.log)
             (text_asked self.now.run.now.log
             (accepted_named row.now.id row.now.serial self.now.run.now.log))) }
@@ -446,14 +446,14 @@ impl<'a> CellContext<'a> {
     fn push_message(&self, page: &mut Page, row: &Row, text: &str) -> Result<(), AllocError>
         requires { IsContext self.now }
         ensures { OnOk result (page.new ≡ page.old
-            ++ message_line self.now.language self.now.run.now self.now.stretch self.now.orders.now row.now
+            ++ message_line self.now.wording self.now.run.now self.now.stretch self.now.orders.now row.now
             (accepted_named row.now.id row.now.serial self.now.run.now.log) text.now) }
     {
         let found = self.named(row);
         let number = number_instead(self.stretch, self.run.air(), found);
-        push_message_front(page, self.language, self.orders, row, found, number, text)?;
-        push_picture_front(page, self.language, self.stretch, row)?;
-        push_message_title(page, self.language, row)?;
+        push_message_front(page, self.wording, self.orders, row, found, number, text)?;
+        push_picture_front(page, self.wording, self.stretch, row)?;
+        push_message_title(page, self.wording, row)?;
         push_bar(page, self.stretch, row)?;
         push_drawn_marks(page, self.stretch, self.run.air(), found, number)?;
         push_message_end(page, self.stretch, row.first_shown)
@@ -462,17 +462,17 @@ impl<'a> CellContext<'a> {
     /// Appends the line of a refused order.
     fn push_refusal(&self, page: &mut Page, row: &Row, cause: u8) -> Result<(), AllocError>
         ensures { OnOk result (page.new ≡ page.old
-            ++ refusal_line self.now.language self.now.stretch self.now.orders.now row.now cause) }
+            ++ refusal_line self.now.wording self.now.stretch self.now.orders.now row.now cause) }
     {
-        push_refusal_front(page, self.language, self.orders, row, cause)?;
-        push_refusal_picture(page, self.language, self.stretch, row)
+        push_refusal_front(page, self.wording, self.orders, row, cause)?;
+        push_refusal_picture(page, self.wording, self.stretch, row)
     }
 
     /// Appends the line of a row.
     fn push_line(&self, page: &mut Page, row: &Row) -> Result<(), AllocError>
         requires { IsContext self.now }
         ensures { OnOk result (page.new ≡ page.old
-            ++ line_of self.now.language self.now.run.now self.now.stretch self.now.orders.now
+            ++ line_of self.now.wording self.now.run.now self.now.stretch self.now.orders.now
             (messages_shown self.now.shown.now) row.now) }
     {
         match row.shown {
@@ -486,7 +486,7 @@ impl<'a> CellContext<'a> {
     pub(crate) fn push_lines(&self, page: &mut Page, rows: &[Row]) -> Result<(), AllocError>
         requires { IsContext self.now }
         ensures { OnOk result (page.new ≡ page.old
-            ++ flat_map (line_of self.now.language self.now.run.now self.now.stretch self.now.orders.now
+            ++ flat_map (line_of self.now.wording self.now.run.now self.now.stretch self.now.orders.now
             (messages_shown self.now.shown.now)) rows.now) }
     {
         for row in rows {

@@ -19,7 +19,7 @@ ghost use Rattle.chart.specs.Message.{end_within};
 use crate::kept::KeptMessage;
 use crate::page::Page;
 use crate::view::Stretch;
-use crate::word::{Language, Word};
+use crate::word::{Word, Wording};
 use admission::SCALE;
 use std::alloc::{AllocError, Global};
 
@@ -267,22 +267,22 @@ fn push_width(page: &mut Page, stretch: Stretch) -> Result<(), AllocError>
 
 /// Appends the title of the picture.
 #[tactic(auto, unfolding(crate::specs::ChartText::load_title))]
-fn push_title(page: &mut Page, language: Language) -> Result<(), AllocError>
-    ensures { OnOk result (page.new ≡ page.old ++ load_title language) }
+fn push_title(page: &mut Page, wording: Wording) -> Result<(), AllocError>
+    ensures { OnOk result (page.new ≡ page.old ++ load_title wording) }
 {
     page.markup(LOAD_TITLE)?;
-    page.word(language, Word::Load)?;
+    page.word(wording, Word::Load)?;
     page.markup(LOAD_PATH)
 }
 
 /// Appends the front of the picture, up to the begin of the line.
 #[tactic(auto, unfolding(crate::specs::ChartText::load_front))]
-fn push_front(page: &mut Page, language: Language, stretch: Stretch) -> Result<(), AllocError>
-    ensures { OnOk result (page.new ≡ page.old ++ load_front language stretch) }
+fn push_front(page: &mut Page, wording: Wording, stretch: Stretch) -> Result<(), AllocError>
+    ensures { OnOk result (page.new ≡ page.old ++ load_front wording stretch) }
 {
     push_width(page, stretch)?;
     push_bottom(page)?;
-    push_title(page, language)?;
+    push_title(page, wording)?;
     page.number(u64::from(stretch.from))?;
     page.markup(LOAD_BOX)?;
     push_bottom(page)
@@ -304,16 +304,16 @@ fn push_end(page: &mut Page, to: u16) -> Result<(), AllocError>
 #[tactic(auto, unfolding(crate::specs::ChartText::load_shape))]
 pub(crate) fn push_shape(
     page: &mut Page,
-    language: Language,
+    wording: Wording,
     stretch: Stretch,
     loads: &[u64],
 ) -> Result<(), AllocError>
     requires width { length loads.now ≡ width_of stretch }
     requires ordered { stretch.from ≤ stretch.to }
     ensures { OnOk result ((r : Record) → AreLoadsFrom stretch.from (claims_in r.log) loads.now
-        → page.new ≡ page.old ++ load_shape language r stretch) }
+        → page.new ≡ page.old ++ load_shape wording r stretch) }
 {
-    push_front(page, language, stretch)?;
+    push_front(page, wording, stretch)?;
     push_line(page, stretch.from, loads)?;
     push_end(page, stretch.to)
 }
@@ -321,18 +321,18 @@ pub(crate) fn push_shape(
 /// Appends the line of the loads that are reserved at the slots that are drawn.
 pub(crate) fn push_loads(
     page: &mut Page,
-    language: Language,
+    wording: Wording,
     stretch: Stretch,
     loads: &[u64],
 ) -> Result<(), AllocError>
     requires width { length loads.now ≡ width_of stretch }
     requires ordered { stretch.from ≤ stretch.to }
     ensures { OnOk result ((r : Record) → AreLoadsFrom stretch.from (claims_in r.log) loads.now
-        → page.new ≡ page.old ++ load_picture language r stretch) }
+        → page.new ≡ page.old ++ load_picture wording r stretch) }
 {
     page.markup(LOAD)?;
-    page.word(language, Word::Load)?;
+    page.word(wording, Word::Load)?;
     page.markup(LOAD_NAMED)?;
-    push_shape(page, language, stretch, loads)?;
+    push_shape(page, wording, stretch, loads)?;
     page.markup(LOAD_END)
 }

@@ -4,9 +4,9 @@ ghost use Rattle.std.specs.Prelude.{◌≡◌, ◌++◌, [], OnOk};
 ghost use Rattle.std.specs.Fmt.{decimal};
 ghost use Rattle.hex.specs.Hex.{encode_lower};
 ghost use Rattle.chart.specs.Escape.{escaped, escaped_octet};
-ghost use Rattle.chart.specs.Words.{word_in};
+ghost use Rattle.chart.specs.Words.{word_by};
 
-use crate::word::{Language, Word, word_in};
+use crate::word::{Word, Wording, word_in};
 use std::alloc::{AllocError, Global};
 use std::marker::Model;
 
@@ -51,12 +51,12 @@ impl Page {
         self.octets.extend_from_slice(markup.as_bytes())
     }
 
-    /// Appends a word in a language.
-    pub fn word(&mut self, language: Language, word: Word) -> Result<(), AllocError>
-        ensures { OnOk result (self.new ≡ self.old ++ word_in language word) }
+    /// Appends a word.
+    pub fn word(&mut self, wording: Wording, word: Word) -> Result<(), AllocError>
+        ensures { OnOk result (self.new ≡ self.old ++ word_by wording word) }
     {
         self.octets
-            .extend_from_slice(word_in(language, word).as_bytes())
+            .extend_from_slice(word_in(wording.language, word).as_bytes())
     }
 
     /// Appends all of another page.
@@ -79,6 +79,13 @@ impl Page {
         ensures { OnOk result (self.new ≡ self.old ++ escaped text.now) }
     {
         push_escaped(&mut self.octets, text.as_bytes())
+    }
+
+    /// The same of the octets of one.
+    pub fn text_octets(&mut self, text: &[u8]) -> Result<(), AllocError>
+        ensures { OnOk result (self.new ≡ self.old ++ escaped text.now) }
+    {
+        push_escaped(&mut self.octets, text)
     }
 
     /// Appends a number.

@@ -8,7 +8,7 @@ ghost use Rattle.chart.specs.Panels.{span_text, strip_at, strip_front};
 
 use crate::page::Page;
 use crate::panel::{Panel, cells_like, is_any_like};
-use crate::word::{Language, Word};
+use crate::word::{Word, Wording};
 use cbsp_wire::Cell;
 use std::alloc::{AllocError, Global};
 
@@ -68,14 +68,14 @@ fn are_in_turn(first: Cell, cells: &[Cell]) -> bool
 #[tactic(auto, unfolding(crate::specs::Panels::span_text))]
 fn push_span(
     page: &mut Page,
-    language: Language,
+    wording: Wording,
     first: Cell,
     cells: &[Cell],
 ) -> Result<(), AllocError>
-    ensures { OnOk result (page.new ≡ page.old ++ span_text language first (length cells.now)) }
+    ensures { OnOk result (page.new ≡ page.old ++ span_text wording first (length cells.now)) }
 {
     push_name(page, first)?;
-    page.word(language, Word::To)?;
+    page.word(wording, Word::To)?;
     page.number(u64::from(first.lac))?;
     page.markup(DASH)?;
     page.number(u64::from(first.ci) + cells.len().saturating_sub(1) as u64)?;
@@ -104,14 +104,14 @@ fn push_list(page: &mut Page, cells: &[Cell]) -> Result<(), AllocError>
 /// Appends the names of several cells.
 fn push_names(
     page: &mut Page,
-    language: Language,
+    wording: Wording,
     first: Cell,
     cells: &[Cell],
 ) -> Result<(), AllocError>
-    ensures { OnOk result (page.new ≡ page.old ++ names_text language first cells.now) }
+    ensures { OnOk result (page.new ≡ page.old ++ names_text wording first cells.now) }
 {
     if are_in_turn(first, cells) {
-        push_span(page, language, first, cells)
+        push_span(page, wording, first, cells)
     } else {
         push_list(page, cells)
     }
@@ -119,10 +119,10 @@ fn push_names(
 
 /// Appends the heading of one cell.
 #[tactic(auto, unfolding(crate::specs::Panels::one_heading))]
-fn push_one_heading(page: &mut Page, language: Language, cell: Cell) -> Result<(), AllocError>
-    ensures { OnOk result (page.new ≡ page.old ++ one_heading language cell) }
+fn push_one_heading(page: &mut Page, wording: Wording, cell: Cell) -> Result<(), AllocError>
+    ensures { OnOk result (page.new ≡ page.old ++ one_heading wording cell) }
 {
-    page.word(language, Word::Cell)?;
+    page.word(wording, Word::Cell)?;
     push_name(page, cell)
 }
 
@@ -130,31 +130,31 @@ fn push_one_heading(page: &mut Page, language: Language, cell: Cell) -> Result<(
 #[tactic(auto, unfolding(crate::specs::Panels::heading_of_all))]
 fn push_heading_of_all(
     page: &mut Page,
-    language: Language,
+    wording: Wording,
     first: Cell,
     cells: &[Cell],
 ) -> Result<(), AllocError>
-    ensures { OnOk result (page.new ≡ page.old ++ heading_of_all language first cells.now) }
+    ensures { OnOk result (page.new ≡ page.old ++ heading_of_all wording first cells.now) }
 {
-    page.word(language, Word::Cells)?;
-    push_names(page, language, first, cells)?;
+    page.word(wording, Word::Cells)?;
+    push_names(page, wording, first, cells)?;
     page.number(cells.len() as u64)?;
-    page.word(language, Word::CellsEnd)
+    page.word(wording, Word::CellsEnd)
 }
 
 /// Appends the heading of cells.
 fn push_heading(
     page: &mut Page,
-    language: Language,
+    wording: Wording,
     first: Cell,
     cells: &[Cell],
 ) -> Result<(), AllocError>
-    ensures { OnOk result (page.new ≡ page.old ++ heading language first cells.now) }
+    ensures { OnOk result (page.new ≡ page.old ++ heading wording first cells.now) }
 {
     if cells.len() <= 1 {
-        push_one_heading(page, language, first)
+        push_one_heading(page, wording, first)
     } else {
-        push_heading_of_all(page, language, first, cells)
+        push_heading_of_all(page, wording, first, cells)
     }
 }
 
@@ -162,35 +162,35 @@ fn push_heading(
 #[tactic(auto, unfolding(crate::specs::Panels::section_front))]
 fn push_section_front(
     page: &mut Page,
-    language: Language,
+    wording: Wording,
     first: Cell,
     cells: &[Cell],
 ) -> Result<(), AllocError>
-    ensures { OnOk result (page.new ≡ page.old ++ section_front language first cells.now) }
+    ensures { OnOk result (page.new ≡ page.old ++ section_front wording first cells.now) }
 {
     page.markup(SECTION)?;
     push_name(page, first)?;
     page.markup(SECTION_NAME)?;
-    push_heading(page, language, first, cells)
+    push_heading(page, wording, first, cells)
 }
 
 /// Appends the section of the cells with the contents of a panel, if it is the first of them.
 fn push_section(
     alloc: Global,
     page: &mut Page,
-    language: Language,
+    wording: Wording,
     all: &[Panel],
     place: usize,
 ) -> Result<(), AllocError>
     requires { place < length all.now }
-    ensures { OnOk result (page.new ≡ page.old ++ section_at language all.now place) }
+    ensures { OnOk result (page.new ≡ page.old ++ section_at wording all.now place) }
 {
     let panel = &all[place];
     if is_any_like(panel, &all[..place]) {
         return Ok(());
     }
     let cells = cells_like(alloc, panel, all)?;
-    push_section_front(page, language, panel.cell, &cells)?;
+    push_section_front(page, wording, panel.cell, &cells)?;
     page.page(&panel.contents)
 }
 
@@ -198,53 +198,53 @@ fn push_section(
 fn push_each_section(
     alloc: Global,
     page: &mut Page,
-    language: Language,
+    wording: Wording,
     all: &[Panel],
 ) -> Result<(), AllocError>
     ensures { OnOk result (page.new ≡ page.old
-        ++ flat_map (section_at language all.now) (range_with_len 0 (length all.now))) }
+        ++ flat_map (section_at wording all.now) (range_with_len 0 (length all.now))) }
 {
     for place in 0..all.len() {
-        push_section(alloc, page, language, all, place)?;
+        push_section(alloc, page, wording, all, place)?;
     }
     Ok(())
 }
 
 /// Appends how many more cells there are.
 #[tactic(auto, unfolding(crate::specs::Panels::more_text))]
-fn push_more(page: &mut Page, language: Language, more: usize) -> Result<(), AllocError>
-    ensures { OnOk result (page.new ≡ page.old ++ more_text language more) }
+fn push_more(page: &mut Page, wording: Wording, more: usize) -> Result<(), AllocError>
+    ensures { OnOk result (page.new ≡ page.old ++ more_text wording more) }
 {
-    page.word(language, Word::And)?;
+    page.word(wording, Word::And)?;
     page.number(more as u64)?;
-    page.word(language, Word::More)
+    page.word(wording, Word::More)
 }
 
 /// Appends it, if there are any.
-fn push_more_if(page: &mut Page, language: Language, more: usize) -> Result<(), AllocError>
-    ensures { OnOk result (page.new ≡ page.old ++ more_if language more) }
+fn push_more_if(page: &mut Page, wording: Wording, more: usize) -> Result<(), AllocError>
+    ensures { OnOk result (page.new ≡ page.old ++ more_if wording more) }
 {
     if more == 0 {
         return Ok(());
     }
-    push_more(page, language, more)
+    push_more(page, wording, more)
 }
 
 /// Appends the front of a strip, up to its picture.
 #[tactic(auto, unfolding(crate::specs::Panels::strip_front))]
 fn push_strip_front(
     page: &mut Page,
-    language: Language,
+    wording: Wording,
     first: Cell,
     number: usize,
 ) -> Result<(), AllocError>
-    ensures { OnOk result (page.new ≡ page.old ++ strip_front language first number) }
+    ensures { OnOk result (page.new ≡ page.old ++ strip_front wording first number) }
 {
     page.markup(STRIP)?;
     push_name(page, first)?;
     page.markup(STRIP_NAME)?;
     push_name(page, first)?;
-    push_more_if(page, language, number.saturating_sub(1))?;
+    push_more_if(page, wording, number.saturating_sub(1))?;
     page.markup(STRIP_PICTURE)
 }
 
@@ -252,19 +252,19 @@ fn push_strip_front(
 fn push_strip(
     alloc: Global,
     page: &mut Page,
-    language: Language,
+    wording: Wording,
     all: &[Panel],
     place: usize,
 ) -> Result<(), AllocError>
     requires { place < length all.now }
-    ensures { OnOk result (page.new ≡ page.old ++ strip_at language all.now place) }
+    ensures { OnOk result (page.new ≡ page.old ++ strip_at wording all.now place) }
 {
     let panel = &all[place];
     if is_any_like(panel, &all[..place]) {
         return Ok(());
     }
     let cells = cells_like(alloc, panel, all)?;
-    push_strip_front(page, language, panel.cell, cells.len())?;
+    push_strip_front(page, wording, panel.cell, cells.len())?;
     page.page(&panel.strip)
 }
 
@@ -272,14 +272,14 @@ fn push_strip(
 fn push_each_strip(
     alloc: Global,
     page: &mut Page,
-    language: Language,
+    wording: Wording,
     all: &[Panel],
 ) -> Result<(), AllocError>
     ensures { OnOk result (page.new ≡ page.old
-        ++ flat_map (strip_at language all.now) (range_with_len 0 (length all.now))) }
+        ++ flat_map (strip_at wording all.now) (range_with_len 0 (length all.now))) }
 {
     for place in 0..all.len() {
-        push_strip(alloc, page, language, all, place)?;
+        push_strip(alloc, page, wording, all, place)?;
     }
     Ok(())
 }
@@ -288,18 +288,18 @@ fn push_each_strip(
 fn push_overview(
     alloc: Global,
     page: &mut Page,
-    language: Language,
+    wording: Wording,
     all: &[Panel],
 ) -> Result<(), AllocError>
-    ensures { OnOk result (page.new ≡ page.old ++ overview language all.now) }
+    ensures { OnOk result (page.new ≡ page.old ++ overview wording all.now) }
 {
     if all.len() <= 1 {
         return Ok(());
     }
     page.markup(OVERVIEW)?;
-    page.word(language, Word::Overview)?;
+    page.word(wording, Word::Overview)?;
     page.markup(OVERVIEW_NAMED)?;
-    push_each_strip(alloc, page, language, all)?;
+    push_each_strip(alloc, page, wording, all)?;
     page.markup(OVERVIEW_END)
 }
 
@@ -307,11 +307,11 @@ fn push_overview(
 pub(crate) fn push_all(
     alloc: Global,
     page: &mut Page,
-    language: Language,
+    wording: Wording,
     all: &[Panel],
 ) -> Result<(), AllocError>
-    ensures { OnOk result (page.new ≡ page.old ++ sections_text language all.now) }
+    ensures { OnOk result (page.new ≡ page.old ++ sections_text wording all.now) }
 {
-    push_overview(alloc, page, language, all)?;
-    push_each_section(alloc, page, language, all)
+    push_overview(alloc, page, wording, all)?;
+    push_each_section(alloc, page, wording, all)
 }

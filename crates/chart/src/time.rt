@@ -2,14 +2,15 @@
 
 ghost use Rattle.std.specs.Prelude.{◌≡◌, ◌<◌, ◌≤◌, ◌++◌, OnOk};
 ghost use Rattle.std.specs.List.{flat_map, range_with_len};
-ghost use Rattle.chart.specs.Time.{axis, clock_text, first_number, has_few, place_text, seconds_at, slot_text, step_in};
-ghost use Rattle.chart.specs.Time.{step_of, tick};
+ghost use Rattle.chart.specs.Time.{axis, clock_text, day_begun, first_number, has_few, hours_text, place_of, place_text};
+ghost use Rattle.chart.specs.Time.{seconds_at, slot_text, step_in, step_of, tick};
 ghost use Rattle.chart.specs.declared.time.TheConstants.{MOST_TICKS};
 ghost use Rattle.chart.specs.Time.{tick_front, tick_within, ticks, time_in_brackets, time_text, two_digits};
 
 use crate::page::Page;
 use crate::view::Stretch;
-use crate::word::{Language, Word};
+use crate::word::{Word, Wording};
+use slot_times::Start;
 use std::alloc::AllocError;
 
 /// Between hours, minutes and seconds.
@@ -60,12 +61,34 @@ fn push_two_digits(page: &mut Page, number: u64) -> Result<(), AllocError>
     page.number(number % 10)
 }
 
-/// Appends this many seconds as hours, minutes and seconds.
-#[tactic(auto, unfolding(crate::specs::Time::clock_text))]
-fn push_clock(page: &mut Page, seconds: u64) -> Result<(), AllocError>
-    ensures { OnOk result (page.new ≡ page.old ++ clock_text seconds) }
+/// How many microseconds of its day, in UTC, had passed when slot 0 began, if that is known.
+fn day_begun(start: Option<Start>) -> u64
+    ensures value { result ≡ day_begun start }
+    ensures bound { result < 86400000000 }
 {
-    page.number(seconds / 3600)?;
+    match start {
+        None => 0,
+        Some(start) => start.microseconds % 86_400_000_000,
+    }
+}
+
+/// Appends the hours of this many seconds, or of their day.
+#[tactic(auto, unfolding(crate::specs::Time::hours_text))]
+fn push_hours(page: &mut Page, start: Option<Start>, seconds: u64) -> Result<(), AllocError>
+    ensures { OnOk result (page.new ≡ page.old ++ hours_text start seconds) }
+{
+    match start {
+        None => page.number(seconds / 3600),
+        Some(_) => push_two_digits(page, seconds / 3600 % 24),
+    }
+}
+
+/// Appends this many seconds as hours, minutes and seconds, or as the time of day.
+#[tactic(auto, unfolding(crate::specs::Time::clock_text))]
+fn push_clock(page: &mut Page, start: Option<Start>, seconds: u64) -> Result<(), AllocError>
+    ensures { OnOk result (page.new ≡ page.old ++ clock_text start seconds) }
+{
+    push_hours(page, start, seconds)?;
     page.markup(COLON)?;
     push_two_digits(page, seconds / 60 % 60)?;
     page.markup(COLON)?;
@@ -73,38 +96,42 @@ fn push_clock(page: &mut Page, seconds: u64) -> Result<(), AllocError>
 }
 
 /// When a slot begins, cut down to whole seconds. A slot lasts 8 * 51 frames of 120/26 ms (3GPP TS 45.002), which are
-/// 24480/13 ms.
-fn seconds_at(slot: u32) -> u64
-    ensures { result ≡ seconds_at slot }
+/// 24480000/13 microseconds.
+fn seconds_at(start: Option<Start>, slot: u32) -> u64
+    ensures { result ≡ seconds_at start slot }
 {
-    u64::from(slot) * 24480 / 13000
+    (day_begun(start) * 13 + u64::from(slot) * 24_480_000) / 13_000_000
 }
 
 /// Appends when a slot begins.
 #[tactic(auto, unfolding(crate::specs::Time::time_text))]
-pub(crate) fn push_time(page: &mut Page, slot: u32) -> Result<(), AllocError>
-    ensures { OnOk result (page.new ≡ page.old ++ time_text slot) }
+pub(crate) fn push_time(page: &mut Page, start: Option<Start>, slot: u32) -> Result<(), AllocError>
+    ensures { OnOk result (page.new ≡ page.old ++ time_text start slot) }
 {
-    push_clock(page, seconds_at(slot))
+    push_clock(page, start, seconds_at(start, slot))
 }
 
 /// Appends that time in brackets.
 #[tactic(auto, unfolding(crate::specs::Time::time_in_brackets))]
-pub(crate) fn push_time_in_brackets(page: &mut Page, slot: u32) -> Result<(), AllocError>
-    ensures { OnOk result (page.new ≡ page.old ++ time_in_brackets slot) }
+pub(crate) fn push_time_in_brackets(
+    page: &mut Page,
+    start: Option<Start>,
+    slot: u32,
+) -> Result<(), AllocError>
+    ensures { OnOk result (page.new ≡ page.old ++ time_in_brackets start slot) }
 {
     page.markup(BRACKET)?;
-    push_time(page, slot)?;
+    push_time(page, start, slot)?;
     page.markup(BRACKET_END)
 }
 
 /// Appends a slot and its time.
 #[tactic(auto, unfolding(crate::specs::Time::slot_text))]
-pub(crate) fn push_slot(page: &mut Page, slot: u32) -> Result<(), AllocError>
-    ensures { OnOk result (page.new ≡ page.old ++ slot_text slot) }
+pub(crate) fn push_slot(page: &mut Page, start: Option<Start>, slot: u32) -> Result<(), AllocError>
+    ensures { OnOk result (page.new ≡ page.old ++ slot_text start slot) }
 {
     page.number(u64::from(slot))?;
-    push_time_in_brackets(page, slot)
+    push_time_in_brackets(page, start, slot)
 }
 
 /// Whether a run of this many seconds lasts less than six such steps.
@@ -165,88 +192,113 @@ fn push_tick_front(page: &mut Page, width: u16, place: u64) -> Result<(), AllocE
     page.markup(TICK_PLACED)
 }
 
+/// Where a time stands on the axis, in hundredths of a slot.
+fn place_of(start: Option<Start>, seconds: u32) -> u64
+    ensures { result ≡ place_of start seconds }
+{
+    (u64::from(seconds) * 1_000_000).saturating_sub(day_begun(start)) * 1300 / 24_480_000
+}
+
 /// Appends the tick of a time.
 #[tactic(auto, unfolding(crate::specs::Time::tick))]
-fn push_tick(page: &mut Page, stretch: Stretch, seconds: u32) -> Result<(), AllocError>
-    ensures { OnOk result (page.new ≡ page.old ++ tick stretch seconds) }
+fn push_tick(
+    page: &mut Page,
+    start: Option<Start>,
+    stretch: Stretch,
+    seconds: u32,
+) -> Result<(), AllocError>
+    ensures { OnOk result (page.new ≡ page.old ++ tick start stretch seconds) }
 {
-    // In hundredths of a slot.
-    let place = u64::from(seconds) * 1_300_000 / 24480;
+    let place = place_of(start, seconds);
     let drawn = place.saturating_sub(u64::from(stretch.from) * 100);
     push_tick_front(page, stretch.width(), drawn)?;
     page.number(place / 100)?;
     page.markup(AT)?;
-    push_clock(page, u64::from(seconds))?;
+    push_clock(page, start, u64::from(seconds))?;
     page.markup(TICK_END)
 }
 
 /// Appends the tick of this number, unless it comes after what is drawn.
 fn push_tick_within(
     page: &mut Page,
+    start: Option<Start>,
     stretch: Stretch,
     step: u16,
     number: u16,
 ) -> Result<(), AllocError>
-    ensures { OnOk result (page.new ≡ page.old ++ tick_within stretch step number) }
+    ensures { OnOk result (page.new ≡ page.old ++ tick_within start stretch step number) }
 {
     let seconds = u32::from(number) * u32::from(step);
-    if u64::from(seconds) > seconds_at(u32::from(stretch.to)) {
+    if u64::from(seconds) > seconds_at(start, u32::from(stretch.to)) {
         return Ok(());
     }
-    push_tick(page, stretch, seconds)
+    push_tick(page, start, stretch, seconds)
 }
 
 /// Appends the most ticks that an axis may have, from this number on.
-fn push_ticks_by(page: &mut Page, stretch: Stretch, step: u16, first: u16) -> Result<(), AllocError>
+fn push_ticks_by(
+    page: &mut Page,
+    start: Option<Start>,
+    stretch: Stretch,
+    step: u16,
+    first: u16,
+) -> Result<(), AllocError>
     requires { first < 65000 }
     ensures { OnOk result (page.new ≡ page.old
-        ++ flat_map (tick_within stretch step) (range_with_len first MOST_TICKS)) }
+        ++ flat_map (tick_within start stretch step) (range_with_len first MOST_TICKS)) }
 {
     for number in first..first + MOST_TICKS {
-        push_tick_within(page, stretch, step, number)?;
+        push_tick_within(page, start, stretch, step, number)?;
     }
     Ok(())
 }
 
 /// The number of the first multiple of a step that doesn't come before a slot.
-fn first_number(from: u16, step: u16) -> u16
+fn first_number(start: Option<Start>, from: u16, step: u16) -> u16
     requires { 10 ≤ step }
-    ensures number { result ≡ first_number from step }
+    ensures number { result ≡ first_number start from step }
     ensures within { result < 65000 }
 {
-    (u64::from(from) * 24480).div_ceil(u64::from(step) * 13000) as u16
+    let begun = day_begun(start) * 13 + u64::from(from) * 24_480_000;
+    begun.div_ceil(u64::from(step) * 13_000_000) as u16
 }
 
 /// The seconds from one tick to the next.
-fn step_in(stretch: Stretch) -> u16
-    ensures step { result ≡ step_in stretch }
+fn step_in(start: Option<Start>, stretch: Stretch) -> u16
+    ensures step { result ≡ step_in start stretch }
     ensures long { 10 ≤ result }
 {
-    let end = seconds_at(u32::from(stretch.to));
-    step_of(end.saturating_sub(seconds_at(u32::from(stretch.from))))
+    let end = seconds_at(start, u32::from(stretch.to));
+    step_of(end.saturating_sub(seconds_at(start, u32::from(stretch.from))))
 }
 
 /// Appends the ticks of an axis.
 #[tactic(auto, unfolding(crate::specs::Time::ticks))]
-fn push_ticks(page: &mut Page, stretch: Stretch) -> Result<(), AllocError>
-    ensures { OnOk result (page.new ≡ page.old ++ ticks stretch) }
+fn push_ticks(page: &mut Page, start: Option<Start>, stretch: Stretch) -> Result<(), AllocError>
+    ensures { OnOk result (page.new ≡ page.old ++ ticks start stretch) }
 {
-    let step = step_in(stretch);
-    push_ticks_by(page, stretch, step, first_number(stretch.from, step))
+    let step = step_in(start, stretch);
+    push_ticks_by(
+        page,
+        start,
+        stretch,
+        step,
+        first_number(start, stretch.from, step),
+    )
 }
 
 /// Appends the axis.
 #[tactic(auto, unfolding(crate::specs::Time::axis))]
 pub(crate) fn push_axis(
     page: &mut Page,
-    language: Language,
+    wording: Wording,
     stretch: Stretch,
 ) -> Result<(), AllocError>
-    ensures { OnOk result (page.new ≡ page.old ++ axis language stretch) }
+    ensures { OnOk result (page.new ≡ page.old ++ axis wording stretch) }
 {
     page.markup(AXIS)?;
-    page.word(language, Word::Axis)?;
+    page.word(wording, Word::Axis)?;
     page.markup(AXIS_NAMED)?;
-    push_ticks(page, stretch)?;
+    push_ticks(page, wording.start, stretch)?;
     page.markup(AXIS_END)
 }

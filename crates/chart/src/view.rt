@@ -3,7 +3,7 @@
 ghost use Rattle.std.specs.Prelude.{◌≡◌, ◌≤◌};
 ghost use Rattle.chart.specs.View.{bar_from, bar_width, holds, is_drawn, stretch_of, touches, width_of};
 
-use crate::word::Language;
+use crate::word::Wording;
 use cbsp_wire::Cell;
 use report::Row;
 
@@ -23,8 +23,8 @@ pub struct View {
     pub cell: Option<Cell>,
     /// The part that is drawn, or the whole run.
     pub part: Option<Part>,
-    /// The language of the page.
-    pub language: Language,
+    /// The language and the clock of the page.
+    pub wording: Wording,
 }
 
 /// The slots of a run that are drawn.

@@ -5,6 +5,7 @@ ghost use Rattle.chart.specs.Words.{word_in};
 
 use crate::english::english;
 use crate::german::german;
+use slot_times::Start;
 
 /// The language of a page.
 #[derive(Clone, Copy, Debug, PartialEq, Eq)]
@@ -13,6 +14,15 @@ pub enum Language {
     English,
     /// German.
     German,
+}
+
+/// In which language a page speaks, and by which clock.
+#[derive(Clone, Copy, Debug, PartialEq, Eq)]
+pub struct Wording {
+    /// The language.
+    pub language: Language,
+    /// When slot 0 begins, if the page has the time of day; else it has that since the run began.
+    pub start: Option<Start>,
 }
 
 /// A word of a page, or several. Each language has a table of all.
@@ -28,6 +38,10 @@ pub enum Word {
     Slots,
     /// What comes after it if it is one.
     Slot,
+    /// What comes before the time at which slot 0 begins.
+    Begins,
+    /// What comes after it.
+    BeginsEnd,
     /// What comes before the first slot of the part that is drawn.
     Part,
     /// What comes before the slot after its last one.

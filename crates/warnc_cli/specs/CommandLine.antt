@@ -233,7 +233,7 @@ GivesLanguage words German = GivesValue words (codes "--lang") (codes "de")
 abbrev pub GivesView : (words : List (List ℕ)) → View → Type 0
 GivesView words view =
     (slots : ℕ) × GivesSlots words slots × GivesWanted words view.cell × GivesPart words slots view.part
-    × GivesLanguage words view.language
+    × GivesLanguage words view.wording.language × GivesSlotStart words view.wording.start
 
 -- a text writes an IPv4 address: its four octets, the highest first, with dots between them
 pub record IsAddress (text : List ℕ) (address : ℕ) : Type 0 where

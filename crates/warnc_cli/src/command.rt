@@ -16,7 +16,7 @@ use crate::start::{slot_start_in, start_in};
 use alert_book::Origin;
 use cbs_page::{MAX_PAGES, Serial};
 use cbsp_wire::Cell;
-use chart::{Language, Part, View};
+use chart::{Language, Part, View, Wording};
 use clap::builder::ValueParser;
 use clap::{Arg, ArgAction, Command, Error, value_parser};
 use gsmtap::{Channel, ChannelType, Sender, Settings, Slots, Wanted};
@@ -405,10 +405,12 @@ fn view_in<S: AsStr>(words: &[S]) -> Option<View>
     let cell = wanted_in(words)?;
     let part = part_in(words, slots)?;
     let language = language_in(words)?;
+    let start = slot_start_in(words)?;
+    let wording = Wording { language, start };
     Some(View {
         cell,
         part,
-        language,
+        wording,
     })
 }
 
@@ -779,6 +781,7 @@ fn chart<'a>(alloc: Global) -> Result<Command<'a>, AllocError> {
         .arg(charted_from(alloc))?
         .arg(charted_to(alloc))?
         .arg(charted_language(alloc))?
+        .arg(charted_clock(alloc))?
         .arg(workers(alloc))
 }
 
@@ -1146,6 +1149,16 @@ fn clock<'a>(alloc: Global) -> Arg<'a> {
         "start",
         "TIME",
         "When slot 0 begins, as 2026-11-28T20:00:00Z: adds\ncolumns of the times, in UTC, of the slots",
+    )
+}
+
+/// The option of the time at which a run that is drawn begins.
+fn charted_clock<'a>(alloc: Global) -> Arg<'a> {
+    optional(
+        alloc,
+        "start",
+        "TIME",
+        "When slot 0 begins, as 2026-11-28T20:00:00Z: times\nare then those of the day, in UTC",
     )
 }
 

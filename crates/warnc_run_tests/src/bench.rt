@@ -2,7 +2,7 @@
 
 use crate::gate::{Crossing, Manner, Shortage};
 use alert_book::Origin;
-use chart::{Language, View};
+use chart::{Language, View, Wording};
 use device_ends::memory::{MemoryReader, MemoryWriter};
 use device_ends::{Sink, Source, write_all};
 use report::{Columns, Layout};
@@ -22,7 +22,10 @@ use warnc_run::{
 const WHOLE: View = View {
     cell: None,
     part: None,
-    language: Language::English,
+    wording: Wording {
+        language: Language::English,
+        start: None,
+    },
 };
 
 /// The plain report, the full one, and the full one of a run that begins at 2026-11-29T18:30:00Z.

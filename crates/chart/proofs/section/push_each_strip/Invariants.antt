@@ -5,5 +5,5 @@ use Rattle.chart.proofs.section.push_each_strip.Given as goal
 
 abbrev pub invariant-loop-place : goal.invariant-loop-place
 invariant-loop-place l =
-    l.page ++ flat_map (strip_at l.language l.all) (range_with_len l.place (length l.all - l.place))
-    ≡ l.fn.page ++ flat_map (strip_at l.language l.all) (range_with_len 0 (length l.all))
+    l.page ++ flat_map (strip_at l.wording l.all) (range_with_len l.place (length l.all - l.place))
+    ≡ l.fn.page ++ flat_map (strip_at l.wording l.all) (range_with_len 0 (length l.all))
