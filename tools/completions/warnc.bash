@@ -37,7 +37,7 @@ _warnc() {
             texts) words="--pages -h --help" ;;
             compile) words="--slots --group --network --workers -h --help" ;;
             report) words="--slots --group --network --full --start --workers -h --help" ;;
-            chart) words="--slots --group --network --cell --from --to --lang --workers -h --help" ;;
+            chart) words="--slots --group --network --cell --from --to --lang --start --workers -h --help" ;;
             read) words="--short -h --help" ;;
             verify) words="--book --slots --short --explain --start --group --workers -h --help" ;;
             page) words="--lang --id --scope --code --update -h --help" ;;

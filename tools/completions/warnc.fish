@@ -45,6 +45,7 @@ complete -c warnc -n '__fish_seen_subcommand_from chart' -x -l cell -d 'Draws th
 complete -c warnc -n '__fish_seen_subcommand_from chart' -x -l from -d 'Draws the run from this slot on'
 complete -c warnc -n '__fish_seen_subcommand_from chart' -x -l to -d 'Draws it up to this slot'
 complete -c warnc -n '__fish_seen_subcommand_from chart' -x -l lang -d 'The language of the page' -a 'en de'
+complete -c warnc -n '__fish_seen_subcommand_from chart' -x -l start -d 'When slot 0 begins, as 2026-11-28T20:00:00Z'
 complete -c warnc -n '__fish_seen_subcommand_from chart' -x -l workers -d 'How many workers play cells and make tapes, or run groups, side by side, 1 to 64'
 complete -c warnc -n '__fish_seen_subcommand_from read' -l short -d 'Reads pages of one to three blocks, too, as networks send that cut a page after its text'
 complete -c warnc -n '__fish_seen_subcommand_from verify' -r -F -l book -d 'The file of the book; the tapes are the input'
