@@ -206,7 +206,7 @@ class Clock:
     def __init__(self, start=None):
         self.start = start
         midnight = start and start.replace(hour=0, minute=0, second=0, microsecond=0)
-        self.begun = fractions.Fraction((start - midnight) // MICROSECOND, 1_000_000) if start else fractions.Fraction(0)
+        self.begun = fractions.Fraction((start - midnight) // MICROSECOND if start else 0, 1_000_000)
 
     def words(self):
         """Returns the words of the command line."""

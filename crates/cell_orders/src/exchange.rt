@@ -50,7 +50,7 @@ pub(crate) struct Exchanges<'a> {
     waiting: Vec<Waiting<'a>>,
 }
 
-/// Whether a message asks something of a cell, or says that the cell lost its messages: an order or RESET that names it,
+/// Whether a message asks something of a cell, or says that it lost its messages: an order or RESET that names it, or
 /// RESTART or FAILURE of the cell broadcast channel that takes its messages away.
 pub fn concerns(cell: Cell, message: &LinkMessage) -> bool
     ensures { result ≡ concerns cell message.now }

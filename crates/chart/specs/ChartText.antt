@@ -266,17 +266,18 @@ run_text w slots =
     word_by w words.Run ++ decimal slots ++ word_by w (slots_word slots) ++ time_text None slots ++ charts.RUN_END.now
 
 -- when slot 0 begins, where the page has the time of day
-unfoldable pub begin_text : Wording → Start → List ℕ
-begin_text w start = word_by w words.Begins ++ escaped (slot_time start 0) ++ word_by w words.BeginsEnd
+unfoldable pub begun_text : Wording → Start → List ℕ
+begun_text w start = word_by w words.Begins ++ escaped (slot_time start 0) ++ word_by w words.BeginsEnd
 
 abbrev pub begin_if : Wording → Option Start → List ℕ
 begin_if w None = []
-begin_if w (Some start) = begin_text w start
+begin_if w (Some start) = begun_text w start
 
 -- and which part of them is drawn
 unfoldable pub stretch_text : Wording → Stretch → List ℕ
 stretch_text w s =
-    word_by w words.Part ++ slot_text w.start s.from ++ word_by w words.PartTo ++ slot_text w.start s.to ++ charts.PART_END.now
+    word_by w words.Part ++ slot_text w.start s.from ++ word_by w words.PartTo ++ slot_text w.start s.to
+    ++ charts.PART_END.now
 
 abbrev pub part_text : Wording → Stretch → List ℕ
 part_text w s = if s.is_part then stretch_text w s else []

@@ -48,7 +48,8 @@ time_in_brackets start slot = times.BRACKET.now ++ time_text start slot ++ times
 unfoldable pub slot_text : Option Start → (slot : ℕ) → List ℕ
 slot_text start slot = decimal slot ++ time_in_brackets start slot
 
--- the axis has a tick at each multiple of a round step, since the run began or since midnight: at the first of these of which a run lasts less than six
+-- the axis has a tick at each multiple of a round step, since the run began or since midnight: the first of these of
+-- which a run lasts less than six
 abbrev pub has_few : (step seconds : ℕ) → Bool
 has_few step seconds = nat_lt seconds (step * 6)
 

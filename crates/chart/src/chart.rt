@@ -6,7 +6,7 @@ ghost use Rattle.handset.specs.Tape.{readings_of};
 ghost use Rattle.report.specs.Rows.{AreOfOneCells};
 ghost use Rattle.chart.specs.ChartText.{chart_front, chart_part, chart_text, folded, foot_if, front_if_first};
 ghost use Rattle.chart.specs.ChartText.{group_front, head, introduction, is_wanted, part_text, run_text, stretch_text};
-ghost use Rattle.chart.specs.ChartText.{begin_if, begin_text, panel_if, panels_of, sections_of, slots_word};
+ghost use Rattle.chart.specs.ChartText.{begin_if, begun_text, panel_if, panels_of, sections_of, slots_word};
 
 use crate::cell::panel_of;
 use crate::page::Page;
@@ -245,9 +245,9 @@ fn push_run(page: &mut Page, wording: Wording, slots: u16) -> Result<(), AllocEr
 }
 
 /// Appends when slot 0 begins.
-#[tactic(auto, unfolding(crate::specs::ChartText::begin_text))]
+#[tactic(auto, unfolding(crate::specs::ChartText::begun_text))]
 fn push_begin(page: &mut Page, wording: Wording, start: Start) -> Result<(), AllocError>
-    ensures { OnOk result (page.new ≡ page.old ++ begin_text wording start) }
+    ensures { OnOk result (page.new ≡ page.old ++ begun_text wording start) }
 {
     page.word(wording, Word::Begins)?;
     page.text_octets(&slot_time(start, 0))?;

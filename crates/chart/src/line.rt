@@ -391,8 +391,8 @@ fn push_refusal_picture(
     page.markup(REFUSAL_END)
 }
 
-/// What the lines of a cell have in common: the words and the clock, the slots that are drawn, the orders of the book, the cell's
-/// record, what a handset shows of its blocks, and the messages that its log accepted.
+/// What the lines of a cell have in common: words and clock, the slots that are drawn, the orders of the book, the
+/// cell's record, what a handset shows of its blocks, and the messages that its log accepted.
 #[derive(Clone, Copy)]
 pub(crate) struct CellContext<'a> {
     pub(crate) alloc: Global,

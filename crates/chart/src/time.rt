@@ -2,8 +2,8 @@
 
 ghost use Rattle.std.specs.Prelude.{◌≡◌, ◌<◌, ◌≤◌, ◌++◌, OnOk};
 ghost use Rattle.std.specs.List.{flat_map, range_with_len};
-ghost use Rattle.chart.specs.Time.{axis, clock_text, day_begun, first_number, has_few, hours_text, place_of, place_text};
-ghost use Rattle.chart.specs.Time.{seconds_at, slot_text, step_in, step_of, tick};
+ghost use Rattle.chart.specs.Time.{axis, clock_text, day_begun, first_number, has_few, hours_text, place_of};
+ghost use Rattle.chart.specs.Time.{place_text, seconds_at, slot_text, step_in, step_of, tick};
 ghost use Rattle.chart.specs.declared.time.TheConstants.{MOST_TICKS};
 ghost use Rattle.chart.specs.Time.{tick_front, tick_within, ticks, time_in_brackets, time_text, two_digits};
 

@@ -1,6 +1,6 @@
 -- Packets that are taken one by one for the link and the air.
-use Rattle.std.proofs.Common.{◌≡◌, ℕ, ◌+◌, ◌*◌, ◌<◌, ◌≤◌, ◌^◌, ◌∙◌, List, [], ◌∷◌, ◌++◌, length, ap, arith, inl, inr, refl}
-use Rattle.std.proofs.Common.{subst, sym, Result, Ok, Err, None}
+use Rattle.std.proofs.Common.{◌≡◌, ℕ, ◌+◌, ◌*◌, ◌<◌, ◌≤◌, ◌^◌, ◌∙◌, List, [], ◌∷◌, ◌++◌, length, ap, arith, inl, inr}
+use Rattle.std.proofs.Common.{refl, subst, sym, Result, Ok, Err, None}
 use Rattle.std.proofs.lemmas.List.{length_push}
 use Rattle.gsmtap.specs.File.{Packet}
 use Rattle.gsmtap.specs.Taken.{ComesTo, taken}
@@ -19,7 +19,7 @@ use Rattle.link_orders.specs.Clock.{Clocked, clock_packet, not_clocked}
 use Rattle.link_orders.specs.Overhearing.{Overhearing, for_overhearing, overhear, with_clock, with_link}
 use Rattle.link_orders.specs.Orders.{AreNoOrders, AreNoOrdersIn, AreOrders, AreOrdersIn}
 use Rattle.link_orders.specs.Steps.{HaveOverheard, HaveOverheardAll, IsUnclocked, begins_in, clocked_of, fault_of}
-use Rattle.link_orders.specs.Steps.{messages_in, overheard_by}
+use Rattle.link_orders.specs.Steps.{link_messages_in, overheard_by}
 use Rattle.link_orders.specs.declared.clock.SlotClock.{SlotClock}
 use Rattle.link_orders.specs.declared.orders.LinkOrders.{LinkOrders}
 use Rattle.link_orders.specs.declared.orders.OrdersFault.{OrdersFault}
@@ -62,6 +62,7 @@ first_comes from it link air =
 no_track : (clock : SlotClock) → clocked_of clock ≡ not_clocked → last_slot clock.track ≡ 0
 no_track clock is = ap (λ (one : Clocked). last_slot one.track) is
 
+-- so a new taker has no packet
 pub none_overheard : (from : Sender) (it : Overheard) → it.from ≡ from →
     taken for_messages [] ≡ Ok (followed_by 0 it.streams) → clocked_of it.clock ≡ not_clocked →
     HaveOverheard from [] it
@@ -103,6 +104,7 @@ step_more from packets packet known before old new after link air =
     ∙ ap (with_clock (followed_by (before + 1) new.streams))
     (ap (λ (it : Sender). clock_packet it (clocked_of old.clock) packet) (sym after.has.from_is) ∙ air)
 
+-- which the taker has then
 pub has_next : (from : Sender) (packets : List Packet) (packet : Packet) (known : Overhearing) (before : ℕ)
     (old new : Overheard) → IsAfter (for_overhearing from) (HaveOverheard from) packets known before old →
     new.from ≡ old.from → follow (followed_by before old.streams) packet ≡ Ok (followed_by (before + 1) new.streams) →
@@ -151,6 +153,7 @@ named number kind.StepsBack is = refl
 named number kind.NoBlock is = refl
 named number kind.Refused is = absurd is
 
+-- so it is at fault
 pub has_air_fault : (before : ℕ) (old : Overheard) (packet : Packet) (followed : Followed) (why : AirFaultKind) →
     follow (followed_by before old.streams) packet ≡ Ok followed →
     IsUnclocked old.from (clocked_of old.clock) packet why →
@@ -178,9 +181,9 @@ overheard_in from input it all =
     comes_to (for_overhearing from) (HaveOverheard from) (for_overhearing from) input it
     (overheard_by (length all.packets) it) all all.has.comes
 
--- whose messages and blocks come to orders, or to none
+-- whose messages and blocks come to orders
 pub orders_in : (wanted : OrdersWanted) (input : List ℕ) (it : Overheard) (orders : LinkOrders) →
-    HaveOverheardAll wanted.from input it → AreOrders wanted (messages_in it) (begins_in it) orders →
+    HaveOverheardAll wanted.from input it → AreOrders wanted (link_messages_in it) (begins_in it) orders →
     AreOrdersIn wanted input orders
 orders_in wanted input it orders all are = record {
   known = overheard_by (length all.packets) it;
@@ -188,8 +191,9 @@ orders_in wanted input it orders all are = record {
   are = are;
 }
 
+-- or to none
 pub no_orders_in : (wanted : OrdersWanted) (input : List ℕ) (it : Overheard) (fault : OrdersFault) →
-    HaveOverheardAll wanted.from input it → AreNoOrders wanted (messages_in it) (begins_in it) fault →
+    HaveOverheardAll wanted.from input it → AreNoOrders wanted (link_messages_in it) (begins_in it) fault →
     AreNoOrdersIn wanted input fault
 no_orders_in wanted input it fault all are = record {
   known = overheard_by (length all.packets) it;

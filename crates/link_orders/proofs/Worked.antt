@@ -1,6 +1,6 @@
 -- The clock on worked values. Slot 1 begins 24,480,000 ticks after slot 0, which are 1,883,076.9 microseconds.
 use Rattle.std.proofs.Common.{◌≡◌, ◌+◌, refl}
-use Rattle.link_orders.specs.Clock.{begin_by, epoch, mark_of, slot_at, slots_before}
+use Rattle.link_orders.specs.Clock.{begin_by, epoch, ticks_at, slot_at, slots_before}
 
 -- a block of slot 0 whose first frame is the fourth says that the tape began 3 * 60,000 ticks before
 fourth_frame : begin_by 1000000 0 3 ≡ 3208642393000

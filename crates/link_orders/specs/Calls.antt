@@ -25,22 +25,22 @@ abbrev pub is_connection : Way → Way → Bool
 is_connection a b = is_way a b || is_way a (turned b)
 
 -- the number of a message's connection: that of the packet by which the first message of it became whole
-abbrev pub first_number : List LinkPacket → Way → Option ℕ
-first_number messages way =
+abbrev pub first_packet : List LinkPacket → Way → Option ℕ
+first_packet messages way =
     option_map (λ (first : LinkPacket). first.number)
     (find (λ (other : LinkPacket). is_connection way other.way) messages)
 
 abbrev pub connection_of : List LinkPacket → LinkPacket → ℕ
-connection_of messages one = unwrap_or (first_number messages one.way) one.number
+connection_of messages one = unwrap_or (first_packet messages one.way) one.number
 
 -- the controller's address is the wanted one, where one is wanted
 abbrev pub is_address : (address : ℕ) → Option ℕ → Bool
 is_address address None = false
 is_address address (Some one) = one == address
 
-abbrev pub is_of : Option ℕ → LinkPacket → Bool
-is_of None one = true
-is_of (Some address) one = is_address address (controller_of one (sender_of one.octets))
+abbrev pub has_controller : Option ℕ → LinkPacket → Bool
+has_controller None one = true
+has_controller (Some address) one = is_address address (controller_of one (sender_of one.octets))
 
 -- a message, if it can be read
 abbrev pub call_with : List LinkPacket → LinkPacket → Result (LinkMessage × List ℕ) LinkFault → Option Call
@@ -56,7 +56,7 @@ abbrev pub call_of : List LinkPacket → LinkPacket → Option Call
 call_of messages one = call_with messages one (link_message one.octets)
 
 abbrev pub call_if : Option ℕ → List LinkPacket → LinkPacket → Option Call
-call_if controller messages one = if is_of controller one then call_of messages one else None
+call_if controller messages one = if has_controller controller one then call_of messages one else None
 
 -- the messages that count, in order
 abbrev pub calls_at : Option ℕ → List LinkPacket → LinkPacket → List Call
@@ -67,4 +67,4 @@ calls_of controller messages = flat_map (calls_at controller messages) messages
 
 -- how many of the wanted controller's can't be read: all but those
 abbrev pub unread_of : Option ℕ → List LinkPacket → ℕ
-unread_of controller messages = count_by (is_of controller) messages - length (calls_of controller messages)
+unread_of controller messages = count_by (has_controller controller) messages - length (calls_of controller messages)

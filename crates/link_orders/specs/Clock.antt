@@ -30,17 +30,17 @@ abbrev pub epoch : ℕ
 epoch = 3208642560000
 
 -- when something came, of which this is the time in nanoseconds from 1970-01-01T00:00:00Z on
-abbrev pub mark_of : (nanoseconds : ℕ) → ℕ
-mark_of time = 13 * (time / 1000) + epoch
+abbrev pub ticks_at : (nanoseconds : ℕ) → ℕ
+ticks_at time = 13 * (time / 1000) + epoch
 
-abbrev pub mark_if : Option ℕ → ℕ
-mark_if None = epoch
-mark_if (Some time) = mark_of time
+abbrev pub ticks_if : Option ℕ → ℕ
+ticks_if None = epoch
+ticks_if (Some time) = ticks_at time
 
 -- when the slot of the first block begins, by a block that stands so many slots after it and has this number of its
 -- first frame: a hyperframe has whole slots, so the number says how far in its slot the frame is
 abbrev pub begin_by : (time slot frame : ℕ) → ℕ
-begin_by time slot frame = mark_of time - frame_ticks * (slot_frames * slot + frame % slot_frames)
+begin_by time slot frame = ticks_at time - frame_ticks * (slot_frames * slot + frame % slot_frames)
 
 -- a block says it if its packet has a time, and if its slot is one that a tape may have
 abbrev pub begins_by : (time : Option ℕ) → (slot frame : ℕ) → List ℕ

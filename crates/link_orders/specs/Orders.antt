@@ -7,7 +7,7 @@ use Rattle.cell_orders.specs.Rows.{emergencies_to, rows_of}
 use Rattle.cell_orders.specs.declared.heard.Heard.{Heard}
 use Rattle.gsmtap.specs.Taken.{ComesTo}
 use Rattle.link_orders.specs.Calls.{calls_of, unread_of}
-use Rattle.link_orders.specs.Clock.{IsMedian, epoch, mark_if, slot_at, slot_ticks, slots_before}
+use Rattle.link_orders.specs.Clock.{IsMedian, epoch, ticks_if, slot_at, slot_ticks, slots_before}
 use Rattle.link_orders.specs.Overhearing.{Overhearing, for_overhearing}
 use Rattle.link_orders.specs.declared.calls.Call.{Call}
 use Rattle.link_orders.specs.declared.orders.LinkOrders.{LinkOrders}
@@ -24,14 +24,14 @@ abbrev pub is_untimed : Call → Bool
 is_untimed call = is_none call.time
 
 -- a message that concerns the cell, and when the first one came
-abbrev pub is_asked : Cell → Call → Bool
-is_asked cell call = concerns cell call.message
+abbrev pub asks_cell : Cell → Call → Bool
+asks_cell cell call = concerns cell call.message
 
-abbrev pub first_mark : Cell → List Call → Option ℕ
-first_mark cell calls = option_map (λ (call : Call). mark_if call.time) (find (is_asked cell) calls)
+abbrev pub asked_mark : Cell → List Call → Option ℕ
+asked_mark cell calls = option_map (λ (call : Call). ticks_if call.time) (find (asks_cell cell) calls)
 
 abbrev pub first_asked : Cell → List Call → ℕ
-first_asked cell calls = unwrap_or (first_mark cell calls) epoch
+first_asked cell calls = unwrap_or (asked_mark cell calls) epoch
 
 -- when the slot of the first block begins: the median of what the blocks say; and without the air the first message
 -- that concerns the cell stands in for it
@@ -45,17 +45,17 @@ begin_of wanted reference = reference - slot_ticks * wanted.first_slot
 
 -- a message that concerns the cell, and comes before the tape begins
 abbrev pub is_early : Cell → (begin : ℕ) → Call → Bool
-is_early cell begin call = is_asked cell call && nat_lt (mark_if call.time) begin
+is_early cell begin call = asks_cell cell call && nat_lt (ticks_if call.time) begin
 
 -- as a fault
 abbrev pub early_fault : (first_slot begin : ℕ) → Call → OrdersFault
 early_fault first_slot begin call =
-    faults.Early call.packet (first_slot + slots_before begin (mark_if call.time))
+    faults.Early call.packet (first_slot + slots_before begin (ticks_if call.time))
 
 -- a message with its slot
-abbrev pub heard_at : (begin : ℕ) → Call → Heard
-heard_at begin call = record {
-  slot = slot_at begin (mark_if call.time);
+abbrev pub call_heard : (begin : ℕ) → Call → Heard
+call_heard begin call = record {
+  slot = slot_at begin (ticks_if call.time);
   time = unwrap_or call.time 0;
   packet = call.packet;
   connection = call.connection;
@@ -63,7 +63,7 @@ heard_at begin call = record {
 }
 
 abbrev pub heard_from : (begin : ℕ) → List Call → List Heard
-heard_from begin calls = map (heard_at begin) calls
+heard_from begin calls = map (call_heard begin) calls
 
 -- these messages of a link, and what blocks of the air say of when their tape begins, come to these orders
 pub record AreOrders (wanted : OrdersWanted) (messages : List LinkPacket) (begins : List ℕ) (orders : LinkOrders)
@@ -96,7 +96,7 @@ pub record HasEarly (wanted : OrdersWanted) (messages : List LinkPacket) (begins
     pub call : Call
     pub first : find (is_early wanted.cell (begin_of wanted reference)) (calls_for wanted messages) ≡ Some call
     pub packet_is : packet ≡ call.packet
-    pub slot_is : first_slot ≡ wanted.first_slot + slots_before (begin_of wanted reference) (mark_if call.time)
+    pub slot_is : first_slot ≡ wanted.first_slot + slots_before (begin_of wanted reference) (ticks_if call.time)
 
 -- why there are none, but for out of memory
 abbrev pub AreNoOrders : OrdersWanted → List LinkPacket → (begins : List ℕ) → OrdersFault → Type 0

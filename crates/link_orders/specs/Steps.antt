@@ -45,8 +45,8 @@ abbrev pub IsOverhearing : Sender → (input : List ℕ) → Walk Overheard → 
 IsOverhearing from input walk = IsWalkOf for_overhearing HaveOverheard from input walk
 
 -- the messages that a taker has, and what the blocks say of the tape's begin
-abbrev pub messages_in : Overheard → List LinkPacket
-messages_in it = (followed_by 0 it.streams).messages
+abbrev pub link_messages_in : Overheard → List LinkPacket
+link_messages_in it = (followed_by 0 it.streams).messages
 
 abbrev pub begins_in : Overheard → List ℕ
 begins_in it = it.clock.begins.items

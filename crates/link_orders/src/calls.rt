@@ -1,8 +1,8 @@
 //! Which messages of a link count for a cell's orders.
 
 ghost use Rattle.std.specs.Prelude.{◌≡◌, ◌++◌, count_by, IfOk, OnOk};
-ghost use Rattle.link_orders.specs.Calls.{call_of, calls_at, calls_of, connection_of, first_number, is_connection};
-ghost use Rattle.link_orders.specs.Calls.{is_of, turned, unread_of};
+ghost use Rattle.link_orders.specs.Calls.{call_of, calls_at, calls_of, connection_of, first_packet, is_connection};
+ghost use Rattle.link_orders.specs.Calls.{has_controller, turned, unread_of};
 
 use cbsp_link::{LinkError, LinkMessage, read};
 use link_streams::{LinkPacket, Way};
@@ -48,8 +48,8 @@ fn is_connection(a: Way, b: Way) -> bool
 }
 
 /// The number of the packet of a connection's first message.
-fn first_number(messages: &[LinkPacket], way: Way) -> Option<u64>
-    ensures { result ≡ first_number messages.now way }
+fn first_packet(messages: &[LinkPacket], way: Way) -> Option<u64>
+    ensures { result ≡ first_packet messages.now way }
 {
     match messages.iter().find(|other| is_connection(way, other.way)) {
         Some(first) => Some(first.number),
@@ -61,12 +61,12 @@ fn first_number(messages: &[LinkPacket], way: Way) -> Option<u64>
 fn connection_of(messages: &[LinkPacket], one: &LinkPacket) -> u64
     ensures { result ≡ connection_of messages.now one.now }
 {
-    first_number(messages, one.way).unwrap_or(one.number)
+    first_packet(messages, one.way).unwrap_or(one.number)
 }
 
 /// Whether a message is of the wanted controller.
-fn is_of(controller: Option<u32>, one: &LinkPacket) -> bool
-    ensures { result ≡ is_of controller one.now }
+fn has_controller(controller: Option<u32>, one: &LinkPacket) -> bool
+    ensures { result ≡ has_controller controller one.now }
 {
     let Some(wanted) = controller else {
         return true;
@@ -107,7 +107,7 @@ fn push_call(
 ) -> Result<(), AllocError>
     ensures { OnOk result (calls.new.items ≡ calls.old.items ++ calls_at controller messages.now one.now) }
 {
-    if !is_of(controller, one) {
+    if !has_controller(controller, one) {
         return Ok(());
     }
     match call_of(alloc, messages, one)? {
@@ -136,9 +136,12 @@ fn list_of(
 
 /// How many messages are of the wanted controller.
 fn count_of(controller: Option<u32>, messages: &[LinkPacket]) -> usize
-    ensures { result ≡ count_by (is_of controller) messages.now }
+    ensures { result ≡ count_by (has_controller controller) messages.now }
 {
-    messages.iter().filter(|one| is_of(controller, one)).count()
+    messages
+        .iter()
+        .filter(|one| has_controller(controller, one))
+        .count()
 }
 
 /// The messages that count, in order, and how many can't be read.

@@ -3,7 +3,7 @@
 ghost use Rattle.std.specs.Prelude.{◌≡◌, ◌+◌, ◌++◌, ◌<◌, ◌≤◌, ◌^◌, ◌⊎◌, [], IfErr, IfSome, OnOk, Ok, Err, None};
 ghost use Rattle.gsmtap.specs.PieceSteps.{packet_of};
 ghost use Rattle.gsmtap.specs.TapeSteps.{last_slot};
-ghost use Rattle.link_orders.specs.Clock.{IsMedian, begin_by, begins_by, clock_packet, mark_if, mark_of};
+ghost use Rattle.link_orders.specs.Clock.{IsMedian, begin_by, begins_by, clock_packet, ticks_if, ticks_at};
 ghost use Rattle.link_orders.specs.Clock.{not_clocked, slot_at, slots_before, with_frame};
 ghost use Rattle.link_orders.specs.Steps.{IsUnclocked, clocked_of};
 
@@ -103,18 +103,18 @@ impl SlotClock {
 }
 
 /// When something came, of which this is the time in nanoseconds from 1970-01-01T00:00:00Z on.
-fn mark_of(time: u64) -> u64
-    ensures { result ≡ mark_of time }
+fn ticks_at(time: u64) -> u64
+    ensures { result ≡ ticks_at time }
 {
     MICROSECOND * (time / 1000) + EPOCH
 }
 
 /// The same of a time that may not be known.
-pub(crate) fn mark_if(time: Option<u64>) -> u64
-    ensures { result ≡ mark_if time }
+pub(crate) fn ticks_if(time: Option<u64>) -> u64
+    ensures { result ≡ ticks_if time }
 {
     match time {
-        Some(time) => mark_of(time),
+        Some(time) => ticks_at(time),
         None => EPOCH,
     }
 }
@@ -125,7 +125,7 @@ fn begin_by(time: u64, slot: u64, frame: u32) -> u64
     ensures { result ≡ begin_by time slot frame }
 {
     let frames = FRAMES * slot + u64::from(frame) % FRAMES;
-    mark_of(time).saturating_sub(FRAME * frames)
+    ticks_at(time).saturating_sub(FRAME * frames)
 }
 
 /// The middle one of numbers in rising order; none of none.

@@ -4,12 +4,12 @@ ghost use Rattle.std.specs.Prelude.{◌≡◌, ℕ, List, find, map, IfErr, IfOk
 ghost use Rattle.std.specs.Option.{option_map};
 ghost use Rattle.link_orders.specs.Orders.{AreNoOrders, AreNoOrdersIn, AreOrders, AreOrdersIn, IsReference, begin_of};
 ghost use Rattle.cell_orders.specs.Rows.{emergencies_to, rows_of};
-ghost use Rattle.link_orders.specs.Orders.{early_fault, first_asked, first_mark, heard_at, heard_from, is_asked};
+ghost use Rattle.link_orders.specs.Orders.{early_fault, first_asked, asked_mark, call_heard, heard_from, asks_cell};
 ghost use Rattle.link_orders.specs.Orders.{is_early, is_untimed};
-ghost use Rattle.link_orders.specs.Steps.{HaveOverheardAll, begins_in, messages_in};
+ghost use Rattle.link_orders.specs.Steps.{HaveOverheardAll, begins_in, link_messages_in};
 
 use crate::calls::{Call, Calls, calls_of};
-use crate::clock::{EPOCH, SLOT, mark_if, median, slot_at, slots_before};
+use crate::clock::{EPOCH, SLOT, median, slot_at, slots_before, ticks_if};
 use crate::overheard::Overheard;
 use cbsp_wire::Cell;
 use cell_orders::{Heard, OrderRow, concerns, emergencies_to, rows_of};
@@ -82,8 +82,8 @@ fn is_untimed(call: &Call) -> bool
 }
 
 /// Whether a message concerns a cell.
-fn is_asked(cell: Cell, call: &Call) -> bool
-    ensures { result ≡ is_asked cell call.now }
+fn asks_cell(cell: Cell, call: &Call) -> bool
+    ensures { result ≡ asks_cell cell call.now }
 {
     concerns(cell, &call.message)
 }
@@ -92,15 +92,15 @@ fn is_asked(cell: Cell, call: &Call) -> bool
 fn is_early(cell: Cell, begin: u64, call: &Call) -> bool
     ensures { result ≡ is_early cell begin call.now }
 {
-    is_asked(cell, call) && mark_if(call.time) < begin
+    asks_cell(cell, call) && ticks_if(call.time) < begin
 }
 
 /// When the first message comes that concerns a cell, if one does.
-fn first_mark(cell: Cell, calls: &[Call]) -> Option<u64>
-    ensures { result ≡ first_mark cell calls.now }
+fn asked_mark(cell: Cell, calls: &[Call]) -> Option<u64>
+    ensures { result ≡ asked_mark cell calls.now }
 {
-    match calls.iter().find(|call| is_asked(cell, call)) {
-        Some(call) => Some(mark_if(call.time)),
+    match calls.iter().find(|call| asks_cell(cell, call)) {
+        Some(call) => Some(ticks_if(call.time)),
         None => None,
     }
 }
@@ -109,7 +109,7 @@ fn first_mark(cell: Cell, calls: &[Call]) -> Option<u64>
 fn first_asked(cell: Cell, calls: &[Call]) -> u64
     ensures { result ≡ first_asked cell calls.now }
 {
-    first_mark(cell, calls).unwrap_or(EPOCH)
+    asked_mark(cell, calls).unwrap_or(EPOCH)
 }
 
 /// When the slot of the first block begins.
@@ -145,7 +145,7 @@ fn early_fault(first_slot: u16, begin: u64, call: &Call) -> OrdersFault
 {
     OrdersFault::Early {
         packet: call.packet,
-        first_slot: u64::from(first_slot) + slots_before(begin, mark_if(call.time)),
+        first_slot: u64::from(first_slot) + slots_before(begin, ticks_if(call.time)),
     }
 }
 
@@ -160,11 +160,11 @@ fn early(cell: Cell, first_slot: u16, begin: u64, calls: &[Call]) -> Option<Orde
 }
 
 /// A message with its slot.
-fn heard_at(begin: u64, call: Call) -> Heard
-    ensures { result ≡ heard_at begin call }
+fn call_heard(begin: u64, call: Call) -> Heard
+    ensures { result ≡ call_heard begin call }
 {
     Heard {
-        slot: slot_at(begin, mark_if(call.time)),
+        slot: slot_at(begin, ticks_if(call.time)),
         time: call.time.unwrap_or(0),
         packet: call.packet,
         connection: call.connection,
@@ -174,11 +174,11 @@ fn heard_at(begin: u64, call: Call) -> Heard
 
 /// Messages with their slots. The only error is out of memory.
 fn heard_from(alloc: Global, begin: u64, calls: Vec<Call>) -> Result<Vec<Heard>, AllocError>
-    ensures { IfOk result (λ heard. heard.items ≡ map (heard_at begin) calls.items) }
+    ensures { IfOk result (λ heard. heard.items ≡ map (call_heard begin) calls.items) }
 {
     let mut heard = Vec::new(alloc);
     for call in calls {
-        heard.push(heard_at(begin, call))?;
+        heard.push(call_heard(begin, call))?;
     }
     Ok(heard)
 }

@@ -1,9 +1,9 @@
 //! The messages of the link between a cell broadcast centre and a base station controller (3GPP TS 48.049, over TCP
 //! port 48049), out of a capture file.
 //!
-//! [`messages_of_capture`] returns all messages of a file that is in memory, and [`LinkStreams`] takes the packets of one
-//! that comes in parts. `specs/Segment.antt` says which octets are a segment, `specs/Stream.antt` which messages segments
-//! are, and `specs/Streams.antt` which ones a file has.
+//! [`messages_of_capture`] returns all messages of a file that is in memory, and [`LinkStreams`] takes the packets of
+//! one that comes in parts. `specs/Segment.antt` says which octets are a segment, `specs/Stream.antt` which messages
+//! segments are, and `specs/Streams.antt` which ones a file has.
 #![tactic(auto)]
 
 mod direction;

@@ -1,6 +1,6 @@
 //! The engines of `warnc`'s commands about captures, from a reader to a writer: each reads all of its input, and writes
-//! nothing before all of its output is made. [`tape`], [`all`], [`cells`] and [`orders`] don't keep the capture that they
-//! read.
+//! nothing before all of its output is made. [`tape`], [`all`], [`cells`] and [`orders`] don't keep the capture that
+//! they read.
 //!
 //! [`pcap::pcap_stream`] makes the capture of tapes, [`tape::tape_stream`] the tape of a capture,
 //! [`all::all_tapes_stream`] the tapes of all cells of a table, [`cells::cells_stream`] a table of who sends in a

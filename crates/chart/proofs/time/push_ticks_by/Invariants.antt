@@ -6,5 +6,6 @@ use Rattle.chart.proofs.time.push_ticks_by.Given as goal
 
 abbrev pub invariant-loop-number : goal.invariant-loop-number
 invariant-loop-number l =
-    l.page ++ flat_map (tick_within l.start l.stretch l.step) (range_with_len l.number (l.first + MOST_TICKS - l.number))
+    l.page
+    ++ flat_map (tick_within l.start l.stretch l.step) (range_with_len l.number (l.first + MOST_TICKS - l.number))
     ≡ l.fn.page ++ flat_map (tick_within l.start l.stretch l.step) (range_with_len l.first MOST_TICKS)
