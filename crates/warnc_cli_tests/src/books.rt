@@ -307,7 +307,7 @@ usage -> 2 error:
 # not all commands have a start
 args compile --slots 4 --start 2026-11-29T18:30:00Z
 usage -> 2 error:
-args chart --slots 4 --start 2026-11-29T18:30:00Z
+args live --slots 4 --start 2026-11-29T18:30:00Z
 usage -> 2 error:
 ";
 

@@ -482,6 +482,27 @@ usage -> 2 error:
 args chart --slots 1 --lang
 usage -> 2 error:
 
+# times of the day, and of the next one
+in cell,1,1
+in write,0,a,1,0,1,en,2,8,2,*,One
+args chart --slots 48 --start 2026-11-28T23:59:30.5Z
+run -> 0
+past <p>A run of 48 slots of 1.883 s, 0:01:30 (h:mm:ss). Slot 0 begins at 2026-11-28T23:59:30.500Z; times are of \
+the day, in UTC.</p> -> yes
+past <summary><h2>Cell 1-1</h2> messages: 1, refused: 0, fullest: 13 % at 23:59:30</summary> -> yes
+past 1 0010: slots 0 (23:59:30) to 16 (00:00:00), every 8, broadcasts: 2, first shown after 0 (23:59:32)</title> -> yes
+past calc(100%*15.66/48)\">15<br>00:00:00</span> -> yes
+out -> <span style=\"--at:calc(100%*31.59/48)\">31<br>00:00:30</span>
+out -> <span style=\"--at:calc(100%*47.52/48)\">47<br>00:01:00</span>
+past </html> -> yes
+args chart --slots 1 --lang de --start=1970-01-01T00:00:00Z --from 0
+run -> 0
+past Slot 0 beginnt um 1970-01-01T00:00:00.000Z; Zeiten sind Tageszeiten in UTC. Gezeichnet von Slot 0 (00:00:00) bis \
+Slot 1 (00:00:01).</p> -> yes
+past </html> -> yes
+args chart --slots 48 --start 18:30
+fails -> 2 warnc: no such time: --start is as 2026-11-28T20:00:00Z, from 1970 to 2105
+
 # cells that look the same in a part have one section there
 in cell,1,1
 in cell,1,2
@@ -546,5 +567,5 @@ usage -> 2 error:
 
 #[test]
 fn books_give_charts(rt: HostRuntime) -> Result<(), Fail> {
-    expect_rows(&rt, CHART, 487)
+    expect_rows(&rt, CHART, 504)
 }
