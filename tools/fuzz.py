@@ -1338,7 +1338,7 @@ def orders_options(chance):
     """Returns the options of `orders`."""
     options = {"--cell": cell_word(chance)}
     for name, values in (("--bsc", ("10.0.0.2", "10.0.0.3", "0.0.0.0")), ("--first-slot", ("0", "1", "7", "65535")),
-                         ("--from", ("0.1.0.1", "255.255.255.255")), ("--arfcn", ("0", "1023")),
+                         ("--from", ("127.0.0.1", "127.0.0.2", "0.1.0.1")), ("--arfcn", ("0", "51", "1023")),
                          ("--channel", ("cbch", "sdcch")), ("--packets", (None,))):
         if chance.random() < 0.2:
             options[name] = chance.choice(values)
