@@ -38,11 +38,11 @@ pub const HEAD_TITLE_END: &str = r#"</title>
 <style>
 :root{color-scheme:light dark;--ground:#fff;--text:#1a1a1a;--faint:#666;--lane:#eef1f4}
 :root{--f1:#6288b5;--f2:#456f9f;--f3:#2a5588;--f4:#143c6a;--f5:#061d38;--load:#5e7688;--refusal:#b3261e}
-:root{--mark:rgb(0 0 0/.3);--pale:rgb(255 255 255/.25);--first:#fe5}
+:root{--mark:rgb(0 0 0/.75);--pale:rgb(255 255 255/.5);--first:#fe5}
 @media(prefers-color-scheme:dark){
 :root{--ground:#15181c;--text:#e6e6e6;--faint:#a0a6ac;--lane:#262c33}
 :root{--f1:#5c7fa9;--f2:#7398c5;--f3:#8fb3dc;--f4:#b0cfef;--f5:#d9e9fa;--load:#7f95a6;--refusal:#ff8a80}
-:root{--mark:rgb(255 255 255/.3);--pale:rgb(0 0 0/.25);--first:#201400}
+:root{--mark:rgb(0 0 0/.7);--pale:rgb(0 0 0/.7);--first:#201400}
 }
 body{background:var(--ground);color:var(--text);font:15px/1.4 system-ui,sans-serif;margin:1.5em}
 summary{color:var(--faint);cursor:pointer;margin:.8em 0 .4em}
@@ -70,8 +70,8 @@ nav .loads{border-top-width:1px;height:1.4em}
 .f3{background:var(--f3);fill:var(--f3)}
 .f4{background:var(--f4);fill:var(--f4)}
 .f5{background:var(--f5);fill:var(--f5)}
-.whole{stroke:var(--mark);stroke-width:1px}
-.f5~.whole{stroke:var(--pale)}
+.whole{shape-rendering:crispEdges;stroke:var(--mark);stroke-width:1px}
+:is(.f3,.f4,.f5)~.whole{stroke:var(--pale)}
 .pace b{display:inline-block;height:.8em;margin:0 .3em 0 .6em;width:1.6em}
 .refusal{stroke:var(--refusal)}
 div .axis{color:var(--faint);display:block;font-size:.85em;height:3.2em;overflow:visible;position:relative}
