@@ -4,7 +4,7 @@
 use Rattle.std.specs.Prelude.{◌≡◌, ℕ, Option, Some, None, List, [], ◌∷◌, ◌++◌, map, take, if◌then◌else◌}
 use Rattle.std.specs.Option.{option_map_or}
 use Rattle.std.specs.Str.{bytes_eq}
-use Rattle.handset.specs.Reception.{ShownMessage, block_type, page_octets, shown_in}
+use Rattle.handset.specs.Reception.{ShownMessage, block_type, page_octets, page_types, shown_in}
 use Rattle.handset.specs.Recording.{TapeRecording, AreRecordings}
 use Rattle.handset.specs.Tape.{TapeReading}
 use Rattle.cbch_blocks.specs.Blocks.{blocks_of_page}
@@ -20,6 +20,11 @@ short_page slot =
     else if bytes_eq (map block_type (take 2 slot)) (0x20 ∷ 0x31 ∷ []) then Some (page_octets (take 2 slot))
     else if bytes_eq (map block_type (take 3 slot)) (0x20 ∷ 0x21 ∷ 0x32 ∷ []) then Some (page_octets (take 3 slot))
     else None
+
+-- the octets that came of the page in a slot, if there is one: of four blocks, or of fewer
+abbrev pub page_of_slot : List (List ℕ) → Option (List ℕ)
+page_of_slot slot =
+    if bytes_eq (map block_type (take 4 slot)) page_types then Some (page_octets (take 4 slot)) else short_page slot
 
 -- the slot with four blocks of its page; a slot without a short page is as it is
 abbrev pub completed_slot : List (List ℕ) → List (List ℕ)

@@ -1,8 +1,8 @@
 //! Slots with short pages (3GPP TS 44.012, 3.3).
 
-ghost use Rattle.std.specs.Prelude.{◌≡◌, ◌≤◌, ◌==◌, ◌*◌, None, Some, length, take, if◌then◌else◌, IfOk};
+ghost use Rattle.std.specs.Prelude.{◌≡◌, ◌≤◌, ◌==◌, ◌*◌, None, Some, length, option_map, take, if◌then◌else◌, IfOk};
 ghost use Rattle.handset.specs.Reception.{page_octets};
-ghost use Rattle.short_pages.specs.Slots.{completed, completed_slot, short_page};
+ghost use Rattle.short_pages.specs.Slots.{completed, completed_slot, page_of_slot, short_page};
 
 use crate::page::whole_page;
 use arrayvec::ArrayVec;
@@ -23,6 +23,24 @@ const LAST_OF_TWO: u8 = 0x31;
 
 /// The type of the third block of a page of three.
 const LAST_OF_THREE: u8 = 0x32;
+
+/// The type of the third block of a page of four.
+const THIRD: u8 = 0x22;
+
+/// The type of its fourth.
+const LAST_OF_FOUR: u8 = 0x33;
+
+/// The octets that came of the page in a slot, of 22 for each of its blocks; `None` if its blocks are no page's (3GPP
+/// TS 44.012, 3.3).
+pub fn page_of_slot(slot: &[[u8; 23]; 4]) -> Option<ArrayVec<u8, 88>>
+    ensures { option_map (λ octets. octets.items) result ≡ page_of_slot slot.now }
+{
+    let count = block_count(slot);
+    if count == 0 {
+        return None;
+    }
+    Some(octets_of(&slot[..count]))
+}
 
 /// The four blocks of a slot. A page of one to three blocks gets those of the page of four that shows the characters
 /// that came whole (3GPP TS 44.012, 3.3); any other slot keeps its own.
@@ -52,6 +70,18 @@ pub fn completed_blocks(alloc: Global, blocks: &[[u8; 23]]) -> Result<Vec<[u8; 2
     }
     whole.extend_from_slice(rest)?;
     Ok(whole)
+}
+
+/// How many blocks the page of a slot has; 0 if there is none.
+fn block_count(slot: &[[u8; 23]; 4]) -> usize
+    ensures few { result ≤ 4 }
+    ensures page { page_of_slot slot.now ≡ (if result == 0 then None else Some (page_octets (take result slot.now))) }
+{
+    let [first, second, third, fourth] = slot;
+    match (first[0], second[0], third[0], fourth[0]) {
+        (FIRST, SECOND, THIRD, LAST_OF_FOUR) => 4,
+        _ => short_count(slot),
+    }
 }
 
 /// How many blocks the short page of a slot has; 0 if there is none.

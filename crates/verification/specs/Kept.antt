@@ -1,4 +1,4 @@
--- A message that a cell accepted, as it is kept (own). The contracts of private functions alone speak of it.
+-- A message that a cell accepted, as it is kept (own).
 use Rattle.verification.specs.declared.asked.Asked.{Asked}
 use Rattle.verification.specs.Asked.{AskedMessage}
 

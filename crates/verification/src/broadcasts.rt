@@ -13,14 +13,14 @@ use std::alloc::AllocError;
 
 impl<'a> Asked<'a> {
     /// The slot from which a broadcast may be sent.
-    pub(crate) fn release(&self, broadcast: u16) -> u64
+    pub fn release(&self, broadcast: u16) -> u64
         ensures { result ≡ release_slot (asked_kept self.now) broadcast }
     {
         u64::from(self.start) + u64::from(broadcast) * u64::from(self.period)
     }
 
     /// The slot before which a broadcast is due.
-    pub(crate) fn due(&self, broadcast: u16) -> u64
+    pub fn due(&self, broadcast: u16) -> u64
         ensures { result ≡ due_slot (asked_kept self.now) broadcast }
     {
         let period = u64::from(self.period);
@@ -48,7 +48,7 @@ impl<'a> Asked<'a> {
     }
 
     /// Of pages whose slots never fall, those that were sent from the release of a broadcast up to its due slot.
-    pub(crate) fn in_time<'p>(&self, pages: &'p [JudgedPage], broadcast: u16) -> &'p [JudgedPage]
+    pub fn in_time<'p>(&self, pages: &'p [JudgedPage], broadcast: u16) -> &'p [JudgedPage]
         requires { AllPairs (λ a b. a.slot ≤ b.slot) pages.now }
         ensures { result.now ≡ filter (is_in_time (asked_kept self.now) broadcast) pages.now }
     {

@@ -44,7 +44,7 @@ pub struct Difference {
 
 impl Kind {
     /// Its place among the kinds, and the number of its page or broadcast.
-    fn place(self) -> (u8, u16)
+    pub fn place(self) -> (u8, u16)
         ensures { result ≡ (kind_place self, kind_number self) }
     {
         match self {

@@ -25,9 +25,13 @@ mod shift;
 mod text;
 mod timed;
 
+pub use asked::Asked;
+pub use broadcasts::push_broadcast_differences;
 pub use cell::differences;
 pub use detail::{Detail, TableLayout};
 pub use difference::{Difference, Kind};
 pub use findings::{Findings, Table};
+pub use judged::JudgedPage;
+pub use pages::push_first;
 pub use row::{Finding, Row};
-pub use text::text_of;
+pub use text::{kind_text, text_of};

@@ -54,8 +54,12 @@ impl<'a> Asked<'a> {
     }
 }
 
-/// Appends a difference of this kind, at the first such page. The only error is out of memory.
-fn push_first(
+/// Appends a difference of this kind, at the first such page of a message, if there is one.
+///
+/// # Errors
+///
+/// Out of memory.
+pub fn push_first(
     found: &mut Vec<Difference>,
     asked: &Asked,
     pages: &[JudgedPage],

@@ -12,7 +12,11 @@ use std::alloc::{AllocError, Global};
 const HEADER: &str = "lac,ci,id,serial,slot,difference\n";
 
 /// What a kind of difference is called.
-pub(crate) fn kind_text(alloc: Global, kind: Kind) -> Result<String, AllocError>
+///
+/// # Errors
+///
+/// Out of memory.
+pub fn kind_text(alloc: Global, kind: Kind) -> Result<String, AllocError>
     ensures { IfOk result (λ text. string_bytes text ≡ kind_text kind) }
 {
     match kind {
