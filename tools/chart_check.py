@@ -3,7 +3,8 @@
 
 Usage: chart_check.py PROGRAM [BOOKS]            makes so many random books (20 if no number is given), for each ten of
                                                  them a network book of up to four groups, and one by hand
-       chart_check.py PROGRAM --picture FILE     writes a picture of the chart of the book by hand (PNG)
+       chart_check.py PROGRAM --pictures FOLDER  writes pictures of charts (PNG), those of docs/: of the book by hand,
+                                                 and of examples/flood.csv by day, on a phone, by night and printed
 
 Of each chart the bars, marks, refusals, titles, texts and loads are counted and compared with the rows of `report
 --full`, with what `read` shows of the tapes of `compile`; the lines of the loads have to stay within the cell's room,
@@ -16,7 +17,8 @@ bars, marks and loads of the run that are in it, which are put together of parts
 message has marks, or their number, by the rule of docs/formats.md. A third of the charts has the times of the day, by
 `--start`, and ticks at round ones of these. The page in German has to have the same elements and
 numbers, the German words that the page for browsers has, and none of the English ones. What titles say that identifiers
-mean has to be what Wireshark says, where it is installed.
+mean has to be what Wireshark says, where it is installed. Contrasts have to be as chart_contrast.py asks, and the chart
+of a book of 64 cells has to have three million octets at most.
 """
 import csv
 import datetime
@@ -25,6 +27,7 @@ import functools
 import html.parser
 import io
 import itertools
+import math
 import os
 import random
 import re
@@ -33,7 +36,12 @@ import subprocess
 import sys
 import tempfile
 
+import chart_contrast
 from books import GROUP, Alert, Sending, cell_line, random_orders
+
+TOP = os.path.dirname(os.path.dirname(os.path.realpath(__file__)))
+sys.path.append(os.path.join(TOP, "bench"))
+import inputs  # noqa: E402
 
 # how long a slot lasts in seconds: 8 multiframes of 51 frames of 120/26 ms
 SLOT = fractions.Fraction(8 * 51 * 120, 26 * 1000)
@@ -76,7 +84,6 @@ TEXTS = [
     "</bdi></svg></details><h1>'&amp;' & \"&lt;\"</h1>",
     "Вода поднимается! Идите в школу.",
 ]
-TOP = os.path.dirname(os.path.dirname(os.path.realpath(__file__)))
 SLOTS_BY_HAND = 48
 # so long that some messages have more broadcasts than marks
 SLOTS_LONG = 1000
@@ -84,6 +91,18 @@ SLOTS_LONG = 1000
 BROWSED = 10
 # widths of windows in pixels
 WIDTHS = (320, 400, 1280)
+# the most octets of the chart of the typical book of bench/, of 64 cells
+MOST_OCTETS = 3_000_000
+# so many pixels are below the last line of a picture
+MARGIN = 2
+# the pictures of docs/: the width of the window (A4 has 794 pixels), the last line, by night, and the medium
+PICTURES = (
+    ("chart", 1000, 13, False, ""),
+    ("chart-flood", 1280, 20, False, ""),
+    ("chart-phone", 400, 9, False, ""),
+    ("chart-dark", 1280, 12, True, ""),
+    ("chart-print", 794, 5, False, "print"),
+)
 
 
 class Page(html.parser.HTMLParser):
@@ -631,20 +650,26 @@ def random_clock(chance):
 
 
 def book_by_hand():
-    """Returns the book of which docs/ has a picture."""
     with open(os.path.join(TOP, "examples", "picture.csv"), encoding="utf-8") as it:
         return it.read()
 
 
-def take_picture(program, browser, path):
-    """Writes a picture of the chart of the book by hand."""
-    with tempfile.TemporaryDirectory() as folder:
-        chart = os.path.join(folder, "chart.html")
-        with open(chart, "wb") as file:
-            file.write(run(program, ["chart", "--slots", str(SLOTS_BY_HAND)], book_by_hand().encode()))
-        words = [browser, "--headless=new", "--no-sandbox", "--disable-gpu", f"--user-data-dir={folder}/profile"]
-        subprocess.run([*words, "--hide-scrollbars", "--window-size=1000,800", f"--screenshot={os.path.abspath(path)}",
-                        f"file://{chart}"], stderr=subprocess.DEVNULL, stdout=subprocess.DEVNULL, check=True)
+def take_pictures(program, folder):
+    """Writes the pictures of docs/."""
+    os.makedirs(folder, exist_ok=True)
+    flood = chart_contrast.chart_of(program, chart_contrast.flood(), chart_contrast.FLOOD_SLOTS)
+    by_hand = chart_contrast.chart_of(program, book_by_hand().encode(), SLOTS_BY_HAND)
+    for name, width, lines, dark, media in PICTURES:
+        with chart_contrast.opened(by_hand if name == "chart" else flood, width, dark, media) as page:
+            bottom = page.run(f"return document.querySelectorAll('div')[{lines - 1}].getBoundingClientRect().bottom")
+            page.shot(os.path.join(folder, f"{name}.png"), math.ceil(bottom) + MARGIN)
+
+
+def too_large(program):
+    """Yields whether the chart of the typical book has more octets than it may have."""
+    chart = chart_contrast.chart_of(program, inputs.made("typical"), inputs.SLOTS)
+    if len(chart) > MOST_OCTETS:
+        yield f"the chart of the typical book of bench/inputs.py has {len(chart)} octets, over {MOST_OCTETS}"
 
 
 def main(words):
@@ -655,9 +680,9 @@ def main(words):
     browser = shutil.which("chromium") or shutil.which("chromium-browser")
     if not browser:
         print("chart_check.py: SKIPPED what a browser makes of charts: Chromium isn't installed")
-    if words[1:2] == ["--picture"]:
+    if words[1:2] == ["--pictures"]:
         if browser:
-            take_picture(program, browser, words[2])
+            take_pictures(program, words[2])
         return 0
     chance, count = random.Random(41), int(words[1]) if words[1:] else 20
     books = [(book_by_hand(), []), *((random_book(chance), []) for _ in range(count))]
@@ -666,7 +691,7 @@ def main(words):
              for it in differences(program, browser if number < BROWSED else None, book, options,
                                    SLOTS_LONG if number % 4 == 3 else SLOTS_BY_HAND,
                                    random_clock(chance) if number % 3 == 2 else Clock())]
-    wrong += wrong_meanings()
+    wrong += [*wrong_meanings(), *too_large(program), *(chart_contrast.wrong(program) if browser else ())]
     wrong += [it for book, options in books if not options for it in wrong_part(program, book, chance)]
     wrong += [it for book, options in books[::4] if not options for it in wrong_part(program, book, chance, SLOTS_LONG)]
     print("\n".join(wrong) or f"{len(books)} charts are as their reports{', in the browser too' if browser else ''}")
