@@ -70,8 +70,9 @@ nav .loads{border-top-width:1px;height:1.4em}
 .f3{background:var(--f3);fill:var(--f3)}
 .f4{background:var(--f4);fill:var(--f4)}
 .f5{background:var(--f5);fill:var(--f5)}
-.whole{shape-rendering:crispEdges;stroke:var(--mark);stroke-width:1px}
+.whole{shape-rendering:crispEdges;stroke:var(--mark);stroke-width:1px;transform:translateY(5px)}
 :is(.f3,.f4,.f5)~.whole{stroke:var(--pale)}
+:is(.f4,.f5)~.whole{stroke-opacity:.8}
 .pace b{display:inline-block;height:.8em;margin:0 .3em 0 .6em;width:1.6em}
 .refusal{stroke:var(--refusal)}
 div .axis{color:var(--faint);display:block;font-size:.85em;height:3.2em;overflow:visible;position:relative}
@@ -89,9 +90,9 @@ div bdi,.cause{flex-basis:100%}
 }
 @media print{
 :root{--lane:#fff}
-svg{border:1px solid var(--faint);print-color-adjust:exact;-webkit-print-color-adjust:exact}
+svg{border:1px solid var(--faint);box-sizing:border-box;print-color-adjust:exact;-webkit-print-color-adjust:exact}
 div{break-inside:avoid}
-div p{white-space:normal}
+div p{display:block;white-space:normal}
 }
 @media(prefers-contrast:more){:root{--faint:var(--text)}svg{outline:1px solid var(--text)}}
 </style>
