@@ -1,0 +1,7 @@
+pub mod Columns
+pub mod Number
+pub mod Fields
+pub mod Page
+pub mod Row
+pub mod Ranges
+pub mod File
