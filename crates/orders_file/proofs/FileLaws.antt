@@ -1,5 +1,6 @@
 -- The rows of records, one after the other.
-use Rattle.std.proofs.Common.{◌≡◌, ◌≢◌, ◌⊎◌, ◌∙◌, ◌+◌, ◌++◌, ◌∷◌, ℕ, [], List, Ok, Err, append-nil, append_assoc, ap, inl}
+use Rattle.std.proofs.Common.{◌≡◌, ◌≢◌, ◌⊎◌, ◌∙◌, ◌+◌, ◌++◌, ◌∷◌, ℕ, [], List, Ok, Err, append-nil}
+use Rattle.std.proofs.Common.{append_assoc, ap, inl}
 use Rattle.std.proofs.Common.{inr, refl, sym}
 use Rattle.csv.specs.Reading.{Reached, default_config, strip_bom}
 use Rattle.csv.specs.declared.parser.State.{State}

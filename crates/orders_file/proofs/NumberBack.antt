@@ -1,9 +1,7 @@
 -- What is written of numbers is read back.
-use Rattle.std.proofs.Common.{◌≡◌, ◌<◌, ◌≤◌, ◌^◌, ◌∙◌, ◌/◌, ◌%◌, ◌*◌, ◌+◌, ℕ, zero, suc, true, false, cond, List, [], ◌∷◌}
-use Rattle.std.proofs.Common.{length, get_or, Option, Some, None, Ok, ap, refl, sym, arith}
+use Rattle.std.proofs.Common.{◌≡◌, ◌<◌, ◌≤◌, ◌^◌, ◌∙◌, ◌/◌, ◌%◌, ◌*◌, ◌+◌, ℕ, zero, suc, true, List, [], ◌∷◌}
+use Rattle.std.proofs.Common.{length, Option, Some, ap, refl, arith}
 use Rattle.std.specs.Prelude.{nat_le, option_map, All}
-use Rattle.std.specs.Char.{is_ascii_digit}
-use Rattle.std.specs.List.{list_all}
 use Rattle.std.specs.Fmt.{decimal}
 use Rattle.std.specs.Result.{result_ok}
 use Rattle.std.specs.Str.Parse.{digits_value}
@@ -11,10 +9,10 @@ use Rattle.std.proofs.lemmas.Fmt.{decimal_nonempty, digits_decimal, digits_value
 use Rattle.std.proofs.lemmas.List.Elements.{All-head, All-tail}
 use Rattle.hex.specs.Hex.{IsBytes, encode_lower}
 use Rattle.hex.proofs.HexLemmas.{decode_sized-encode_lower}
-use Rattle.orders_file.specs.Number.{is_number, number_up_to, octet_in, octet_of, octets_of, pair_in, pair_of, up_to}
+use Rattle.orders_file.specs.Number.{is_number, number_up_to, octet_in, octet_of, octets_of, pair_in, pair_of}
 use Rattle.orders_file.proofs.Digits.{own}
 
-le_test : (a b : ℕ) → a ≤ b → nat_le a b ≡ true
+pub le_test : (a b : ℕ) → a ≤ b → nat_le a b ≡ true
 le_test a b less = grind arith
 
 -- a decimal number

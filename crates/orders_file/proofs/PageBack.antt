@@ -1,21 +1,21 @@
 -- What is written of pages is read back.
-use Rattle.std.proofs.Common.{◌≡◌, ◌==◌, ◌<◌, ◌≤◌, ◌^◌, ◌∙◌, ◌+◌, ℕ, true, false, List, [], ◌∷◌, ◌++◌, length, take}
-use Rattle.std.proofs.Common.{drop, get_or, Option, Some, ap, refl, sym, arith, append_assoc, append-nil}
+use Rattle.std.proofs.Common.{◌≡◌, ◌≤◌, ◌∙◌, ◌+◌, ℕ, true, List, [], ◌∷◌, ◌++◌, length, take}
+use Rattle.std.proofs.Common.{drop, get_or, Some, ap, refl, sym, arith, append_assoc}
 use Rattle.std.specs.Prelude.{codes}
 use Rattle.std.specs.Char.{is_ascii_digit}
-use Rattle.std.specs.List.{list_all, position_or_len, before_first, after_first}
+use Rattle.std.specs.List.{list_all, position_or_len}
 use Rattle.std.specs.Fmt.{decimal}
-use Rattle.std.proofs.Math.Seq.{take-append_seam, drop-append_seam, get_or-append_seam}
+use Rattle.std.proofs.Math.Seq.{take-append_seam, get_or-append_seam}
 use Rattle.std.proofs.lemmas.Bool.{ne_eqb}
 use Rattle.std.proofs.lemmas.Fmt.{digits_decimal}
 use Rattle.std.proofs.lemmas.List.{get_or_append_left, drop_at, length-append}
 use Rattle.std.proofs.lemmas.List.Sums.{position_or_len_is}
 use Rattle.std.proofs.lemmas.Str.Parse.{not_in_digits}
 use Rattle.hex.specs.Hex.{encode_lower}
-use Rattle.orders_file.specs.Number.{number_up_to, octets_of}
-use Rattle.orders_file.specs.Page.{content_in, content_of, content_with, is_hyphen}
+use Rattle.orders_file.specs.Number.{octets_of}
+use Rattle.orders_file.specs.Page.{content_in, content_with, is_hyphen}
 use Rattle.orders_file.proofs.Digits.{own}
-use Rattle.orders_file.proofs.NumberBack.{number_back, octets_back}
+use Rattle.orders_file.proofs.NumberBack.{number_back}
 
 -- the first hyphen is behind the digits
 hyphen_behind : (digits rest : List ℕ) → list_all is_ascii_digit digits ≡ true

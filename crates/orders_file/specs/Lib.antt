@@ -5,3 +5,4 @@ pub mod Page
 pub mod Row
 pub mod Ranges
 pub mod File
+pub mod Laws

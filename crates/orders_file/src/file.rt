@@ -95,8 +95,8 @@ fn rows_of(alloc: Global, octets: &[u8]) -> Result<Vec<OrderRow>, OrdersFileFaul
 /// Reads the rows of an orders file: what [`orders_text`](cell_orders::orders_text) writes. The time and the packet of
 /// each are 0, since they aren't in the text. A byte order mark and empty lines are passed over.
 ///
-/// AT is at most 2,147,483,647, PERIOD at most 4,095; an order to broadcast has 1 to 15 pages, each with at most 82 used
-/// octets. There are at most 65,536 rows.
+/// AT is at most 2,147,483,647, PERIOD at most 4,095; an order to broadcast has 1 to 15 pages, each with at most 82
+/// used octets. There are at most 65,536 rows.
 ///
 /// # Errors
 ///

@@ -8,9 +8,11 @@ mod columns;
 mod fault;
 mod fields;
 mod file;
+mod laws;
 mod number;
 mod page;
 mod row;
 
 pub use fault::{OrdersFileFault, OrdersFileFaultKind};
 pub use file::{MAX_ORDERS_FILE, read_rows};
+pub use laws::orders_file_laws;

@@ -1,4 +1,5 @@
-use Rattle.std.proofs.Common.{◌≡◌, ◌<◌, ◌+◌, ◌++◌, ◌∷◌, ◌∙◌, [], ℕ, List, Ok, Err, ap, arith, drop, length, length-append, refl, rules, sym}
+use Rattle.std.proofs.Common.{◌≡◌, ◌<◌, ◌+◌, ◌++◌, ◌∷◌, ◌∙◌, [], ℕ, List, Ok, Err, ap, arith, drop, length}
+use Rattle.std.proofs.Common.{length-append, refl, rules, sym}
 use Rattle.std.proofs.lemmas.List.Elements.{All-push}
 use Rattle.csv.specs.Records.{fields_of}
 use Rattle.cbs_page.specs.declared.content.Content.{Content}
