@@ -1,5 +1,5 @@
 -- Worked values: rows, and their faults.
-use Rattle.std.proofs.Common.{◌≡◌, ◌∷◌, [], List, ℕ, Some, None, Ok, Err, refl}
+use Rattle.std.proofs.Common.{◌≡◌, ◌∷◌, [], Some, None, Ok, Err, refl}
 use Rattle.std.specs.Prelude.{codes}
 use Rattle.hex.specs.Hex.{decode_pairs}
 use Rattle.csv.specs.Records.{field_at}
