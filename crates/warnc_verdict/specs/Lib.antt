@@ -1,0 +1,2 @@
+pub mod OrdersVerified
+pub mod OrdersSteps
