@@ -12,3 +12,4 @@ pub mod RemarkedRuns
 pub mod NoPlan
 pub mod NoOrders
 pub mod AllTapes
+pub mod OrdersKept

@@ -19,6 +19,7 @@ use Rattle.warnc_cli.specs.declared.command.Task.TheVariants as task
 writes : (t : Task) (book input old new : Option (List ℕ)) → IsSilent t → WritesOutput (Means t) input old new
     → WritesAll t book input old new
 writes (task.Verify from slots pages layout file workers) book input old new one wrote = absurd one
+writes (task.VerifyOrders cell delay file) book input old new one wrote = absurd one
 writes (task.Tapes wanted file) book input old new one wrote = absurd one
 writes (task.Page language id serial) book input old new one wrote = wrote
 writes (task.Read wanted) book input old new one wrote = wrote
@@ -38,6 +39,7 @@ writes (task.Make run made) book input old new one wrote = wrote
 refuses : (t : Task) (book input : Option (List ℕ)) → IsSilent t → IfSome input (RefusesOne t)
     → Refuses t book input
 refuses (task.Verify from slots pages layout file workers) book input one refused = absurd one
+refuses (task.VerifyOrders cell delay file) book input one refused = absurd one
 refuses (task.Tapes wanted file) book input one refused = absurd one
 refuses (task.Page language id serial) book input one refused = refused
 refuses (task.Read wanted) book input one refused = refused
@@ -57,6 +59,7 @@ refuses (task.Make run made) book input one refused = refused
 groups : (t : Task) (book input old new : Option (List ℕ)) → WritesFirstGroups t None input old new
     → WritesFirstGroups t book input old new
 groups (task.Verify from slots pages layout file workers) book input old new wrote = wrote
+groups (task.VerifyOrders cell delay file) book input old new wrote = wrote
 groups (task.Tapes wanted file) book input old new wrote = wrote
 groups (task.Page language id serial) book input old new wrote = wrote
 groups (task.Read wanted) book input old new wrote = wrote
@@ -83,6 +86,7 @@ front t book input old new (inr wrote) = inr (groups t book input old new wrote)
 unseen : (t : Task) (book input old new : Option (List ℕ)) → IsSilent t → Keeps old new
     → KeepsUnseen t book input old new
 unseen (task.Verify from slots pages layout file workers) book input old new one kept = absurd one
+unseen (task.VerifyOrders cell delay file) book input old new one kept = absurd one
 unseen (task.Tapes wanted file) book input old new one kept = absurd one
 unseen (task.Page language id serial) book input old new one kept = (tt, kept)
 unseen (task.Read wanted) book input old new one kept = (tt, kept)

@@ -362,10 +362,32 @@ pub record AsksForVerify (words : List (List ℕ)) (from : Origin) (slots : ℕ)
     pub book_given : GivesValue words (codes "--book") file
     pub workers_given : GivesThreads words (codes "--workers") workers
 
--- the words name a file that is read beside the input: the book for `verify`, or the table of cells for `tape`
+-- the words say by how many slots what was ordered may come later than its answer; it is 0 where no word begins with
+-- the option's name
+abbrev pub GivesDelay : (words : List (List ℕ)) → ℕ → Type 0
+GivesDelay words delay =
+    GivesNumber words (codes "--delay") delay ⊎ ((is_given words (codes "--delay") ≡ false) × (delay ≡ 0))
+
+-- the words ask for `verify` of what this cell was ordered, by the orders in the file of this name and this delay
+pub record AsksForVerifyOrders (words : List (List ℕ)) (cell : Cell) (delay : ℕ) (file : List ℕ) : Type 0 where
+  pub command : slice_get words 1 ≡ Some (codes "verify")
+  pub given : is_given words (codes "--orders") ≡ true
+  pub cell_given : GivesCell words cell
+  pub delay_given : GivesDelay words delay
+  pub orders_given : GivesValue words (codes "--orders") file
+
+-- the words name the file by which `verify` judges: the orders, where a word begins with the option's name, or else the
+-- book
+abbrev pub GivesVerifiedFile : (words : List (List ℕ)) (file : List ℕ) → Type 0
+GivesVerifiedFile words file =
+    ((is_given words (codes "--orders") ≡ true) × GivesValue words (codes "--orders") file)
+    ⊎ ((is_given words (codes "--orders") ≡ false) × GivesValue words (codes "--book") file)
+
+-- the words name a file that is read beside the input: the book or the orders for `verify`, or the table of cells for
+-- `tape`
 abbrev pub GivesFile : (words : List (List ℕ)) (file : List ℕ) → Type 0
 GivesFile words file =
-    ((slice_get words 1 ≡ Some (codes "verify")) × GivesValue words (codes "--book") file)
+    ((slice_get words 1 ≡ Some (codes "verify")) × GivesVerifiedFile words file)
     ⊎ ((slice_get words 1 ≡ Some (codes "tape")) × GivesValue words (codes "--cells") file)
 
 -- a word that asks for help or for the version

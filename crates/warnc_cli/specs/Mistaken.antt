@@ -6,6 +6,7 @@ use Rattle.std.specs.Option.{option_and_then, option_map}
 use Rattle.std.specs.Str.{bytes_eq}
 use Rattle.byteorder.specs.Endian.{big_number, little_number}
 use Rattle.gsmtap.specs.File.{is_magic, is_pcapng}
+use Rattle.warnc_cli.specs.CommandLine.{is_given}
 use Rattle.warnc_cli.specs.declared.mistaken.Kind.{Kind}
 use Rattle.warnc_cli.specs.declared.mistaken.Kind.TheVariants as kind
 use Rattle.warnc_cli.specs.declared.mistaken.Mistaken.{Mistaken}
@@ -68,10 +69,16 @@ input_mistaken words input =
     option_and_then (λ command. option_and_then (λ taken. option_map (λ kind. is.Input kind) (unlike taken input))
     (kind_taken command)) (slice_get words 1)
 
--- what a command is given of another kind: the book, of which only `verify` has one, or else the input
-abbrev pub mistaken_by : Option Kind → Option Mistaken → Option Mistaken
-mistaken_by (Some kind) input = Some (is.Book kind)
+-- what of a file beside the input looks like another kind: orders look like none of these
+abbrev pub file_mistaken : (words : List (List ℕ)) → (file : List ℕ) → Option Mistaken
+file_mistaken words file =
+    if is_given words (codes "--orders") then option_map (λ kind. is.Orders kind) (kind_of file)
+    else option_map (λ kind. is.Book kind) (unlike kind.Book file)
+
+-- what a command is given of another kind: the file beside the input, or else the input
+abbrev pub mistaken_by : Option Mistaken → Option Mistaken → Option Mistaken
+mistaken_by (Some mistaken) input = Some mistaken
 mistaken_by None input = input
 
-abbrev pub mistaken_for : (words : List (List ℕ)) → (book input : List ℕ) → Option Mistaken
-mistaken_for words book input = mistaken_by (unlike kind.Book book) (input_mistaken words input)
+abbrev pub mistaken_for : (words : List (List ℕ)) → (file input : List ℕ) → Option Mistaken
+mistaken_for words file input = mistaken_by (file_mistaken words file) (input_mistaken words input)

@@ -55,7 +55,7 @@ pub record RefusesInput (words : List (List ℕ)) (book input : Option (List ℕ
   pub asked : IsTaskOf words task
   pub refused : Refuses task book input
 
--- the words ask for no command that reads a book or a table beside its input
+-- the words ask for no command that reads a book, orders or a table beside its input
 abbrev pub IsOfOneFile : (words : List (List ℕ)) → Type 0
 IsOfOneFile words = (slice_get words 1 ≢ Some (codes "verify"))
     × ((slice_get words 1 ≡ Some (codes "tape")) → is_given words (codes "--cells") ≡ false)

@@ -38,6 +38,8 @@ use Rattle.warnc_run.specs.declared.product.ProductFault.{ProductFault}
 use Rattle.warnc_run.specs.declared.product.ProductFault.TheVariants as product
 use Rattle.warnc_verify.specs.declared.fault.VerifyFault.{VerifyFault}
 use Rattle.warnc_verify.specs.declared.fault.VerifyFault.TheVariants as verify
+use Rattle.warnc_verify.specs.declared.orders.VerifyOrdersFault.{VerifyOrdersFault}
+use Rattle.warnc_verify.specs.declared.orders.VerifyOrdersFault.TheVariants as judge
 
 -- the status of a fault: 1 if the input is refused, 3 if a device failed, 4 if out of memory
 abbrev pub status_of_page_fault : PageFault → ℕ
@@ -172,3 +174,13 @@ status_of_verify_fault (verify.Tapes f) = status_of_tapes_fault f
 status_of_verify_fault (verify.Differences count) = 1
 status_of_verify_fault verify.Refused = 4
 status_of_verify_fault verify.WriteFailed = 3
+
+-- that of `verify` of orders, 1 if there are differences
+abbrev pub status_of_verify_orders_fault : VerifyOrdersFault → ℕ
+status_of_verify_orders_fault judge.Unread = 3
+status_of_verify_orders_fault judge.TooLong = 1
+status_of_verify_orders_fault (judge.Orders f) = 1
+status_of_verify_orders_fault (judge.Tapes f) = status_of_tapes_fault f
+status_of_verify_orders_fault (judge.Differences count) = 1
+status_of_verify_orders_fault judge.Refused = 4
+status_of_verify_orders_fault judge.WriteFailed = 3

@@ -10,6 +10,8 @@ use Rattle.alert_book.specs.Origin.{IsBookFrom}
 use Rattle.book_check.specs.Checked.{HasFaults, IsClean}
 use Rattle.book_remarks.specs.Remarked.{HasRemarks, IsRemarkedFor, IsStopped}
 use Rattle.book_texts.specs.TextsOutput.{IsTextsOutput}
+use Rattle.cell_orders.specs.declared.row.OrderRow.{OrderRow}
+use Rattle.cbsp_wire.specs.declared.message.Cell.{Cell}
 use Rattle.device_ends.specs.Moves.{WritesOutput}
 use Rattle.gsmtap.specs.Capture.{IsCapture}
 use Rattle.gsmtap.specs.Heard.{IsHeardFault}
@@ -18,6 +20,8 @@ use Rattle.gsmtap.specs.declared.fault.AirFault.{AirFault}
 use Rattle.gsmtap.specs.declared.tape.Wanted.{Wanted}
 use Rattle.handset.specs.Tape.{IsShort, IsLong}
 use Rattle.link_orders.specs.declared.orders.OrdersWanted.{OrdersWanted}
+use Rattle.orders_file.specs.File.{IsOrdersFile, IsOrdersFileFault, max_octets}
+use Rattle.orders_file.specs.declared.fault.OrdersFileFault.{OrdersFileFault}
 use Rattle.plan.specs.PlanOutput.{IsPlanOutput, IsPlanRowFault, IsTooLong}
 use Rattle.plan.specs.declared.fault.PlanRowFault.{PlanRowFault}
 use Rattle.short_pages.specs.declared.pages.Pages.{Pages}
@@ -45,11 +49,12 @@ use Rattle.warnc_run.specs.Engine.{IsMadeBy}
 use Rattle.warnc_run.specs.Faults.{StopsRun}
 use Rattle.warnc_run.specs.Groups.{IsGroupCount}
 use Rattle.warnc_run.specs.Network.{AreFirstParts}
+use Rattle.warnc_verify.specs.OrdersVerified.{AreOrdersBroken, AreOrdersKept, HasOrderDifferences}
 use Rattle.warnc_verify.specs.Verified.{Differs, HasDifferences, HasRun, IsVerified}
 use Rattle.warnc_cli.specs.CommandLine.{AsksForCells, AsksForOrders, AsksForTapes}
 use Rattle.warnc_cli.specs.CommandLine.{AsksForGroups, AsksForPage, AsksForPcap, AsksForRead, AsksForRun, AsksForTape}
 use Rattle.warnc_cli.specs.CommandLine.{AsksForCheck, AsksForPlan, AsksForRemarks, AsksForTexts, AsksForVerify}
-use Rattle.warnc_cli.specs.CommandLine.{AsksForWhole}
+use Rattle.warnc_cli.specs.CommandLine.{AsksForVerifyOrders, AsksForWhole}
 use Rattle.warnc_cli.specs.Status.{status_of_book_fault, status_of_page_fault}
 use Rattle.warnc_cli.specs.declared.command.Task.{Task}
 use Rattle.warnc_cli.specs.declared.command.Task.TheVariants as task
@@ -72,6 +77,7 @@ IsTaskOf words (task.Texts pages) = AsksForTexts words pages
 IsTaskOf words (task.Make run made) = AsksForRun words run made
 IsTaskOf words (task.Verify from slots pages layout file workers) =
     AsksForVerify words from slots pages layout file.now workers.number
+IsTaskOf words (task.VerifyOrders cell delay file) = AsksForVerifyOrders words cell delay file.now
 
 -- What is written with status 0.
 
@@ -93,14 +99,15 @@ Means task.Plan = IsPlanOutput
 Means (task.Texts pages) = IsTextsOutput pages
 Means (task.Make run made) = IsMadeBy run made
 Means (task.Verify from slots pages layout file workers) = λ input output. ⊥
+Means (task.VerifyOrders cell delay file) = λ input output. ⊥
 
 -- the octets are a table of cells and a capture, and the tapes of the cells
 abbrev pub AreAllTapes : AllWanted → (table capture output : List ℕ) → Type 0
 AreAllTapes wanted table capture output = (rows : List CellRow) × IsCellTable table rows
     × AreTapesOfCapture (all_wanted wanted rows) capture output
 
--- a writer was given the output of a book and of tapes, or of a table and of a capture: of those that the readers had
--- left, if they are known, and else of some
+-- a writer was given the output of a book or of orders and of tapes, or of a table and of a capture: of those that the
+-- readers had left, if they are known, and else of some
 pub record WritesOutputOfBoth (IsOutput : (book tapes output : List ℕ) → Type 0)
     (book tapes old new : Option (List ℕ)) : Type 0 where
   pub book_octets : List ℕ
@@ -116,6 +123,8 @@ pub record WritesOutputOfBoth (IsOutput : (book tapes output : List ℕ) → Typ
 abbrev pub WritesAll : Task → (book input old new : Option (List ℕ)) → Type 0
 WritesAll (task.Verify from slots pages layout file workers) book input old new =
     WritesOutputOfBoth (IsVerified from slots pages layout) book input old new
+WritesAll (task.VerifyOrders cell delay file) book input old new =
+    WritesOutputOfBoth (AreOrdersKept cell delay) book input old new
 WritesAll (task.Tapes wanted file) book input old new = WritesOutputOfBoth (AreAllTapes wanted) book input old new
 WritesAll other book input old new = WritesOutput (Means other) input old new
 
@@ -216,6 +225,24 @@ abbrev pub IsNotVerified : (from : Origin) (slots : ℕ) (pages : Pages) (book t
 IsNotVerified from slots pages book tapes = IsNoRun from slots 1 book
     ⊎ ((HasRun from slots book × IsNoTapes tapes) ⊎ Differs from slots pages book tapes)
 
+-- the octets have more than an orders file may have, or are none
+abbrev pub IsNoOrdersFile : (orders : List ℕ) → Type 0
+IsNoOrdersFile orders = (max_octets < length orders) ⊎ ((f : OrdersFileFault) × IsOrdersFileFault orders f)
+
+-- the octets are an orders file
+abbrev pub HasOrderRows : (orders : List ℕ) → Type 0
+HasOrderRows orders = (rows : List OrderRow) × IsOrdersFile orders rows
+
+-- nothing can be said of these tapes and these orders: they are none; or they are, and the tapes are no whole ones
+abbrev pub AreUnjudged : (orders tapes : List ℕ) → Type 0
+AreUnjudged orders tapes = IsNoOrdersFile orders ⊎ (HasOrderRows orders × IsNoTapes tapes)
+
+-- these tapes don't keep these orders: they are none; or they are, and the tapes are no whole ones; or there is a
+-- difference
+abbrev pub AreOrdersNotKept : (cell : Cell) (delay : ℕ) (orders tapes : List ℕ) → Type 0
+AreOrdersNotKept cell delay orders tapes = IsNoOrdersFile orders
+    ⊎ ((HasOrderRows orders × IsNoTapes tapes) ⊎ AreOrdersBroken cell delay orders tapes)
+
 -- the octets have more than a table of cells may have, or are none
 abbrev pub IsNoTable : (table : List ℕ) → Type 0
 IsNoTable table = (max_table < length table) ⊎ ((f : TableFault) × IsTableFault table f)
@@ -248,11 +275,14 @@ RefusesOne task.Plan = IsNoPlan
 RefusesOne (task.Texts pages) = IsNoRows
 RefusesOne (task.Make run made) = IsNoRunOf run.books run.slots run.sessions.number
 RefusesOne (task.Verify from slots pages layout file workers) = λ input. ⊥
+RefusesOne (task.VerifyOrders cell delay file) = λ input. ⊥
 
 -- what a task refuses, of readers whose octets are known
 abbrev pub Refuses : Task → (book input : Option (List ℕ)) → Type 0
 Refuses (task.Verify from slots pages layout file workers) book input =
     IfSome book (λ octets. IfSome input (IsNotVerified from slots pages octets))
+Refuses (task.VerifyOrders cell delay file) book input =
+    IfSome book (λ octets. IfSome input (AreOrdersNotKept cell delay octets))
 Refuses (task.Tapes wanted file) book input = IfSome book (λ table. IfSome input (HasNoTapes wanted table))
 Refuses other book input = IfSome input (RefusesOne other)
 
@@ -262,11 +292,12 @@ Refuses other book input = IfSome input (RefusesOne other)
 abbrev pub IsUnremarked : (slots : ℕ) (input : List ℕ) → Type 0
 IsUnremarked slots input = (max_book < length input) ⊎ ((f : RunFault) × IsStopped slots input f)
 
--- a task refuses what it reads and has no table to write of it: `verify` has no run or no tapes, and a book is too long
--- for `check`, or has no run with `--slots`. Other commands never write a table with status 1
+-- a task refuses what it reads and has no table to write of it: `verify` has no run, no orders or no tapes, and a book is
+-- too long for `check`, or has no run with `--slots`. Other commands never write a table with status 1
 abbrev pub RefusesUnseen : Task → (book input : Option (List ℕ)) → Type 0
 RefusesUnseen (task.Verify from slots pages layout file workers) book input =
     IfSome book (λ octets. IfSome input (IsUnverified from slots octets))
+RefusesUnseen (task.VerifyOrders cell delay file) book input = IfSome book (λ octets. IfSome input (AreUnjudged octets))
 RefusesUnseen task.Check book input = IfSome input (λ octets. max_book < length octets)
 RefusesUnseen (task.Remark slots start strict) book input = IfSome input (IsUnremarked slots)
 RefusesUnseen other book input = ⊤
@@ -286,6 +317,8 @@ WritesFirstGroups other book input old new = ⊥
 abbrev pub WritesDifferences : Task → (book input old new : Option (List ℕ)) → Type 0
 WritesDifferences (task.Verify from slots pages layout file workers) book input old new =
     WritesOutputOfBoth (HasDifferences from slots pages layout) book input old new
+WritesDifferences (task.VerifyOrders cell delay file) book input old new =
+    WritesOutputOfBoth (HasOrderDifferences cell delay) book input old new
 WritesDifferences task.Check book input old new =
     (count : ℕ) × WritesOutput (HasFaults count) input old new
 WritesDifferences (task.Remark slots start strict) book input old new =

@@ -4,12 +4,12 @@ ghost use Rattle.std.specs.Prelude.{◌≡◌, ◌<◌, ◌∷◌, ◌++◌, ◌
 ghost use Rattle.std.specs.Prelude.{slice_get};
 ghost use Rattle.warnc_cli.specs.CommandLine.{asks_for_text, begins_with, is_given, is_text_word, GivesNumber};
 ghost use Rattle.warnc_cli.specs.CommandLine.{GivesChannel, GivesChannelType, GivesSlots, GivesThreads, GivesValue};
-ghost use Rattle.warnc_cli.specs.CommandLine.{GivesAddress, GivesArfcn, GivesCell, GivesEdge, GivesFile};
+ghost use Rattle.warnc_cli.specs.CommandLine.{GivesAddress, GivesArfcn, GivesCell, GivesDelay, GivesEdge, GivesFile};
 ghost use Rattle.warnc_cli.specs.CommandLine.{GivesFirstSlot, GivesLanguage, GivesPart, GivesSlotStart, GivesView};
 ghost use Rattle.warnc_cli.specs.CommandLine.{GivesWanted, IsAddress, IsCell};
 ghost use Rattle.warnc_cli.specs.CommandLine.{columns_given, slots_given, GivesBooks, GivesOrigin, GivesPages};
 ghost use Rattle.warnc_cli.specs.CommandLine.{detail_given, pages_given, GivesProduct, GivesTapeSlots, IsNumber};
-ghost use Rattle.warnc_cli.specs.CommandLine.{GivesTableLayout};
+ghost use Rattle.warnc_cli.specs.CommandLine.{GivesTableLayout, GivesVerifiedFile};
 ghost use Rattle.warnc_cli.specs.Tasks.{IsTaskOf};
 
 use crate::start::{slot_start_in, start_in};
@@ -31,7 +31,7 @@ use warnc_air::all::AllWanted;
 use warnc_run::{Books, Product, Run, Sessions, Workers};
 
 /// The version of the program, and on a line of its own what `rt version` says of the toolchain that proved it.
-const VERSION: &str = "1.15.0\nrattle-kit-13f logic dac8208d650f15bf";
+const VERSION: &str = "1.16.0\nrattle-kit-13f logic dac8208d650f15bf";
 
 /// The words for the channel that packets name.
 const CHANNEL_TYPES: &[&str] = &["cbch", "sdcch"];
@@ -117,6 +117,15 @@ pub enum Task<'a> {
         /// How many workers play the cells.
         workers: Workers,
     },
+    /// `verify` of the orders of a cell.
+    VerifyOrders {
+        /// The cell whose tape is judged.
+        cell: Cell,
+        /// By how many slots what was ordered may come later than its answer.
+        delay: u16,
+        /// The name of the orders' file.
+        file: &'a str,
+    },
 }
 
 /// What the words ask for. clap judges the words; what they give is then looked up in the words themselves, since the
@@ -169,14 +178,7 @@ fn task_in<'a, S: AsStr>(words: &'a [S]) -> Option<Task<'a>>
             Product::Chart(view_in(words)?),
             Sessions { number: 1 },
         ),
-        "verify" => Some(Task::Verify {
-            origin: origin_in(words)?,
-            slots: slots_in(words)?,
-            pages: wanted_pages(words),
-            layout: table_layout_in(words)?,
-            file: value_of(words, "--book")?,
-            workers: workers_in(words)?,
-        }),
+        "verify" => verify_in(words),
         _ => None,
     }
 }
@@ -255,6 +257,37 @@ fn orders_in<'a, S: AsStr>(words: &'a [S]) -> Option<Task<'a>>
             from,
         },
         packets: is_given(words, "--packets"),
+    })
+}
+
+/// The `verify` that the words ask for: of a book, or of the orders of a cell.
+fn verify_in<'a, S: AsStr>(words: &'a [S]) -> Option<Task<'a>>
+    requires { slice_get (map S.text words.now) 1 ≡ Some (codes "verify") }
+    ensures { IfSome result (IsTaskOf (map S.text words.now)) }
+{
+    if is_given(words, "--orders") {
+        return verify_orders_in(words);
+    }
+    Some(Task::Verify {
+        origin: origin_in(words)?,
+        slots: slots_in(words)?,
+        pages: wanted_pages(words),
+        layout: table_layout_in(words)?,
+        file: value_of(words, "--book")?,
+        workers: workers_in(words)?,
+    })
+}
+
+/// The `verify` of the orders of a cell that the words ask for.
+fn verify_orders_in<'a, S: AsStr>(words: &'a [S]) -> Option<Task<'a>>
+    requires command { slice_get (map S.text words.now) 1 ≡ Some (codes "verify") }
+    requires given { is_given (map S.text words.now) (codes "--orders") ≡ true }
+    ensures { IfSome result (IsTaskOf (map S.text words.now)) }
+{
+    Some(Task::VerifyOrders {
+        cell: cell_in(words)?,
+        delay: delay_in(words)?,
+        file: value_of(words, "--orders")?,
     })
 }
 
@@ -509,6 +542,16 @@ fn first_slot_in<S: AsStr>(words: &[S]) -> Option<u16>
     number_of(words, "--first-slot")
 }
 
+/// By how many slots what was ordered may come later than its answer, by the words: 0 if they give none.
+fn delay_in<S: AsStr>(words: &[S]) -> Option<u16>
+    ensures { IfSome result (GivesDelay (map S.text words.now)) }
+{
+    if !is_given(words, "--delay") {
+        return Some(0);
+    }
+    number_of(words, "--delay")
+}
+
 /// The channel that packets name for a cell broadcast channel, by the words: its own if they give none.
 fn channel_type_in<S: AsStr>(words: &[S]) -> Option<ChannelType>
     ensures { IfSome result (GivesChannelType (map S.text words.now)) }
@@ -597,15 +640,28 @@ fn slots_in<S: AsStr>(words: &[S]) -> Option<u16>
     Some(slots)
 }
 
-/// The name of the file that is read beside the input: the book for `verify`, or the table of cells for `tape`; none if
-/// the words ask for another command or name no file. It is that which faults name, if clap takes the words.
+/// The name of the file that is read beside the input: the book or the orders for `verify`, or the table of cells for
+/// `tape`; none if the words ask for another command or name no file. It is that which faults name, if clap takes the
+/// words.
 pub fn book_file<'a, S: AsStr>(words: &'a [S]) -> Option<&'a str>
     ensures { IfSome result (λ file. GivesFile (map S.text words.now) file.now) }
 {
     match words.get(1)?.as_str() {
-        "verify" => value_of(words, "--book"),
+        "verify" => verified_file(words),
         "tape" => value_of(words, "--cells"),
         _ => None,
+    }
+}
+
+/// The name of the file by which `verify` judges: that of the orders if a word begins with the option's name, and else
+/// that of the book.
+fn verified_file<'a, S: AsStr>(words: &'a [S]) -> Option<&'a str>
+    ensures { IfSome result (λ file. GivesVerifiedFile (map S.text words.now) file.now) }
+{
+    if is_given(words, "--orders") {
+        value_of(words, "--orders")
+    } else {
+        value_of(words, "--book")
     }
 }
 
@@ -797,16 +853,21 @@ fn read<'a>(alloc: Global) -> Result<Command<'a>, AllocError> {
 fn verify<'a>(alloc: Global) -> Result<Command<'a>, AllocError> {
     Command::new(alloc, "verify")
         .about(
-            "Reads tapes, also of another sender's, and writes what they have\notherwise than a book of alerts asks, as CSV",
+            "Reads tapes, also of another sender's, and writes what they have\notherwise than a book of alerts asks, or than orders ask of a cell, as\nCSV",
         )
-        .after_help("Example: warnc verify --slots 4096 --book book.csv < tapes")
-        .arg(book(alloc))?
-        .arg(slots(alloc))?
+        .after_help(
+            "Examples: warnc verify --slots 4096 --book book.csv < tapes\n          warnc verify --orders orders.csv --cell 1-1 --delay 4 < tapes",
+        )
+        .arg(book(alloc)?)?
+        .arg(verified_slots(alloc)?)?
         .arg(short(alloc))?
         .arg(explain(alloc))?
         .arg(differing_clock(alloc))?
         .arg(group(alloc))?
-        .arg(workers(alloc))
+        .arg(workers(alloc))?
+        .arg(judging_orders(alloc)?)?
+        .arg(judged_cell(alloc)?)?
+        .arg(delay(alloc)?)
 }
 
 /// The command line of `check`.
@@ -1054,13 +1115,63 @@ fn strict<'a>(alloc: Global) -> Result<Arg<'a>, AllocError> {
 }
 
 /// The option of the file of a book.
-fn book<'a>(alloc: Global) -> Arg<'a> {
-    option(
+fn book<'a>(alloc: Global) -> Result<Arg<'a>, AllocError> {
+    optional(
         alloc,
         "book",
         "FILE",
         "The file of the book; the tapes are the input",
     )
+    .required_unless_present("orders")
+}
+
+/// The option of the number of slots of a run that is verified.
+fn verified_slots<'a>(alloc: Global) -> Result<Arg<'a>, AllocError> {
+    optional(
+        alloc,
+        "slots",
+        "SLOTS",
+        "How many slots each cell's run has, 1 to 65535,\neach 1.883 s",
+    )
+    .value_parser(value_parser!(u16).range(1..=65535))
+    .required_unless_present("orders")
+}
+
+/// The option of the file of orders by which a tape is judged.
+fn judging_orders<'a>(alloc: Global) -> Result<Arg<'a>, AllocError> {
+    optional(
+        alloc,
+        "orders",
+        "FILE",
+        "The file of what one cell was ordered and answered,\nas the command orders writes it, in place of a book",
+    )
+    .requires_arg("cell")?
+    .conflicts_with_all(&[
+        "book", "slots", "short", "explain", "start", "group", "workers",
+    ])
+}
+
+/// The option of the cell whose tape is judged by orders.
+fn judged_cell<'a>(alloc: Global) -> Result<Arg<'a>, AllocError> {
+    optional(
+        alloc,
+        "cell",
+        "LAC-CI",
+        "The cell that was ordered so, as 1-2: its first tape\nis judged",
+    )
+    .requires_arg("orders")
+}
+
+/// The option of the delay of what was ordered.
+fn delay<'a>(alloc: Global) -> Result<Arg<'a>, AllocError> {
+    optional(
+        alloc,
+        "delay",
+        "SLOTS",
+        "By how many slots all comes later on the air than its\nanswer, 0 to 65535 [0]",
+    )
+    .value_parser(value_parser!(u16))
+    .requires_arg("orders")
 }
 
 /// The option of the text's language.

@@ -2,9 +2,10 @@
 
 ghost use Rattle.std.specs.Prelude.{◌≡◌, map};
 ghost use Rattle.gsmtap.specs.File.{is_magic, is_pcapng};
-ghost use Rattle.warnc_cli.specs.Mistaken.{is_of_kind, kind_of, kind_taken, looks_like_book, looks_like_capture};
-ghost use Rattle.warnc_cli.specs.Mistaken.{looks_like_tapes, mistaken_for, unlike};
+ghost use Rattle.warnc_cli.specs.Mistaken.{file_mistaken, is_of_kind, kind_of, kind_taken, looks_like_book};
+ghost use Rattle.warnc_cli.specs.Mistaken.{looks_like_capture, looks_like_tapes, mistaken_for, unlike};
 
+use crate::command::is_given;
 use byteorder::{BigEndian, ByteOrder, LittleEndian};
 use gsmtap::file::is_pcapng;
 use std::convert::AsStr;
@@ -31,6 +32,8 @@ pub enum Mistaken {
     Input(Kind),
     /// The book of `verify` does.
     Book(Kind),
+    /// The file of orders of `verify` does.
+    Orders(Kind),
 }
 
 impl fmt::Display for Kind {
@@ -48,22 +51,38 @@ impl fmt::Display for Mistaken {
         match self {
             Mistaken::Input(kind) => write!(f, "the input looks like {kind}"),
             Mistaken::Book(kind) => write!(f, "the book looks like {kind}"),
+            Mistaken::Orders(Kind::Capture) => {
+                f.write_str("the orders look like a capture: warnc orders writes those in it")
+            }
+            Mistaken::Orders(kind) => write!(f, "the orders look like {kind}"),
         }
     }
 }
 
-/// What the words' command is given that looks like another kind of input than it takes, if the book or the input
-/// does, by the first octets of each: at most [`FRONT`] are looked at.
-pub fn mistaken_for<S: AsStr>(words: &[S], book: &[u8], input: &[u8]) -> Option<Mistaken>
-    ensures { result ≡ mistaken_for (map S.text words.now) book.now input.now }
+/// What the words' command is given that looks like another kind of input than it takes, if the file beside the input
+/// or the input does, by the first octets of each: at most [`FRONT`] are looked at.
+pub fn mistaken_for<S: AsStr>(words: &[S], file: &[u8], input: &[u8]) -> Option<Mistaken>
+    ensures { result ≡ mistaken_for (map S.text words.now) file.now input.now }
 {
-    if let Some(kind) = unlike(Kind::Book, book) {
-        return Some(Mistaken::Book(kind));
+    if let Some(mistaken) = file_mistaken(words, file) {
+        return Some(mistaken);
     }
     let command = words.get(1)?;
     let taken = kind_taken(command.as_str())?;
     let kind = unlike(taken, input)?;
     Some(Mistaken::Input(kind))
+}
+
+/// What the file beside the input is, if it looks like another kind than the words take: orders look like none of these.
+fn file_mistaken<S: AsStr>(words: &[S], file: &[u8]) -> Option<Mistaken>
+    ensures { result ≡ file_mistaken (map S.text words.now) file.now }
+{
+    if is_given(words, "--orders") {
+        let kind = kind_of(file)?;
+        return Some(Mistaken::Orders(kind));
+    }
+    let kind = unlike(Kind::Book, file)?;
+    Some(Mistaken::Book(kind))
 }
 
 /// Which kind of input a command takes, if it takes one of these.

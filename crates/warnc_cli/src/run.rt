@@ -18,7 +18,8 @@ use crate::command::{Task, asks_for_text, is_given, task_of};
 use crate::ends::{Noted, OpenLine};
 use crate::mistaken::mistaken_for;
 use crate::status::{
-    DEVICE, DONE, MEMORY, REFUSED_INPUT, USAGE, failed, failed_with_book, failed_with_table,
+    DEVICE, DONE, MEMORY, REFUSED_INPUT, USAGE, failed, failed_with_book, failed_with_orders,
+    failed_with_table,
 };
 use crate::unreadable::Unreadable;
 use alert_book::Origin;
@@ -26,6 +27,7 @@ use book_check::check_stream;
 use book_remarks::remark_stream;
 use book_texts::texts_stream;
 use cbs_page::Serial;
+use cbsp_wire::Cell;
 use clap::Error;
 use clap::error::ErrorKind;
 use device_ends::{Sink, Source, write_all};
@@ -50,13 +52,13 @@ use warnc_inspect::page::page_stream;
 use warnc_inspect::read::read_stream;
 use warnc_inspect::whole::whole_stream;
 use warnc_run::{Product, Run, Workers, groups_stream, run_product};
-use warnc_verify::verify_stream;
+use warnc_verify::{verify_orders_stream, verify_stream};
 
 /// Runs the command that the words ask for (the first is the program's name), from a reader to a writer, and returns
 /// the status: 0 done, 1 refused input, 2 command line, 3 device, 4 memory. A fault is one line for `faults`, `warnc: `
 /// and the text, or the text that clap has; what `faults` doesn't take changes no status. Help goes to the writer.
 ///
-/// `verify` asks for a book beside the reader, and ends with 3 here, as with a book that can't be read.
+/// `verify` asks for a book or orders beside the reader, and ends with 3 here, as with a file that can't be read.
 pub fn run<T: AllocGlobal + Threads + Wait + Sync, S: AsStr, R: Read, W: Write, F: Write>(
     rt: &T,
     words: &[S],
@@ -70,8 +72,8 @@ pub fn run<T: AllocGlobal + Threads + Wait + Sync, S: AsStr, R: Read, W: Write, 
     run_with_book(rt, words, &mut Unreadable, reader, writer, faults)
 }
 
-/// The same with a book for `verify`, or a table of cells for `tape`: the octets of the file that the words name
-/// ([`book_file`](crate::book_file)). Other commands don't read it.
+/// The same with a book or orders for `verify`, or a table of cells for `tape`: the octets of the file that the words
+/// name ([`book_file`](crate::book_file)). Other commands don't read it.
 ///
 /// This wraps the three ends, and is `run_between` on them: whose contract says what is written. With status 1 the line
 /// for `faults` ends with what looks like another kind of input, if the book or the input does
@@ -129,7 +131,7 @@ fn run_noted<
 /// The same, between the ends. With status 0 what the words ask for is written. That is one octet at least, but for
 /// `compile` and `live`, since a book without cells has no tapes, for `whole`, `plan` and `orders`, and for the report
 /// of a group. With 2 and 4 nothing is written. With 1 `verify` has written the differences, or nothing where there is
-/// no run or no tape to judge; `check` has written the faults or the remarks, or nothing of a book that is too long or
+/// no run, no orders or no tape to judge; `check` has written the faults or the remarks, or nothing of a book that is too long or
 /// has no run; other commands have written nothing. Of a network whose run ends early the first groups are written
 /// with 1 and with 4.
 pub fn run_between<
@@ -248,6 +250,9 @@ fn run_task<T: AllocGlobal + Threads + Wait + Sync, B: Read, R: Read, W: Write, 
         } => run_verify(
             rt, origin, slots, pages, layout, file, workers, book, source, sink, faults,
         ),
+        Task::VerifyOrders { cell, delay, file } => {
+            run_verify_orders(alloc, cell, delay, file, book, source, sink, faults)
+        }
     }
 }
 
@@ -589,6 +594,26 @@ fn run_verify<T: AllocGlobal + Threads + Wait + Sync, B: Read, R: Read, W: Write
     match verify_stream(rt, book, tapes, sink, origin, slots, pages, layout, workers) {
         Ok(()) => DONE,
         Err(fault) => failed_with_book(&fault, file, faults),
+    }
+}
+
+/// Runs `verify` with the orders of this file, and returns the status.
+fn run_verify_orders<B: Read, R: Read, W: Write, F: Write>(
+    alloc: Global,
+    cell: Cell,
+    delay: u16,
+    file: &str,
+    orders: &mut Source<B>,
+    tapes: &mut Source<R>,
+    sink: &mut Sink<W>,
+    faults: &mut F,
+) -> u8
+    ensures { HasRun (Task.VerifyOrders cell delay file.entry) result B.remaining R.remaining W.contents orders.old
+        orders.new tapes.old tapes.new sink.old sink.new }
+{
+    match verify_orders_stream(alloc, orders, tapes, sink, cell, delay) {
+        Ok(()) => DONE,
+        Err(fault) => failed_with_orders(&fault, file, faults),
     }
 }
 

@@ -7,6 +7,7 @@ ghost use Rattle.warnc_cli.specs.Status.{status_of_product_fault, status_of_read
 ghost use Rattle.warnc_cli.specs.Status.{status_of_run_fault};
 ghost use Rattle.warnc_cli.specs.Status.{status_of_tape_fault, status_of_tapes_fault, status_of_texts_fault};
 ghost use Rattle.warnc_cli.specs.Status.{status_of_tapes_of_all, status_of_verify_fault};
+ghost use Rattle.warnc_cli.specs.Status.{status_of_verify_orders_fault};
 
 use alert_book::{BookFault, BookFaultKind};
 use book_check::CheckFault;
@@ -26,7 +27,7 @@ use warnc_air::tape::TapeCommandFault;
 use warnc_inspect::page::PageFault;
 use warnc_inspect::read::ReadCommandFault;
 use warnc_run::{ProductFault, RunFault};
-use warnc_verify::VerifyFault;
+use warnc_verify::{VerifyFault, VerifyOrdersFault};
 
 /// All was done, or help was written.
 pub const DONE: u8 = 0;
@@ -102,6 +103,30 @@ pub(crate) fn failed_with_book<F: Write>(fault: &VerifyFault, file: &str, faults
         }
         _ => failed(fault, faults),
     }
+}
+
+/// Whether a fault of `verify` of orders is one of their file.
+fn is_of_orders(fault: &VerifyOrdersFault) -> bool {
+    matches!(
+        fault,
+        VerifyOrdersFault::Unread | VerifyOrdersFault::TooLong | VerifyOrdersFault::Orders(_)
+    )
+}
+
+/// Reports a fault of `verify` of orders: one of their file is named by it, since the tapes are another input.
+pub(crate) fn failed_with_orders<F: Write>(
+    fault: &VerifyOrdersFault,
+    file: &str,
+    faults: &mut F,
+) -> u8
+    ensures { result ≡ status_of_verify_orders_fault fault.now }
+{
+    if !is_of_orders(fault) {
+        return failed(fault, faults);
+    }
+    let status = fault.status();
+    let _ = writeln!(faults, "warnc: {file}: {fault}");
+    status
 }
 
 impl Fault for PageFault {
@@ -279,6 +304,20 @@ impl Fault for VerifyFault {
             VerifyFault::Differences(_) => REFUSED_INPUT,
             VerifyFault::Refused => MEMORY,
             VerifyFault::WriteFailed => DEVICE,
+        }
+    }
+}
+
+impl Fault for VerifyOrdersFault {
+    ghost status_of = { status_of_verify_orders_fault };
+
+    fn status(&self) -> u8 {
+        match *self {
+            VerifyOrdersFault::TooLong | VerifyOrdersFault::Orders(_) => REFUSED_INPUT,
+            VerifyOrdersFault::Tapes(fault) => fault.status(),
+            VerifyOrdersFault::Differences(_) => REFUSED_INPUT,
+            VerifyOrdersFault::Unread | VerifyOrdersFault::WriteFailed => DEVICE,
+            VerifyOrdersFault::Refused => MEMORY,
         }
     }
 }
