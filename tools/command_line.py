@@ -17,7 +17,7 @@ import re
 import subprocess
 import sys
 import textwrap
-from dataclasses import dataclass, field
+from dataclasses import dataclass, field, replace
 
 import limits
 import release
@@ -43,6 +43,9 @@ class Option:
     is_required: bool
     excludes: list
     needs: list
+    # the options unless one of which is given it is required, and those in whose place it stands with all that need it
+    unless: list
+    instead: list
     choices: list
 
 
@@ -111,8 +114,11 @@ def choices_of(text, body):
 def option_of(body):
     kind, said = only(rf"\b(option|optional|threads|flag)\(\s*alloc,((?:\s*{STRING},?)+)\s*\)", body)[:2]
     name, *value, text = (plain(it) for it in re.findall(STRING, said))
-    excludes, needs = (re.findall(rf"\.{it}\({STRING}\)", body) for it in ("conflicts_with", "requires_arg"))
-    return Option(name, value[0] if value else "", text, kind == "option", excludes, needs, choices_of(text, body))
+    excludes, needs, unless = (re.findall(rf"\.{it}\({STRING}\)", body)
+                               for it in ("conflicts_with", "requires_arg", "required_unless_present"))
+    instead = re.findall(STRING, "".join(re.findall(r"\.conflicts_with_all\(&\[(.*?)\]\)", body, re.S)))
+    return Option(name, value[0] if value else "", text, kind == "option", excludes, needs, unless, instead,
+                  choices_of(text, body))
 
 
 def of_source():
@@ -192,8 +198,14 @@ def man_option(option, known):
     yield from man_lines(text + end)
     if option.is_required:
         yield "Has to be given."
+    for name in option.unless:
+        yield from ("Has to be given, unless", f".B \\-\\-{roff(name)}", "is.")
     for name in option.excludes:
         yield from ("Can't be given beside", f".BR \\-\\-{roff(name)} .")
+    if option.instead:
+        *names, last = (f".BR \\-\\-{roff(name)} " for name in option.instead)
+        yield from ("Can't be given beside", *(it + "," for it in names[:-1]), names[-1].replace(".BR", ".B").rstrip(),
+                    "or", last + ".")
 
 
 def man_commands(commands, page):
@@ -230,14 +242,24 @@ def in_words(option, others, needing):
     return forms[0] + more if option.is_required else f"[{'|'.join(forms)}{more}]"
 
 
-def words_of(command):
-    """Returns the words of a command: options that have to be given first."""
-    excluding = {name: it for it in command.options for name in it.excludes}
-    hidden = {it.name for it in excluding.values()} | {it.name for it in command.options if it.needs}
-    ordered = sorted((it for it in command.options if it.name not in hidden), key=lambda it: not it.is_required)
-    return " ".join([command.name, *(in_words(it, [excluding[it.name]] if it.name in excluding else [],
-                                              [one for one in command.options if it.name in one.needs])
-                                     for it in ordered)])
+def words_of(name, options):
+    """Returns the words of a command with these options: those that have to be given first."""
+    excluding = {name: it for it in options for name in it.excludes}
+    hidden = {it.name for it in excluding.values()} | {it.name for it in options if it.needs}
+    ordered = sorted((it for it in options if it.name not in hidden), key=lambda it: not it.is_required)
+    return " ".join([name, *(in_words(it, [excluding[it.name]] if it.name in excluding else [],
+                                      [one for one in options if it.name in one.needs]) for it in ordered)])
+
+
+def forms_of(command):
+    """Yields the words of a command, and those with an option that stands in place of others."""
+    other = next((it for it in command.options if it.instead), None)
+    beside = [it for it in command.options if other and (it is other or other.name in it.needs)]
+    yield words_of(command.name, [replace(it, is_required=it.is_required or bool(other and other.name in it.unless))
+                                  for it in command.options if it not in beside])
+    if other:
+        yield words_of(command.name, [replace(it, is_required=it is other or it.name in other.needs, needs=[])
+                                      for it in beside])
 
 
 def usage(commands):
@@ -245,9 +267,9 @@ def usage(commands):
     lines = []
     for it in commands:
         # the words of a command aren't broken, but between options where they are longer than a line
-        words, blank = words_of(it), "\N{NO-BREAK SPACE}"
-        words = re.sub(r" (?!\[)" if len(words) > WIDTH - 8 else " ", blank, words)
-        line = f"- `{words}`: {uncapped(it.text)}"
+        blank = "\N{NO-BREAK SPACE}"
+        forms = [re.sub(r" (?!\[)" if len(words) > WIDTH - 8 else " ", blank, words) for words in forms_of(it)]
+        line = f"- `{'` or `'.join(forms)}`: {uncapped(it.text)}"
         lines += [part.replace(blank, " ") for part in textwrap.wrap(line, WIDTH, subsequent_indent="  ",
                                                                      break_on_hyphens=False)]
     made = "\n".join(lines) + "\n\n"
@@ -353,7 +375,8 @@ def zsh_text(text):
 
 def zsh_option(option, others):
     text = zsh_text(uncapped(without_default(option.text)[0].partition(": ")[0]))
-    not_beside = [f"--{it.name}" for it in others if it.name in option.excludes or option.name in it.excludes]
+    not_beside = [f"--{it.name}" for it in others if it.name in option.excludes + option.instead
+                  or option.name in it.excludes + it.instead]
     front = f"({' '.join(not_beside)})" if not_beside else ""
     if not option.value:
         return f"'{front}--{option.name}[{text}]'"

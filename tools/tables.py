@@ -57,7 +57,7 @@ class Bench:
         """Runs the program in a folder of its own, with the file that the words name for a book,
         and returns the status."""
         with tempfile.TemporaryDirectory(prefix="warnc-tables-") as folder:
-            named = re.search(r"--(?:book|cells)[= ](\S+)", " ".join(self.words))
+            named = re.search(r"--(?:book|cells|orders)[= ](\S+)", " ".join(self.words))
             if named and self.has_book:
                 with open(os.path.join(folder, named[1]), "wb") as it:
                     it.write(self.sheets["book"].octets)

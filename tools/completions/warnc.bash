@@ -22,7 +22,7 @@ _warnc() {
         page--update) words="0 1 2 3 4 5 6 7 8 9 10 11 12 13 14 15" ;;
         pcap--channel) words="51 52" ;;
         tape--channel | orders--channel) words="cbch sdcch" ;;
-        *--book | *--cells)
+        *--book | *--orders | *--cells)
             mapfile -t COMPREPLY < <(compgen -f -- "$word")
             compopt -o filenames
             return
@@ -39,7 +39,7 @@ _warnc() {
             report) words="--slots --group --network --full --start --workers -h --help" ;;
             chart) words="--slots --group --network --cell --from --to --lang --start --workers -h --help" ;;
             read) words="--short -h --help" ;;
-            verify) words="--book --slots --short --explain --start --group --workers -h --help" ;;
+            verify) words="--book --slots --short --explain --start --group --workers --orders --cell --delay -h --help" ;;
             page) words="--lang --id --scope --code --update -h --help" ;;
             live) words="--slots --group --network --sessions --workers -h --help" ;;
             pcap) words="--used --channel --start -h --help" ;;

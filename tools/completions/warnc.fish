@@ -12,7 +12,7 @@ complete -c warnc -n __fish_use_subcommand -a compile -d 'Reads a book of alerts
 complete -c warnc -n __fish_use_subcommand -a report -d 'Reads a book of alerts, as CSV, and writes what became of each order in each cell, as CSV'
 complete -c warnc -n __fish_use_subcommand -a chart -d 'Reads a book of alerts, as CSV, and writes what became of them in each cell as a page to look at'
 complete -c warnc -n __fish_use_subcommand -a read -d 'Reads tapes of blocks and writes a table of what a handset shows of them, as CSV'
-complete -c warnc -n __fish_use_subcommand -a verify -d 'Reads tapes, also of another sender\'s, and writes what they have otherwise than a book of alerts asks, as CSV'
+complete -c warnc -n __fish_use_subcommand -a verify -d 'Reads tapes, also of another sender\'s, and writes what they have otherwise than a book of alerts asks, or than orders ask of a cell, as CSV'
 complete -c warnc -n __fish_use_subcommand -a page -d 'Reads a text and writes the blocks of its pages, then what a handset shows of them'
 complete -c warnc -n __fish_use_subcommand -a live -d 'Does what compile does, with the book\'s alerts shared by sessions that order side by side'
 complete -c warnc -n __fish_use_subcommand -a pcap -d 'Reads tapes of blocks and writes them as a capture file, a GSMTAP packet for each block'
@@ -55,6 +55,9 @@ complete -c warnc -n '__fish_seen_subcommand_from verify' -l explain -d 'Adds co
 complete -c warnc -n '__fish_seen_subcommand_from verify' -x -l start -d 'When slot 0 begins, as 2026-11-28T20:00:00Z'
 complete -c warnc -n '__fish_seen_subcommand_from verify' -x -l group -d 'Takes the book for a network book, and of it the group of this number, 0 to 65535'
 complete -c warnc -n '__fish_seen_subcommand_from verify' -x -l workers -d 'How many workers play cells and make tapes, or run groups, side by side, 1 to 64'
+complete -c warnc -n '__fish_seen_subcommand_from verify' -r -F -l orders -d 'The file of what one cell was ordered and answered, as the command orders writes it, in place of a book'
+complete -c warnc -n '__fish_seen_subcommand_from verify' -x -l cell -d 'The cell that was ordered so, as 1-2'
+complete -c warnc -n '__fish_seen_subcommand_from verify' -x -l delay -d 'By how many slots all comes later on the air than its answer, 0 to 65535'
 complete -c warnc -n '__fish_seen_subcommand_from page' -x -l lang -d 'The text\'s language' \
     -a 'de en it fr es nl sv da pt fi no el tr hu pl und cs he ar ru is'
 complete -c warnc -n '__fish_seen_subcommand_from page' -x -l id -d 'The message identifier, 0 to 65535'

@@ -31,6 +31,8 @@ mod scarce;
 #[cfg(test)]
 mod verify;
 #[cfg(test)]
+mod verify_orders;
+#[cfg(test)]
 mod whole;
 #[cfg(test)]
 mod words;

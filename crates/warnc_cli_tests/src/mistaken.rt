@@ -116,6 +116,12 @@ fails -> 1 warnc: tape is long (the input looks like a book: warnc compile makes
 # and the book of verify: one that is none is named, whatever the tapes look like
 book cell;1;1
 fails -> 1 warnc: row 1: verb
+# orders, which look like none of these
+args verify --orders orders.csv --cell 1-1
+book clear,0
+fails -> 1 warnc: tape is long (the input looks like a book: warnc compile makes tapes of it)
+book cell,1,1
+fails -> 1 warnc: orders.csv: row 1: verb (the orders look like a book: warnc compile makes tapes of it)
 ";
 
 #[test]
@@ -130,5 +136,5 @@ fn captures_are_named_where_they_are_not_taken(rt: HostRuntime) -> Result<(), Fa
 
 #[test]
 fn books_are_named_where_they_are_not_taken(rt: HostRuntime) -> Result<(), Fail> {
-    expect_rows(&rt, BOOKS, 19)
+    expect_rows(&rt, BOOKS, 24)
 }

@@ -178,6 +178,12 @@ args verify --slots 1 --book network.csv --group 0
 scarce 22 2600 -> worked
 args verify --slots 1 --short --book book.csv
 scarce 21 2600 -> worked
+
+# a page that is due after the tape
+args verify --orders orders.csv --cell 1-1
+book write,0,4370,0010,,2,2,1,01,ok,,1-8046a3d168341a8d46a3d168341a8d46a3d168341a8d46a3d168341a8d46a3d168341a8d46a3d1\
+68341a8d46a3d168341a8d46a3d168341a8d46a3d168341a8d46a3d168341a8d46a3d168341a8d46a3d100
+scarce 7 2000 -> worked
 ";
 
 /// The second group of a network, once the first is written: 64 tapes of 100 octets, or a line under that of the names.
@@ -301,7 +307,7 @@ fn a_chart_without_memory_is_status_4(rt: HostRuntime) -> Result<(), Fail> {
 
 #[test]
 fn a_verification_without_memory_is_status_4(rt: HostRuntime) -> Result<(), Fail> {
-    expect_rows(&rt, VERIFY, 14)
+    expect_rows(&rt, VERIFY, 17)
 }
 
 #[test]
