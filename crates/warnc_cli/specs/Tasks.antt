@@ -292,8 +292,8 @@ Refuses other book input = IfSome input (RefusesOne other)
 abbrev pub IsUnremarked : (slots : ℕ) (input : List ℕ) → Type 0
 IsUnremarked slots input = (max_book < length input) ⊎ ((f : RunFault) × IsStopped slots input f)
 
--- a task refuses what it reads and has no table to write of it: `verify` has no run, no orders or no tapes, and a book is
--- too long for `check`, or has no run with `--slots`. Other commands never write a table with status 1
+-- a task refuses what it reads and has no table to write of it: `verify` has no run, no orders or no tapes, and a book
+-- is too long for `check`, or has no run with `--slots`. Other commands never write a table with status 1
 abbrev pub RefusesUnseen : Task → (book input : Option (List ℕ)) → Type 0
 RefusesUnseen (task.Verify from slots pages layout file workers) book input =
     IfSome book (λ octets. IfSome input (IsUnverified from slots octets))

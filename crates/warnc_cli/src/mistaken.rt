@@ -73,7 +73,7 @@ pub fn mistaken_for<S: AsStr>(words: &[S], file: &[u8], input: &[u8]) -> Option<
     Some(Mistaken::Input(kind))
 }
 
-/// What the file beside the input is, if it looks like another kind than the words take: orders look like none of these.
+/// What the file beside the input is, if it looks like another kind than the words take: orders look like no kind.
 fn file_mistaken<S: AsStr>(words: &[S], file: &[u8]) -> Option<Mistaken>
     ensures { result ≡ file_mistaken (map S.text words.now) file.now }
 {

@@ -131,9 +131,9 @@ fn run_noted<
 /// The same, between the ends. With status 0 what the words ask for is written. That is one octet at least, but for
 /// `compile` and `live`, since a book without cells has no tapes, for `whole`, `plan` and `orders`, and for the report
 /// of a group. With 2 and 4 nothing is written. With 1 `verify` has written the differences, or nothing where there is
-/// no run, no orders or no tape to judge; `check` has written the faults or the remarks, or nothing of a book that is too long or
-/// has no run; other commands have written nothing. Of a network whose run ends early the first groups are written
-/// with 1 and with 4.
+/// no run, no orders or no tape to judge; `check` has written the faults or the remarks, or nothing of a book that is
+/// too long or has no run; other commands have written nothing. Of a network whose run ends early the first groups are
+/// written with 1 and with 4.
 pub fn run_between<
     T: AllocGlobal + Threads + Wait + Sync,
     S: AsStr,
