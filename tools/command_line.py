@@ -12,6 +12,7 @@ commands are put in the program's order and their options are written; what stan
 its options stays, and a new command gets the line of its --help there. Of docs/usage.md the list of commands is
 written.
 """
+import functools
 import os
 import re
 import subprocess
@@ -111,12 +112,19 @@ def choices_of(text, body):
     return words if len(words) > 1 and all(re.fullmatch("[a-z]+", it) for it in words) else []
 
 
+@functools.cache
+def helpers():
+    """Returns the functions that have an option exclude others, in whose place it stands, and the names of these."""
+    bodies = re.findall(r"^fn (\w+)<'a>\(arg: Arg<'a>\)[^{]*\{\n(.*?)^\}", read(SOURCE), re.M | re.S)
+    return {name: re.findall(STRING, only(r"\.conflicts_with_all\(&\[(.*?)\]\)", body)) for name, body in bodies}
+
+
 def option_of(body):
     kind, said = only(rf"\b(option|optional|threads|flag)\(\s*alloc,((?:\s*{STRING},?)+)\s*\)", body)[:2]
     name, *value, text = (plain(it) for it in re.findall(STRING, said))
     excludes, needs, unless = (re.findall(rf"\.{it}\({STRING}\)", body)
                                for it in ("conflicts_with", "requires_arg", "required_unless_present"))
-    instead = re.findall(STRING, "".join(re.findall(r"\.conflicts_with_all\(&\[(.*?)\]\)", body, re.S)))
+    instead = [name for helper, names in helpers().items() if f"{helper}(" in body for name in names]
     return Option(name, value[0] if value else "", text, kind == "option", excludes, needs, unless, instead,
                   choices_of(text, body))
 
@@ -203,9 +211,7 @@ def man_option(option, known):
     for name in option.excludes:
         yield from ("Can't be given beside", f".BR \\-\\-{roff(name)} .")
     if option.instead:
-        *names, last = (f".BR \\-\\-{roff(name)} " for name in option.instead)
-        yield from ("Can't be given beside", *(it + "," for it in names[:-1]), names[-1].replace(".BR", ".B").rstrip(),
-                    "or", last + ".")
+        yield from ("Can't be given beside", f".B \\-\\-{roff(option.instead[0])}", "and what goes with it.")
 
 
 def man_commands(commands, page):

@@ -1139,39 +1139,47 @@ fn verified_slots<'a>(alloc: Global) -> Result<Arg<'a>, AllocError> {
 
 /// The option of the file of orders by which a tape is judged.
 fn judging_orders<'a>(alloc: Global) -> Result<Arg<'a>, AllocError> {
-    optional(
+    let orders = optional(
         alloc,
         "orders",
         "FILE",
         "The file of what one cell was ordered and answered,\nas the command orders writes it, in place of a book",
     )
-    .requires_arg("cell")?
-    .conflicts_with_all(&[
-        "book", "slots", "short", "explain", "start", "group", "workers",
-    ])
+    .requires_arg("cell")?;
+    beside_no_book(orders)
 }
 
 /// The option of the cell whose tape is judged by orders.
 fn judged_cell<'a>(alloc: Global) -> Result<Arg<'a>, AllocError> {
-    optional(
+    let cell = optional(
         alloc,
         "cell",
         "LAC-CI",
         "The cell that was ordered so, as 1-2: its first tape\nis judged",
     )
-    .requires_arg("orders")
+    .requires_arg("orders")?;
+    beside_no_book(cell)
 }
 
 /// The option of the delay of what was ordered.
 fn delay<'a>(alloc: Global) -> Result<Arg<'a>, AllocError> {
-    optional(
+    let delay = optional(
         alloc,
         "delay",
         "SLOTS",
-        "By how many slots all comes later on the air than its\nanswer, 0 to 65535 [0]",
+        "By how many slots all comes later on the air than\nits answer, 0 to 65535 [0]",
     )
     .value_parser(value_parser!(u16))
-    .requires_arg("orders")
+    .requires_arg("orders")?;
+    beside_no_book(delay)
+}
+
+/// An option that stands in place of a book and what goes with it. clap doesn't ask for a required option where one that
+/// it excludes is given: so each option of orders excludes those of a book itself.
+fn beside_no_book<'a>(arg: Arg<'a>) -> Result<Arg<'a>, AllocError> {
+    arg.conflicts_with_all(&[
+        "book", "slots", "short", "explain", "start", "group", "workers",
+    ])
 }
 
 /// The option of the text's language.
