@@ -1,5 +1,5 @@
 -- What `verify` of orders writes and refuses, and what its statuses say of the ends.
-use Rattle.std.proofs.Common.{◌≡◌, ◌⊎◌, ◌↔◌, ℕ, ◌<◌, ◌≤◌, List, ◌∷◌, Option, None, Some, IfSome}
+use Rattle.std.proofs.Common.{◌≡◌, ◌↔◌, ℕ, ◌<◌, ◌≤◌, List, ◌∷◌, Option, None, Some, IfSome}
 use Rattle.std.proofs.Common.{refl, ap, drop, length}
 use Rattle.std.proofs.Common.{true, false, Ok, Err, Result, IsErrOf, IsTrue}
 use Rattle.std.proofs.Common.{sym, subst, arith, inl, inr, rules}
