@@ -17,12 +17,11 @@ use Rattle.handset.specs.declared.tape.TapeFault.TheVariants as tape
 use Rattle.order_verdict.specs.Text.{differences_text, no_tape_text}
 use Rattle.orders_file.specs.File.{IsOrdersFile}
 use Rattle.verification.specs.Rows.{is_tape_of}
-use Rattle.warnc_verify.specs.OrdersVerified.{AreOrdersKept, HasOrderDifferences, HasWrittenTable}
-use Rattle.warnc_verify.specs.OrdersVerified.{IsOrderDifference, IsOrdersVerdict, IsVerdictBy}
-use Rattle.warnc_verify.specs.OrdersVerified.{IsVerifyOrdersFault, JudgesAndWrites}
-use Rattle.warnc_verify.specs.Verified.{Readers}
-use Rattle.warnc_verify.specs.declared.orders.VerifyOrdersFault.{VerifyOrdersFault}
-use Rattle.warnc_verify.specs.declared.orders.VerifyOrdersFault.TheVariants as fault
+use Rattle.warnc_verdict.specs.OrdersVerified.{AreOrdersKept, HasOrderDifferences, HasWrittenTable}
+use Rattle.warnc_verdict.specs.OrdersVerified.{IsOrderDifference, IsOrdersVerdict, IsVerdictBy}
+use Rattle.warnc_verdict.specs.OrdersVerified.{IsVerifyOrdersFault, JudgesAndWrites, Readers}
+use Rattle.warnc_verdict.specs.declared.fault.VerifyOrdersFault.{VerifyOrdersFault}
+use Rattle.warnc_verdict.specs.declared.fault.VerifyOrdersFault.TheVariants as fault
 use Rattle.warnc_verify.proofs.Inputs.{whole, whole_if_known}
 use Rattle.warnc_cli.proofs.Statuses.{OneOrFour}
 use Rattle.warnc_cli.specs.Run.{AnyHasFailed, WritesSome}
@@ -34,13 +33,13 @@ use Rattle.warnc_cli.specs.declared.command.Task.TheVariants as task
 -- the table without a difference that was written is that of the orders and of the tapes
 table_written : (cell : Cell) (delay : ℕ) (ends : Readers) (old new : Option (List ℕ))
     → JudgesAndWrites cell delay ends old new 0
-    → WritesOutputOfBoth (AreOrdersKept cell delay) ends.book_first ends.tapes_first old new
+    → WritesOutputOfBoth (AreOrdersKept cell delay) ends.orders_first ends.tapes_first old new
 table_written cell delay ends old new wrote =
     let judged = wrote.1 in record {
       book_octets = judged.orders;
       tapes_octets = judged.tapes;
       output = wrote.0;
-      of_book = whole_if_known judged.orders ends.book_first ends.book_last judged.orders_read judged.orders_ended;
+      of_book = whole_if_known judged.orders ends.orders_first ends.orders_last judged.orders_read judged.orders_ended;
       of_tapes = judged.tapes_read;
       is_output = judged.verdict;
       appended = wrote.2;
@@ -74,13 +73,13 @@ pub differences_written : (cell : Cell) (delay : ℕ) (ends : Readers) (old new 
     (why : VerifyOrdersFault)
     → IsVerifyOrdersFault cell delay ends old new why
     → IsOrderDifference why
-    → WritesOutputOfBoth (HasOrderDifferences cell delay) ends.book_first ends.tapes_first old new
+    → WritesOutputOfBoth (HasOrderDifferences cell delay) ends.orders_first ends.tapes_first old new
 differences_written cell delay ends old new (fault.Differences count) told is =
     let judged = told.0.1 in record {
       book_octets = judged.orders;
       tapes_octets = judged.tapes;
       output = told.0.0;
-      of_book = whole_if_known judged.orders ends.book_first ends.book_last judged.orders_read judged.orders_ended;
+      of_book = whole_if_known judged.orders ends.orders_first ends.orders_last judged.orders_read judged.orders_ended;
       of_tapes = judged.tapes_read;
       is_output = (count, judged.verdict, told.1);
       appended = told.0.2;
@@ -95,8 +94,8 @@ differences_written cell delay ends old new fault.WriteFailed told is = absurd i
 -- readers of known octets
 abbrev known_readers : (orders tapes : List ℕ) (orders_last tapes_last : Option (List ℕ)) → Readers
 known_readers orders tapes orders_last tapes_last = record {
-  book_first = Some orders;
-  book_last = orders_last;
+  orders_first = Some orders;
+  orders_last = orders_last;
   tapes_first = Some tapes;
   tapes_last = tapes_last;
 }
@@ -183,8 +182,8 @@ refused_here cell delay orders tapes orders_last tapes_last old new fault.WriteF
 pub refused_orders : (cell : Cell) (delay : ℕ) (orders tapes orders_last tapes_last old new : Option (List ℕ))
     (why : VerifyOrdersFault)
     → IsVerifyOrdersFault cell delay (record {
-      book_first = orders;
-      book_last = orders_last;
+      orders_first = orders;
+      orders_last = orders_last;
       tapes_first = tapes;
       tapes_last = tapes_last;
     }) old new why
@@ -199,8 +198,8 @@ refused_orders cell delay (Some orders) (Some tapes) orders_last tapes_last old 
 pub unseen_orders : (cell : Cell) (delay : ℕ) (orders tapes orders_last tapes_last old new : Option (List ℕ))
     (why : VerifyOrdersFault)
     → IsVerifyOrdersFault cell delay (record {
-      book_first = orders;
-      book_last = orders_last;
+      orders_first = orders;
+      orders_last = orders_last;
       tapes_first = tapes;
       tapes_last = tapes_last;
     }) old new why
@@ -429,7 +428,7 @@ ends_with cell delay file why status orders_left left held first_orders last_ord
 pub all_kept : {B R W : Type 0} (cell : Cell) (delay : ℕ) (file : _) (orders_left : B → Option (List ℕ))
     (left : R → Option (List ℕ)) (held : W → Option (List ℕ)) (first_orders last_orders : Source B)
     (first last : Source R) (old new : Sink W) (ends : Readers)
-    → ends.book_first ≡ orders_left (reader_of first_orders)
+    → ends.orders_first ≡ orders_left (reader_of first_orders)
     → ends.tapes_first ≡ left (reader_of first)
     → Writes held (λ before after. JudgesAndWrites cell delay ends before after 0) old new
     → source_failed last_orders ≡ false
@@ -445,7 +444,7 @@ all_kept cell delay file orders_left left held first_orders last_orders first la
           subst (λ (octets : Option (List ℕ)). WritesOutputOfBoth (AreOrdersKept cell delay) octets
           (left (reader_of first)) (held (writer_of old)) (held (writer_of new)))
           orders
-          (subst (λ (octets : Option (List ℕ)). WritesOutputOfBoth (AreOrdersKept cell delay) ends.book_first octets
+          (subst (λ (octets : Option (List ℕ)). WritesOutputOfBoth (AreOrdersKept cell delay) ends.orders_first octets
           (held (writer_of old)) (held (writer_of new)))
           tapes
           (table_written cell delay ends (held (writer_of old)) (held (writer_of new)) wrote));

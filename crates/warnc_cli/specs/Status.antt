@@ -38,8 +38,8 @@ use Rattle.warnc_run.specs.declared.product.ProductFault.{ProductFault}
 use Rattle.warnc_run.specs.declared.product.ProductFault.TheVariants as product
 use Rattle.warnc_verify.specs.declared.fault.VerifyFault.{VerifyFault}
 use Rattle.warnc_verify.specs.declared.fault.VerifyFault.TheVariants as verify
-use Rattle.warnc_verify.specs.declared.orders.VerifyOrdersFault.{VerifyOrdersFault}
-use Rattle.warnc_verify.specs.declared.orders.VerifyOrdersFault.TheVariants as judge
+use Rattle.warnc_verdict.specs.declared.fault.VerifyOrdersFault.{VerifyOrdersFault}
+use Rattle.warnc_verdict.specs.declared.fault.VerifyOrdersFault.TheVariants as judge
 
 -- the status of a fault: 1 if the input is refused, 3 if a device failed, 4 if out of memory
 abbrev pub status_of_page_fault : PageFault → ℕ

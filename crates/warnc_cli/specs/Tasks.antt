@@ -20,7 +20,7 @@ use Rattle.gsmtap.specs.declared.fault.AirFault.{AirFault}
 use Rattle.gsmtap.specs.declared.tape.Wanted.{Wanted}
 use Rattle.handset.specs.Tape.{IsShort, IsLong}
 use Rattle.link_orders.specs.declared.orders.OrdersWanted.{OrdersWanted}
-use Rattle.orders_file.specs.File.{IsOrdersFile, IsOrdersFileFault, max_octets}
+use Rattle.orders_file.specs.File.{IsOrdersFile, IsOrdersFileFault, max_orders_file}
 use Rattle.orders_file.specs.declared.fault.OrdersFileFault.{OrdersFileFault}
 use Rattle.plan.specs.PlanOutput.{IsPlanOutput, IsPlanRowFault, IsTooLong}
 use Rattle.plan.specs.declared.fault.PlanRowFault.{PlanRowFault}
@@ -49,7 +49,7 @@ use Rattle.warnc_run.specs.Engine.{IsMadeBy}
 use Rattle.warnc_run.specs.Faults.{StopsRun}
 use Rattle.warnc_run.specs.Groups.{IsGroupCount}
 use Rattle.warnc_run.specs.Network.{AreFirstParts}
-use Rattle.warnc_verify.specs.OrdersVerified.{AreOrdersBroken, AreOrdersKept, HasOrderDifferences}
+use Rattle.warnc_verdict.specs.OrdersVerified.{AreOrdersBroken, AreOrdersKept, HasOrderDifferences}
 use Rattle.warnc_verify.specs.Verified.{Differs, HasDifferences, HasRun, IsVerified}
 use Rattle.warnc_cli.specs.CommandLine.{AsksForCells, AsksForOrders, AsksForTapes}
 use Rattle.warnc_cli.specs.CommandLine.{AsksForGroups, AsksForPage, AsksForPcap, AsksForRead, AsksForRun, AsksForTape}
@@ -227,7 +227,7 @@ IsNotVerified from slots pages book tapes = IsNoRun from slots 1 book
 
 -- the octets have more than an orders file may have, or are none
 abbrev pub IsNoOrdersFile : (orders : List ℕ) → Type 0
-IsNoOrdersFile orders = (max_octets < length orders) ⊎ ((f : OrdersFileFault) × IsOrdersFileFault orders f)
+IsNoOrdersFile orders = (max_orders_file < length orders) ⊎ ((f : OrdersFileFault) × IsOrdersFileFault orders f)
 
 -- the octets are an orders file
 abbrev pub HasOrderRows : (orders : List ℕ) → Type 0

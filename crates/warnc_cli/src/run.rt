@@ -52,7 +52,8 @@ use warnc_inspect::page::page_stream;
 use warnc_inspect::read::read_stream;
 use warnc_inspect::whole::whole_stream;
 use warnc_run::{Product, Run, Workers, groups_stream, run_product};
-use warnc_verify::{verify_orders_stream, verify_stream};
+use warnc_verdict::verify_orders_stream;
+use warnc_verify::verify_stream;
 
 /// Runs the command that the words ask for (the first is the program's name), from a reader to a writer, and returns
 /// the status: 0 done, 1 refused input, 2 command line, 3 device, 4 memory. A fault is one line for `faults`, `warnc: `

@@ -27,7 +27,8 @@ use warnc_air::tape::TapeCommandFault;
 use warnc_inspect::page::PageFault;
 use warnc_inspect::read::ReadCommandFault;
 use warnc_run::{ProductFault, RunFault};
-use warnc_verify::{VerifyFault, VerifyOrdersFault};
+use warnc_verdict::VerifyOrdersFault;
+use warnc_verify::VerifyFault;
 
 /// All was done, or help was written.
 pub const DONE: u8 = 0;
