@@ -28,6 +28,7 @@ hyphen_behind digits rest all =
     ∙ ne_eqb (get_or digits k 0) 45 (not_in_digits own digits 45 all (λ range. omega (arith, range.0, range.1)) k less))
     (λ inside. ap is_hyphen (get_or-append_seam digits 45 rest 0))
 
+-- the text of a page is read as that page
 pub page_back : (used : ℕ) (octets : List ℕ) → used ≤ 82 → octets_of 82 (encode_lower octets) ≡ Some octets
     → content_in (decimal used ++ (codes "-" ++ encode_lower octets)) ≡ Some (content_with used octets)
 page_back used octets few back =

@@ -19,7 +19,7 @@ place_none p xs e =
     (λ (all : length xs ≤ position_or_len p xs). omega (arith, all, prefix_len-le-length (λ x. not (p x)) xs))
     (cases_lt (position_or_len p xs) (length xs))
 
--- the field at a place, and those behind it
+-- the same, with the number of the next place as a successor
 next_column : (fields : List (List ℕ)) (place : ℕ) → place < length fields
     → drop place fields ≡ column fields place ∷ drop (suc place) fields
 unfolding field_at
@@ -27,6 +27,7 @@ next_column [] place less = absurd (omega arith)
 next_column (field ∷ fields) zero less = refl
 next_column (field ∷ fields) (suc place) less = next_column fields place (omega arith)
 
+-- the fields from a place on are the one there, and those behind it
 pub from_column : (fields : List (List ℕ)) (place : ℕ) → place < length fields
     → drop place fields ≡ column fields place ∷ drop (place + 1) fields
 from_column fields place less = rw add-one (next_column fields place less)

@@ -30,6 +30,7 @@ rows_are number before (row ∷ rows) fit within few =
     (All-tail IsWithin row rows within) (omega arith)
     ∙ ap (λ (l : List OrderRow). Ok l) (append_assoc before (untimed row ∷ []) (map untimed rows)))
 
+-- what `orders_text` writes is an orders file of the same rows, but for times and packets
 pub read_back : OrdersAreReadBack
 read_back rows fit within few short = record {
   bounded = short;

@@ -104,7 +104,7 @@ pages_are before (content ∷ contents) fit few =
     (All-tail IsPage content contents few)
     ∙ ap (λ (l : List Content). Ok l) (append_assoc before (content ∷ []) contents))
 
--- a row
+-- an order with its slot
 order_is : (at : ℕ) (order : CellOrder) → at ≤ last_slot → FitsOrder order → IsOrderWithin order
     → order_of_fields (fields_of_order at order) ≡ Ok (row_with at order)
 unfolding field_at verb_of
@@ -137,5 +137,6 @@ order_is at (rows.Kill id old_serial answer) slot fits within =
     ) refl
 order_is at rows.Clear slot fits within = rw (number_is last_slot at slot (omega arith)) refl
 
+-- the fields of a row are read as that row, but for its time and packet
 pub row_is : (row : OrderRow) → Fits row → IsWithin row → order_of_fields (row_fields row) ≡ Ok (untimed row)
 row_is row fits within = order_is row.at row.order within.at fits within.order

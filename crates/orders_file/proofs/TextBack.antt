@@ -57,7 +57,7 @@ pub at_end : ◌≡◌ {A = Option Read} (next_record default_config st.StartRec
 unfolding next_record
 at_end = refl
 
--- the text begins with no byte order mark
+-- a row begins with no byte order mark
 no_mark : (at : ℕ) (order : CellOrder) (rest : List ℕ)
     → strip_bom (row_text orders_writer (fields_of_order at order) ++ rest)
     ≡ row_text orders_writer (fields_of_order at order) ++ rest
@@ -66,6 +66,7 @@ no_mark at (rows.Write id new_serial old_serial category period broadcasts dcs c
 no_mark at (rows.Kill id old_serial answer) rest = refl
 no_mark at rows.Clear rest = refl
 
+-- and neither does a text of rows
 pub unmarked : (rows : List OrderRow) → strip_bom (orders_text rows) ≡ orders_text rows
 unfolding strip_bom
 unmarked [] = refl

@@ -2,6 +2,7 @@
 use Rattle.std.specs.Prelude.{ℕ, ◌==◌, ◌≤◌, Bool, Option, Some, None, List, [], ◌∷◌, ◌++◌, All, length, Result, Ok}
 use Rattle.std.specs.List.{after_first, before_first}
 use Rattle.std.specs.Option.{ok_or}
+use Rattle.cbs_page.specs.Text.{max_pages}
 use Rattle.cbs_page.specs.declared.content.Content.{Content}
 use Rattle.orders_file.specs.declared.fault.OrdersFileFaultKind.{OrdersFileFaultKind}
 use Rattle.orders_file.specs.declared.fault.OrdersFileFaultKind.TheVariants as faults
@@ -42,5 +43,5 @@ IsPage content = content.used ≤ 82
 -- 1 to 15 of them
 pub record ArePages (contents : List Content) : Type 0 where
   pub some : 1 ≤ length contents
-  pub few : length contents ≤ 15
+  pub few : length contents ≤ max_pages
   pub each : All IsPage contents
