@@ -1,10 +1,10 @@
 #!/usr/bin/env python3
-"""Judges the tape of a cell by its orders, as docs/formats.md says: a second program against which `warnc verify --orders`
-is compared. It shares nothing with it.
+"""Judges the tape of a cell by its orders, as docs/formats.md says: a second program against which `warnc verify
+--orders` is compared. It shares nothing with it.
 
-Usage: orders_verdict_reference.py PROGRAM [RUNS]    random orders files and tapes, 500 if no number is given: tapes that
-                                                     keep the orders but for faults that are put into them, and files
-                                                     with a fault. PROGRAM is a built `warnc`
+Usage: orders_verdict_reference.py PROGRAM [RUNS]    random orders files and tapes, 500 if no number is given: tapes
+                                                     that keep the orders but for faults that are put into them, and
+                                                     files with a fault. PROGRAM is a built `warnc`
        orders_verdict_reference.py --help            prints this
 
 Statuses, tables and the lines on standard error are compared. Each kind of difference has to come up, if there are 200
@@ -25,8 +25,8 @@ PART, PAGE, MOST_PAGES = 22, 82, 15
 LATEST = (1 << 31) - 1
 IDLE = bytes([0x2F]) + bytes(22)
 HEADER = "lac,ci,id,serial,slot,difference\n"
-PLACES = ("page ", "before its start", "after its stop", "after its last broadcast", "not whole", "not ordered", " again",
-          "more than ordered", "answer ", "no answer")
+PLACES = ("page ", "before its start", "after its stop", "after its last broadcast", "not whole", "not ordered",
+          " again", "more than ordered", "answer ", "no answer")
 Page = collections.namedtuple("Page", "slot name dcs number total content")
 Order = collections.namedtuple("Order", "kind at name old category period broadcasts dcs pages answer done")
 Message = collections.namedtuple("Message", "order since until end done")
@@ -63,7 +63,8 @@ def messages_of(orders):
         before = [other for other in again if orders.index(other) < place]
         after = [other for other in again if orders.index(other) > place]
         end = next((it for it in orders[place + 1:] if ends(it, order.name)), None)
-        yield Message(order, order.at if before else 0, after[0].at if after else None, end and end.at, end and end.done)
+        yield Message(order, order.at if before else 0, after[0].at if after else None, end and end.at,
+                      end and end.done)
 
 
 def is_right(order, page):
@@ -81,7 +82,7 @@ def whole(order, pages, end):
 
 
 def broadcast_rows(order, pages, slots, start, stop):
-    """Yields the differences of broadcasts: those that are due and aren't whole, and those of which a page comes again."""
+    """Yields the differences of broadcasts: of those that are due and aren't whole, and of which a page comes again."""
     for number in range(order.broadcasts or slots):
         begin = start + number * order.period
         due = begin + order.period

@@ -37,6 +37,7 @@ rising-front slot (octets ∷ pages) more from rise =
     (All-append (λ (p : AirOctets). slot ≤ p.slot) (map (page_in slot) pages) more (in_slot slot pages) from)
     (rising-front slot pages more from rise)
 
+-- so do those of pages, slot by slot
 pub pages-rising : (slot : ℕ) (slots : List (List (List ℕ))) → AllPairs (λ a b. a.slot ≤ b.slot) (pages_from slot slots)
 pages-rising slot [] = λ i j d less within. absurd (let none : ⊥ = omega arith in none)
 pages-rising slot (four ∷ rest) =

@@ -1,5 +1,5 @@
--- The pages that a cell's channel sends, each in a slot, of as many blocks as it has. 3GPP TS 44.012, 3.3 (blocks); 3GPP
--- TS 23.041, clause 9.4.1 (the octets of a page).
+-- The pages that a cell's channel sends, each in a slot, of as many blocks as it has. 3GPP TS 44.012, 3.3 (blocks), and
+-- 3GPP TS 23.041, clause 9.4.1 (the octets of a page).
 use Rattle.std.specs.Prelude.{ℕ, ◌+◌, ◌*◌, ◌/◌, List, [], ◌∷◌, ◌++◌, drop, length, map, slice_index}
 use Rattle.std.specs.Option.{option_to_list}
 use Rattle.std.specs.Simd.{first_chunks}

@@ -28,8 +28,8 @@ is_content None came = false
 is_content (Some content) came =
     nat_le content.used (length came) && bytes_eq came (take (length came) content.octets)
 
--- a page is right: it has the data coding and the total of the message, and its content is that of the message's page of
--- its number
+-- a page is right: it has the data coding and the total of the message, and its content is that of the message's page
+-- of its number
 abbrev pub is_right : AskedMessage → (octets : List ℕ) → Bool
 is_right a octets =
     (dcs_in octets == a.dcs)

@@ -75,8 +75,8 @@ pub record OrderedMessage : Type 0 where
 abbrev pub broadcasts_due : (period broadcasts : ℕ) → ℕ
 broadcasts_due period broadcasts = if period == 0 then 0 else broadcasts
 
-abbrev pub asked_from_slot : (id serial dcs : ℕ) → List Content → (start category period broadcasts : ℕ) → (stop : Option ℕ)
-    → AskedMessage
+abbrev pub asked_from_slot : (id serial dcs : ℕ) → List Content → (start category period broadcasts : ℕ)
+    → (stop : Option ℕ) → AskedMessage
 asked_from_slot id serial dcs contents start category period broadcasts stop = record {
   id = id;
   serial = serial;

@@ -56,7 +56,9 @@ again_differences slots a pages = flat_map (again_difference a pages) (range_wit
 abbrev pub more_differences : AskedMessage → List JudgedPage → List OrderDifference
 more_differences a pages =
     if a.broadcasts == 0 then []
-    else map (at_slot a order_kinds.MoreThanOrdered) (option_to_list (first_more (length a.contents) a.broadcasts pages))
+    else
+    map (at_slot a order_kinds.MoreThanOrdered)
+    (option_to_list (first_more (length a.contents) a.broadcasts pages))
 
 -- the answer that ended the message says another number of broadcasts than came up to it, where the tape goes so far
 abbrev pub told_difference : AskedMessage → (end told air : ℕ) → List OrderDifference

@@ -4,7 +4,8 @@ ghost use Rattle.std.specs.Prelude.{◌≡◌, ◌≤◌, ◌+◌, find, map, op
 ghost use Rattle.std.specs.List.{list_any};
 ghost use Rattle.std.specs.Option.{option_copied, option_to_list};
 ghost use Rattle.order_verdict.specs.Kept.{ordered_kept};
-ghost use Rattle.order_verdict.specs.Ordered.{begins, begins_row, broadcasts_due, done_in, ends, ends_row, is_answered_ok};
+ghost use Rattle.order_verdict.specs.Ordered.{begins, begins_row, broadcasts_due, done_in, ends, ends_row};
+ghost use Rattle.order_verdict.specs.Ordered.{is_answered_ok};
 ghost use Rattle.order_verdict.specs.Ordered.{is_old, ordered_in, ordered_of_row, row_slot, since_slot, slot_of_row};
 ghost use Rattle.order_verdict.specs.Ordered.{tape_stop, told_by};
 

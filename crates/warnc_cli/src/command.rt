@@ -1174,8 +1174,8 @@ fn delay<'a>(alloc: Global) -> Result<Arg<'a>, AllocError> {
     beside_no_book(delay)
 }
 
-/// An option that stands in place of a book and what goes with it. clap doesn't ask for a required option where one that
-/// it excludes is given: so each option of orders excludes those of a book itself.
+/// An option that stands in place of a book and what goes with it. clap doesn't ask for a required option where one
+/// that it excludes is given: so each option of orders excludes those of a book itself.
 fn beside_no_book<'a>(arg: Arg<'a>) -> Result<Arg<'a>, AllocError> {
     arg.conflicts_with_all(&[
         "book", "slots", "short", "explain", "start", "group", "workers",

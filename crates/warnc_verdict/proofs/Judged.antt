@@ -13,8 +13,8 @@ use Rattle.device_ends.specs.Moves.{AppendsFront}
 use Rattle.handset.specs.Recording.{TapeRecording, AreRecordings}
 use Rattle.verification.specs.Rows.{is_tape_of}
 use Rattle.warnc_verdict.specs.OrdersSteps.{IsTableFault}
-use Rattle.warnc_verdict.specs.OrdersVerified.{HasOrders, IsVerdictBy, IsVerifyOrdersFault, JudgesAndWrites, JudgesOrders}
-use Rattle.warnc_verdict.specs.OrdersVerified.{Readers}
+use Rattle.warnc_verdict.specs.OrdersVerified.{HasOrders, IsVerdictBy, IsVerifyOrdersFault, JudgesAndWrites}
+use Rattle.warnc_verdict.specs.OrdersVerified.{JudgesOrders, Readers}
 use Rattle.warnc_verdict.specs.declared.fault.VerifyOrdersFault.{VerifyOrdersFault}
 use Rattle.warnc_verdict.specs.declared.fault.VerifyOrdersFault.TheVariants as faults
 
@@ -26,8 +26,9 @@ first-more cell tapes tape = find-append (is_tape_of cell) tapes (tape ∷ [])
 
 -- so what keeps the first one has it after one tape more
 pub first-kept : (cell : Cell) (old new : Option TapeRecording) (tape : TapeRecording) →
-    new ≡ option_or old (cond (is_cell cell tape.cell) (Some tape) None) → (given : Cell) (before : List TapeRecording) →
-    cell ≡ given → old ≡ find (is_tape_of given) before → new ≡ find (is_tape_of given) (before ++ tape ∷ [])
+    new ≡ option_or old (cond (is_cell cell tape.cell) (Some tape) None) → (given : Cell)
+    (before : List TapeRecording) → cell ≡ given → old ≡ find (is_tape_of given) before →
+    new ≡ find (is_tape_of given) (before ++ tape ∷ [])
 first-kept cell old new tape is given before same kept =
     is
     ∙ ap (λ (o : Option TapeRecording). option_or o (cond (is_cell cell tape.cell) (Some tape) None)) kept

@@ -96,7 +96,8 @@ abbrev pub IsVerifyOrdersFault : (cell : Cell) (delay : ℕ) → Readers → (ol
 IsVerifyOrdersFault cell delay ends old new faults.Unread = ⊤
 IsVerifyOrdersFault cell delay ends old new faults.TooLong =
     IfSome ends.orders_first (λ input. max_orders_file < length input)
-IsVerifyOrdersFault cell delay ends old new (faults.Orders f) = IfSome ends.orders_first (λ input. IsOrdersFileFault input f)
+IsVerifyOrdersFault cell delay ends old new (faults.Orders f) =
+    IfSome ends.orders_first (λ input. IsOrdersFileFault input f)
 IsVerifyOrdersFault cell delay ends old new (faults.Tapes f) =
     (rows : List OrderRow) × HasOrders ends.orders_first ends.orders_last rows
     × IfSome ends.tapes_first (λ input. IsTapesFault input f)

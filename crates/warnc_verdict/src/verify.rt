@@ -153,8 +153,8 @@ fn rows_of<B: Read>(
     alloc: Global,
     orders: &mut Source<B>,
 ) -> Result<Vec<OrderRow>, VerifyOrdersFault>
-    ensures ok { IfOk result (λ rows. HasOrders (B.remaining (reader_of orders.old)) (B.remaining (reader_of orders.new))
-        rows.items) }
+    ensures ok { IfOk result (λ rows. HasOrders (B.remaining (reader_of orders.old))
+        (B.remaining (reader_of orders.new)) rows.items) }
     ensures err { IfErr result (IsRowsOrFault (B.remaining (reader_of orders.old))) }
     ensures failed { IsErrOf result faults.Unread ↔ IsTrue (source_failed orders.new) }
     ensures stays { source_failed orders.old ≡ true → orders.new ≡ orders.old }

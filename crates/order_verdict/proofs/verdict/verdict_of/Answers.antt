@@ -7,7 +7,8 @@ use Rattle.order_verdict.specs.Air.{AirOctets, four_by_four, pages_on_air}
 use Rattle.order_verdict.specs.Judged.{own_pages_in}
 use Rattle.order_verdict.specs.Kept.{air_kept, ordered_kept}
 use Rattle.order_verdict.specs.Ordered.{OrderedMessage, ordered_in}
-use Rattle.order_verdict.specs.Verdict.{all_order_differences, order_key, ordered_differences, unanswered, unordered_after}
+use Rattle.order_verdict.specs.Verdict.{all_order_differences, order_key, ordered_differences, unanswered}
+use Rattle.order_verdict.specs.Verdict.{unordered_after}
 use Rattle.order_verdict.proofs.Rising.{pages-rising}
 use Rattle.order_verdict.proofs.verdict.verdict_of.Goals as goal
 
