@@ -157,12 +157,14 @@ refused_here cell delay orders tapes orders_last tapes_last old new (fault.Diffe
     let judged = told.0.1 in
     inr (inr (
       told.0.0,
-      count,
-      subst (λ (octets : List ℕ). IsOrdersVerdict cell delay count octets tapes told.0.0)
-          (whole orders judged.orders orders_last judged.orders_read judged.orders_ended)
-          (subst (λ (octets : List ℕ). IsOrdersVerdict cell delay count judged.orders octets told.0.0)
-          (sym judged.tapes_read) judged.verdict),
-      told.1,
+      (
+        count,
+        subst (λ (octets : List ℕ). IsOrdersVerdict cell delay count octets tapes told.0.0)
+            (whole orders judged.orders orders_last judged.orders_read judged.orders_ended)
+            (subst (λ (octets : List ℕ). IsOrdersVerdict cell delay count judged.orders octets told.0.0)
+            (sym judged.tapes_read) judged.verdict),
+        told.1,
+      ),
     ))
 refused_here cell delay orders tapes orders_last tapes_last old new fault.Unread told is = absurd (omega (arith, is))
 refused_here cell delay orders tapes orders_last tapes_last old new fault.TooLong told is =
