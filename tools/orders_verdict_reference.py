@@ -128,7 +128,7 @@ def message_rows(message, pages, slots, delay):
 
 
 def rows_of(orders, blocks, delay):
-    """Returns the differences between orders and the blocks of a tape."""
+    """Returns the differences between orders and the blocks of a tape; equal ones stand as their messages do."""
     slots, air, rows = len(blocks) // 4, list(pages_on_air(blocks)), []
     messages = list(messages_of(orders))
     for message in messages:
@@ -145,7 +145,7 @@ def rows_of(orders, blocks, delay):
         if page.name not in known:
             known.add(page.name)
             rows.append((page.slot, *page.name, 5, 0, "not ordered"))
-    return sorted(rows)
+    return sorted(rows, key=lambda it: it[:5])
 
 
 def table_of(cell, rows):
@@ -241,7 +241,7 @@ def tape_of(cell, blocks):
 
 
 def spoilt(rng, lines):
-    """Returns lines of which one has a fault, and the line that says so."""
+    """Puts a fault into one of some lines, and returns what is said of it."""
     place = rng.randrange(len(lines))
     fields = lines[place].split(",")
     at, value, why = rng.choice(((0, "wrote", "verb"), (1, "x", "number"), (1, str(LATEST + 1), "number"),
@@ -251,7 +251,7 @@ def spoilt(rng, lines):
     else:
         fields[at] = value
     lines[place] = ",".join(fields)
-    return f"warnc: row {place + 1}: {why}\n"
+    return f"row {place + 1}: {why}"
 
 
 def differs(program, seed, seen):
@@ -269,11 +269,11 @@ def differs(program, seed, seen):
     wanted = (1 if rows else 0, table_of(cell, rows), f"warnc: differences: {len(rows)}\n" if rows else "")
     if len(tapes) == 0 or tapes[-1][2:4] == b"\0\7":
         wanted = 1, f"{HEADER}{cell[0]},{cell[1]},,,,no tape\n", "warnc: differences: 1\n"
-    if rng.random() < .05:
-        wanted = 1, "", spoilt(rng, lines)
+    fault = spoilt(rng, lines) if rng.random() < .05 else ""
     with tempfile.NamedTemporaryFile("w", suffix=".csv") as file:
         file.write("".join(f"{line}\n" for line in lines))
         file.flush()
+        wanted = (1, "", f"warnc: {file.name}: {fault}\n") if fault else wanted
         words = [program, "verify", "--orders", file.name, "--cell", f"{cell[0]}-{cell[1]}", "--delay", str(delay)]
         said = subprocess.run(words, input=b"".join(tapes), capture_output=True, check=False)
     found = said.returncode, said.stdout.decode(), said.stderr.decode()
