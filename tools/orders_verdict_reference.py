@@ -11,13 +11,13 @@ Statuses, tables and the lines on standard error are compared. Each kind of diff
 runs or more.
 """
 import collections
-import os
 import random
 import subprocess
 import sys
 import tempfile
 
 import gsm
+from random_runs import judged
 
 # the types of the blocks of a page, by how many there are (3GPP TS 44.012, 3.3), and octets of a page in a block
 KINDS = {1: (0x30,), 2: (0x20, 0x31), 3: (0x20, 0x21, 0x32), 4: gsm.TYPES}
@@ -277,27 +277,20 @@ def differs(program, seed, seen):
         words = [program, "verify", "--orders", file.name, "--cell", f"{cell[0]}-{cell[1]}", "--delay", str(delay)]
         said = subprocess.run(words, input=b"".join(tapes), capture_output=True, check=False)
     found = said.returncode, said.stdout.decode(), said.stderr.decode()
-    seen.update(name for name in PLACES if name in wanted[1])
+    seen.update(["runs", *(name for name in PLACES if name in wanted[1])])
     if found != wanted:
         print(f"run {seed}: {found} and not {wanted}")
     return found != wanted
 
 
 def main(words):
-    if words in (["-h"], ["--help"]):
-        print(__doc__, end="")
-        return 0
-    if len(words) not in (1, 2) or not os.access(words[0], os.X_OK) or not words[-1].isdigit() and len(words) == 2:
-        print(__doc__, end="")
-        return 2
-    runs, seen = int(words[1]) if len(words) == 2 else 500, set()
-    count = sum(differs(words[0], seed, seen) for seed in range(runs))
-    for name in PLACES:
-        if runs >= 200 and name not in seen:
-            print(f"no run has `{name.strip()}`")
-            count += 1
-    print(f"orders_verdict_reference.py: {runs} runs, {count} differ")
-    return 1 if count else 0
+    seen = collections.Counter()
+    status = judged("orders_verdict_reference.py", __doc__, words,
+                    lambda program, seed: differs(program, seed, seen), 500)
+    lacking = [name.strip() for name in PLACES if seen["runs"] >= 200 and not seen[name]]
+    for name in lacking:
+        print(f"no run has `{name}`")
+    return status or int(bool(lacking))
 
 
 if __name__ == "__main__":
