@@ -12,6 +12,7 @@ pub mod AllGroupsSteps
 pub mod Origin
 pub mod NetworkLaws
 pub mod Session
+pub mod Restricted
 pub mod Turns
 pub mod TurnLaws
 pub mod LastAccepted

@@ -21,7 +21,8 @@ use Rattle.alert_book.specs.Session.{is_of_part, next_requests, orders_from, ord
 use Rattle.alert_book.specs.Session.{requests_by, requests_of, stop_request, targets_of, target_of, update_request}
 use Rattle.alert_book.specs.Session.{version_in, versions}
 use Rattle.alert_book.specs.Turns.{begun}
-use Rattle.book_runs.specs.CellParts.{PagedOrder, asks_some, is_for_some}
+use Rattle.book_runs.specs.CellParts.{asks_some}
+use Rattle.alert_book.specs.Restricted.{PagedOrder, is_for_some}
 use Rattle.book_runs.proofs.KeptRequests.{Belief}
 use Rattle.book_runs.proofs.KeptSessions.{pending}
 

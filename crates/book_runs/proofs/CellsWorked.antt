@@ -5,7 +5,8 @@ use Rattle.alert_book.specs.declared.book.order.Action.TheVariants as action
 use Rattle.alert_book.specs.Fields.{alert_with, sending_with}
 use Rattle.alert_book.specs.Row.{order_with}
 use Rattle.bsc_table.specs.declared.entry.Answer.TheVariants as answers
-use Rattle.book_runs.specs.CellParts.{in_part, kept_exchanges, leave, restricted}
+use Rattle.book_runs.specs.CellParts.{kept_exchanges, leave}
+use Rattle.alert_book.specs.Restricted.{in_part, restricted}
 use Rattle.book_runs.proofs.Worked.{asks, book, exchange, one, other, request, row_3, row_4, row_5, row_6, write}
 
 -- the update is for the first cell alone and the stop for the second alone: each is left out of the other's book

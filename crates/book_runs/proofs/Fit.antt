@@ -20,8 +20,8 @@ use Rattle.alert_book.proofs.Origins.{paged_from}
 use Rattle.alert_book.proofs.RightOrders.{AreAsked, IsRightAction, distinct_filter}
 use Rattle.alert_book.proofs.TurnsKeep.{requests_kept}
 use Rattle.alert_book.proofs.Writable.{CanBeWritten, IsReady, orders_ready, requests_writable}
-use Rattle.book_runs.specs.CellParts.{Keep, PagedOrder, is_for_some, kept_action, kept_orders}
-use Rattle.book_runs.specs.CellParts.{kept_paged, restricted}
+use Rattle.alert_book.specs.Restricted.{Keep, PagedOrder, is_for_some, kept_action, kept_orders}
+use Rattle.alert_book.specs.Restricted.{kept_paged, restricted}
 use Rattle.book_runs.specs.Fit.{PartsAreFit}
 use Rattle.book_runs.proofs.NetworkParts.{kept_with_pages}
 

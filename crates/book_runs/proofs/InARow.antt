@@ -17,9 +17,11 @@ use Rattle.alert_book.specs.Cells.{is_among}
 use Rattle.alert_book.specs.Network.{cells_of_action}
 use Rattle.alert_book.specs.Session.{orders_with}
 use Rattle.bsc_table.specs.Record.{Record}
-use Rattle.book_runs.specs.CellParts.{Keep, PagedOrder, PartRun, IsPartRun, in_part, is_for_some, kept_orders}
-use Rattle.book_runs.specs.CellParts.{kept_paged}
-use Rattle.book_runs.specs.CellParts.{leave, merged, restricted}
+use Rattle.book_runs.specs.CellParts.{PartRun, IsPartRun}
+use Rattle.alert_book.specs.Restricted.{Keep, PagedOrder, in_part, is_for_some, kept_orders}
+use Rattle.alert_book.specs.Restricted.{kept_paged}
+use Rattle.book_runs.specs.CellParts.{leave, merged}
+use Rattle.alert_book.specs.Restricted.{restricted}
 use Rattle.book_runs.specs.Run.{Exchange, IsExchange, IsRun, IsRunOfBook}
 use Rattle.alert_book.specs.Session.{after_reply, is_of_part, standing_with}
 use Rattle.alert_book.specs.Turns.{begun}

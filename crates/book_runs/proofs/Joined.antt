@@ -18,7 +18,8 @@ use Rattle.bsc_table.specs.declared.command.Command.TheVariants as commands
 use Rattle.bsc_table.specs.declared.entry.Answer.{Answer}
 use Rattle.bsc_table.specs.Orders.{category_of, if_basic_channel, if_category_known, is_basic, order_of}
 use Rattle.order_desk.specs.Reply.{cells_answered, reply_message}
-use Rattle.book_runs.specs.CellParts.{Keep, asks_some, kept_answers, kept_exchange, kept_exchanges, kept_message}
+use Rattle.book_runs.specs.CellParts.{asks_some, kept_answers, kept_exchange, kept_exchanges, kept_message}
+use Rattle.alert_book.specs.Restricted.{Keep}
 use Rattle.book_runs.specs.CellParts.{kept_request, leave, merged}
 use Rattle.book_runs.specs.Run.{Exchange, IsExchange}
 use Rattle.book_runs.proofs.Asking.{order_asks}

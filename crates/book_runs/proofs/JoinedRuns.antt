@@ -13,7 +13,8 @@ use Rattle.alert_book.specs.NetworkLaws.{BooksAreNetworks}
 use Rattle.alert_book.specs.Origin.{IsBookFrom}
 use Rattle.alert_book.specs.Turns.{begun}
 use Rattle.bsc_table.specs.Record.{Record}
-use Rattle.book_runs.specs.CellParts.{Keep, PartsMakeTheWhole, kept_exchanges, leave, merged, restricted}
+use Rattle.book_runs.specs.CellParts.{PartsMakeTheWhole, kept_exchanges, leave, merged}
+use Rattle.alert_book.specs.Restricted.{Keep, restricted}
 use Rattle.book_runs.specs.Run.{Exchange, IsExchange, IsRun, IsRunOfBook, asked_of, entries_for}
 use Rattle.book_runs.proofs.Asks.{begun_asks}
 use Rattle.book_runs.proofs.Joined.{Joined, joined}

@@ -25,7 +25,8 @@ use Rattle.bsc_table.specs.Orders.{category_of, if_basic_channel, if_category_kn
 use Rattle.order_desk.specs.Reply.{accepting_cells, cell_by, cells_answered, count_by, counted_in, failure_by}
 use Rattle.order_desk.specs.Reply.{kill_reply}
 use Rattle.order_desk.specs.Reply.{refused_in, reply_message, write_reply}
-use Rattle.book_runs.specs.CellParts.{Keep, kept_answers, kept_message, kept_request}
+use Rattle.book_runs.specs.CellParts.{kept_answers, kept_message, kept_request}
+use Rattle.alert_book.specs.Restricted.{Keep}
 use Rattle.book_runs.proofs.Asking.{order_asks}
 use Rattle.book_runs.proofs.CellLists.{any_first, filter_first}
 use Rattle.book_runs.proofs.Texts.{basic, written}

@@ -18,8 +18,10 @@ use Rattle.alert_book.specs.Session.{cells_with, due_requests, found_first, has_
 use Rattle.reply_outcome.specs.Replies.{cells_asked}
 use Rattle.alert_book.specs.Session.{next_requests, requests_by, requests_of, stop_request, target_of}
 use Rattle.alert_book.specs.Session.{update_request, versions}
-use Rattle.book_runs.specs.CellParts.{Keep, PagedOrder, asks_some, is_for_some, kept_action, kept_order, kept_orders}
-use Rattle.book_runs.specs.CellParts.{kept_paged, kept_request, kept_requests, kept_sending}
+use Rattle.book_runs.specs.CellParts.{asks_some}
+use Rattle.alert_book.specs.Restricted.{Keep, PagedOrder, is_for_some, kept_action, kept_order, kept_orders}
+use Rattle.book_runs.specs.CellParts.{kept_request, kept_requests}
+use Rattle.alert_book.specs.Restricted.{kept_paged, kept_sending}
 
 -- the versions that are believed live, by alert and cell
 abbrev pub Belief : Type 0

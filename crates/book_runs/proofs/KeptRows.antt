@@ -32,7 +32,7 @@ use Rattle.alert_book.specs.Fields.{new_name, number, sending_by}
 use Rattle.alert_book.specs.Network.{cells_in_group, cells_of_group, declares_cell, row_in_group}
 use Rattle.alert_book.specs.Row.{FieldCells, cell_row_within, is_update_of, is_write, order_with, row_after_verb_by}
 use Rattle.alert_book.specs.Row.{stop_row_by, update_row_by, update_with, updates, verb_of, write_row_by, writes}
-use Rattle.book_runs.specs.CellParts.{Keep, kept_action, kept_order, kept_sending}
+use Rattle.alert_book.specs.Restricted.{Keep, kept_action, kept_order, kept_sending}
 use Rattle.book_runs.specs.WholeNetwork.{in_group, row_of_network}
 
 -- what a row means for some cells

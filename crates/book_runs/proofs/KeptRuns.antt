@@ -8,9 +8,11 @@ use Rattle.reply_outcome.specs.Replies.{cells_asked}
 use Rattle.bsc_table.specs.declared.entry.Answer.{Answer}
 use Rattle.bsc_table.specs.Record.{Record}
 use Rattle.order_desk.specs.Reply.{cells_answered}
-use Rattle.book_runs.specs.CellParts.{CellsRunApart, Keep, RecordsAreThoseOfTheWhole, asks_some, is_of_some}
+use Rattle.book_runs.specs.CellParts.{CellsRunApart, RecordsAreThoseOfTheWhole, asks_some, is_of_some}
+use Rattle.alert_book.specs.Restricted.{Keep}
 use Rattle.book_runs.specs.CellParts.{kept_answers}
-use Rattle.book_runs.specs.CellParts.{kept_exchange, kept_exchanges, kept_records, kept_request, restricted}
+use Rattle.book_runs.specs.CellParts.{kept_exchange, kept_exchanges, kept_records, kept_request}
+use Rattle.alert_book.specs.Restricted.{restricted}
 use Rattle.book_runs.specs.Run.{Asked, Exchange, IsExchange, IsRunOfBook, asked_in, asked_of, asked_with}
 use Rattle.book_runs.specs.Run.{entries_for}
 use Rattle.book_runs.proofs.CellLists.{filter_mapped}

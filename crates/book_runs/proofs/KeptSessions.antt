@@ -19,9 +19,11 @@ use Rattle.bsc_table.specs.declared.entry.Answer.{Answer}
 use Rattle.bsc_table.specs.declared.entry.Answer.TheVariants as answers
 use Rattle.cbsp_wire.specs.declared.cause.TheConstants.{CELL_IDENTITY_NOT_VALID}
 use Rattle.order_desk.specs.Reply.{cells_answered}
-use Rattle.book_runs.specs.CellParts.{Keep, PagedOrder, asks_some, is_for_some, kept_answers, kept_exchange}
-use Rattle.book_runs.specs.CellParts.{kept_exchanges, kept_orders, kept_paged, kept_request, kept_requests}
-use Rattle.book_runs.specs.CellParts.{restricted}
+use Rattle.book_runs.specs.CellParts.{asks_some, kept_answers, kept_exchange}
+use Rattle.alert_book.specs.Restricted.{Keep, PagedOrder, is_for_some}
+use Rattle.book_runs.specs.CellParts.{kept_exchanges, kept_request, kept_requests}
+use Rattle.alert_book.specs.Restricted.{kept_orders, kept_paged}
+use Rattle.alert_book.specs.Restricted.{restricted}
 use Rattle.book_runs.specs.Run.{Exchange, IsExchange, is_among}
 use Rattle.book_runs.proofs.CellLists.{filter_mapped, filter_swap}
 use Rattle.book_runs.proofs.KeptReplies.{contains_kept, kept_means, kept_version, reply_says, said, same_version}

@@ -10,7 +10,8 @@ use Rattle.alert_book.specs.Book.{Contents}
 use Rattle.alert_book.specs.NetworkLaws.{BooksAreNetworks}
 use Rattle.alert_book.specs.Turns.{AreTurnsOf, begun}
 use Rattle.bsc_table.specs.Record.{Record}
-use Rattle.book_runs.specs.CellParts.{Keep, is_of_some, kept_exchange, kept_exchanges, kept_records, leave, restricted}
+use Rattle.book_runs.specs.CellParts.{is_of_some, kept_exchange, kept_exchanges, kept_records, leave}
+use Rattle.alert_book.specs.Restricted.{Keep, restricted}
 use Rattle.book_runs.specs.Live.{IsRunBy}
 use Rattle.book_runs.specs.LiveParts.{CellsLiveApart, LivePartsMakeTheWhole}
 use Rattle.book_runs.specs.Run.{Exchange, IsExchange, asked_of}

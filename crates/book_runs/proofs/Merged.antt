@@ -4,7 +4,8 @@ use Rattle.std.proofs.Common.{◌≡◌, Bool, true, false, cond, not, List, [],
 use Rattle.std.specs.List.{All}
 use Rattle.std.proofs.lemmas.List.Elements.{All-cons, All-head, All-nil, All-tail}
 use Rattle.cbsp_wire.specs.declared.message.Cell.{Cell}
-use Rattle.book_runs.specs.CellParts.{Keep, leave, merged, first_in, rest_in}
+use Rattle.book_runs.specs.CellParts.{leave, merged, first_in, rest_in}
+use Rattle.alert_book.specs.Restricted.{Keep}
 
 first_cell : {X : Type 0} (of : X → Cell) (x : X) (xs : List X) (c : Cell) (cells : List Cell)
     → of x ∷ map of xs ≡ c ∷ cells → of x ≡ c

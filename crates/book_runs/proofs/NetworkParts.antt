@@ -31,7 +31,7 @@ use Rattle.alert_book.proofs.FewRows.{verb_new}
 use Rattle.alert_book.proofs.GroupLaws.{filter_group}
 use Rattle.alert_book.proofs.RightOrders.{IsRightActionBy, IsRightRow, either_right, fault_right, orders_with_row}
 use Rattle.alert_book.proofs.RightOrders.{cells_column, verb_right}
-use Rattle.book_runs.specs.CellParts.{Keep, PagedOrder, kept_action, kept_order, kept_orders}
+use Rattle.alert_book.specs.Restricted.{Keep, PagedOrder, kept_action, kept_order, kept_orders}
 use Rattle.book_runs.specs.WholeNetwork.{GroupsAreParts, IsWholeNetwork, WholeNetworksAreCounted, in_group}
 use Rattle.book_runs.specs.WholeNetwork.{row_of_network}
 use Rattle.book_runs.proofs.KeptRows.{field_declared, kept_rows, rows_kept}

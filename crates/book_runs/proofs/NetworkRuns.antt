@@ -14,7 +14,8 @@ use Rattle.alert_book.specs.Laws.{BooksAreOne}
 use Rattle.alert_book.specs.Network.{cells_of_group, groups_of}
 use Rattle.alert_book.proofs.GroupLaws.{cell-symm}
 use Rattle.bsc_table.specs.Record.{Record}
-use Rattle.book_runs.specs.CellParts.{IsPartRun, Keep, PartRun, in_part, restricted}
+use Rattle.book_runs.specs.CellParts.{IsPartRun, PartRun}
+use Rattle.alert_book.specs.Restricted.{Keep, in_part, restricted}
 use Rattle.book_runs.specs.Run.{IsExchange, IsRun}
 use Rattle.book_runs.specs.WholeNetwork.{IsGroupRun, IsWholeNetwork, NetworksHaveOneRun, in_group}
 use Rattle.book_runs.proofs.InARow.{HasRun, cells_in, in_a_row, records_in}

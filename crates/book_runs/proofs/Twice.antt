@@ -10,8 +10,8 @@ use Rattle.alert_book.specs.Fields.{sending_with}
 use Rattle.alert_book.specs.Network.{cells_of_action}
 use Rattle.alert_book.specs.Row.{order_with}
 use Rattle.alert_book.specs.Session.{orders_with}
-use Rattle.book_runs.specs.CellParts.{Keep, PagedOrder, is_for_some, kept_action, kept_orders, kept_paged}
-use Rattle.book_runs.specs.CellParts.{restricted}
+use Rattle.alert_book.specs.Restricted.{Keep, PagedOrder, is_for_some, kept_action, kept_orders, kept_paged}
+use Rattle.alert_book.specs.Restricted.{restricted}
 use Rattle.book_runs.proofs.CellLists.{filter_first}
 use Rattle.book_runs.proofs.KeptSessions.{joined_orders}
 

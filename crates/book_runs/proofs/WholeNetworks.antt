@@ -18,7 +18,7 @@ use Rattle.alert_book.specs.Cells.{cells_of_field, is_among}
 use Rattle.alert_book.specs.Fields.{are_texts, column}
 use Rattle.alert_book.specs.Network.{cells_in_group, cells_of_group, declares_cell, row_in_group}
 use Rattle.alert_book.specs.Row.{cell_row_within, row_after_verb_by, verb_of}
-use Rattle.book_runs.specs.CellParts.{Keep, kept_action, kept_order}
+use Rattle.alert_book.specs.Restricted.{Keep, kept_action, kept_order}
 use Rattle.book_runs.specs.WholeNetwork.{GroupsAreOfNetworks, row_of_network}
 use Rattle.book_runs.proofs.CellLists.{filter_first}
 use Rattle.book_runs.proofs.KeptRows.{either_kept, kept_row, kept_rows, right_by, then_same, verb_kept, with_kept}

@@ -1,66 +1,22 @@
 -- Some of a book's cells apart from the others (own): their book, what of a run concerns them, and that this is the run
 -- of their book.
-use Rattle.std.specs.Prelude.{◌≡◌, ℕ, Bool, not, if◌then◌else◌, Option, List, [], ◌∷◌, ◌++◌, filter, map, All}
+use Rattle.std.specs.Prelude.{◌≡◌, ℕ, Bool, not, if◌then◌else◌, List, [], ◌∷◌, ◌++◌, filter, map, All}
 use Rattle.std.specs.List.{flat_map}
-use Rattle.cbs_page.specs.declared.paging.Paged.{Paged}
 use Rattle.cbsp_wire.specs.declared.message.Cell.{Cell}
 use Rattle.cbsp_wire.specs.declared.message.Message.{Message}
 use Rattle.cbsp_wire.specs.declared.message.Message.TheVariants as messages
-use Rattle.cbsp_wire.specs.CellLists.{contains}
 use Rattle.cbsp_wire.specs.Range.{is_nothing}
 use Rattle.cbch_blocks.specs.RecordBlocks.{tape_of_record}
-use Rattle.alert_book.specs.declared.book.order.Action.{Action}
-use Rattle.alert_book.specs.declared.book.order.Order.{Order}
-use Rattle.alert_book.specs.declared.book.order.Sending.{Sending}
 use Rattle.alert_book.specs.declared.session.request.Request.{Request}
 use Rattle.alert_book.specs.declared.network.Origin.{Origin}
 use Rattle.alert_book.specs.Book.{Contents}
-use Rattle.alert_book.specs.Network.{action_to, cells_of_action, has_cells, order_to, sending_to}
 use Rattle.alert_book.specs.Origin.{IsBookFrom}
-use Rattle.alert_book.specs.Session.{orders_with}
+use Rattle.alert_book.specs.Restricted.{Keep, in_part, restricted}
 use Rattle.reply_outcome.specs.Replies.{cells_asked}
 use Rattle.bsc_table.specs.declared.entry.Answer.{Answer}
 use Rattle.bsc_table.specs.Record.{Record}
 use Rattle.order_desk.specs.Reply.{reply_message}
 use Rattle.book_runs.specs.Run.{Exchange, IsRun}
-
--- the cells that are meant, of all
-abbrev pub Keep : Type 0
-Keep = Cell → Bool
-
--- what a row has these cells do
-abbrev pub kept_sending : Keep → Sending → Sending
-kept_sending keep s = sending_to s (filter keep s.cells)
-
-abbrev pub kept_action : Keep → Action → Action
-kept_action keep a = action_to a (filter keep (cells_of_action a))
-
-abbrev pub kept_order : Keep → Order → Order
-kept_order keep o = order_to o (filter keep (cells_of_action o.action))
-
--- an order with its pages
-abbrev pub PagedOrder : Type 0
-PagedOrder = Order × Option Paged
-
-abbrev pub kept_paged : Keep → PagedOrder → PagedOrder
-kept_paged keep o = (kept_order keep o.0, o.1)
-
-abbrev pub is_for_some : PagedOrder → Bool
-is_for_some o = has_cells o.0
-
--- the orders that are for some of these cells, each for those alone. A row keeps its number, its alert's number and its
--- update's, whatever other rows are left out
-abbrev pub kept_orders : Keep → List PagedOrder → List PagedOrder
-kept_orders keep orders = filter is_for_some (map (kept_paged keep) orders)
-
--- the book of some of a book's cells
-abbrev pub restricted : Keep → Contents → Contents
-restricted keep book =
-    let kept = kept_orders keep (orders_with book.orders book.pages) in record {
-      cells = filter keep book.cells;
-      orders = map (λ o. o.0) kept;
-      pages = map (λ o. o.1) kept;
-    }
 
 -- what a message, and a request, asks of these cells
 abbrev pub kept_message : Keep → Message → Message
@@ -156,9 +112,6 @@ pub record PartRun : Type 0 where
   pub cells : List Cell
   pub exchanges : List Exchange
   pub records : List Record
-
-abbrev pub in_part : List Cell → Keep
-in_part part cell = contains part cell
 
 abbrev pub IsPartRun : Contents → (slots : ℕ) → PartRun → Type 0
 IsPartRun book slots part = IsRun (restricted (in_part part.cells) book) slots part.exchanges part.records

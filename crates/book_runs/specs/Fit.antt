@@ -9,7 +9,7 @@ use Rattle.alert_book.specs.Turns.{GoesTo, Turn, begun}
 use Rattle.bsc_table.specs.Record.{Record}
 use Rattle.order_desk.specs.declared.note.Note.{Note}
 use Rattle.order_desk.specs.Settled.{ClosedDesk, IsSettled}
-use Rattle.book_runs.specs.CellParts.{Keep, restricted}
+use Rattle.alert_book.specs.Restricted.{Keep, restricted}
 use Rattle.book_runs.specs.Live.{IsLiveRun}
 use Rattle.book_runs.specs.Run.{Exchange}
 use Rattle.book_runs.specs.Sessions.{AreSessions}

@@ -4,7 +4,8 @@ use Rattle.alert_book.specs.declared.network.Origin.{Origin}
 use Rattle.alert_book.specs.Book.{Contents}
 use Rattle.alert_book.specs.Origin.{IsBookFrom}
 use Rattle.bsc_table.specs.Record.{Record}
-use Rattle.book_runs.specs.CellParts.{Keep, kept_exchanges, kept_records, leave, merged, restricted}
+use Rattle.book_runs.specs.CellParts.{kept_exchanges, kept_records, leave, merged}
+use Rattle.alert_book.specs.Restricted.{Keep, restricted}
 use Rattle.book_runs.specs.Live.{IsLiveRun}
 use Rattle.book_runs.specs.Run.{Exchange}
 

@@ -15,7 +15,8 @@ use Rattle.alert_book.specs.Network.{HasGroups, IsGroupBook, cells_of_group, dec
 use Rattle.alert_book.specs.Network.{max_network_cells}
 use Rattle.alert_book.specs.Network.{max_orders}
 use Rattle.alert_book.specs.Row.{cell_row_within, row_after_verb_by, verb_of}
-use Rattle.book_runs.specs.CellParts.{Keep, PartRun, restricted}
+use Rattle.book_runs.specs.CellParts.{PartRun}
+use Rattle.alert_book.specs.Restricted.{Keep, restricted}
 use Rattle.book_runs.specs.Run.{Exchange, IsRun}
 
 -- what the row of this number means for all cells, where the rows before it declare these and give these orders
