@@ -28,6 +28,7 @@ pub mod BareRows
 pub mod OneNetwork
 pub mod GroupOrders
 pub mod AllGroupsLaws
+mod RestrictedLaws
 pub mod Origins
 pub mod FoundLaws
 pub mod RowNumbers

@@ -1,9 +1,11 @@
 -- The book of some of a book's cells (own).
-use Rattle.std.specs.Prelude.{Bool, Option, List, filter, map}
+use Rattle.std.specs.Prelude.{◌≡◌, Bool, Option, List, filter, map}
+use Rattle.std.specs.List.{AllZip}
 use Rattle.cbs_page.specs.declared.paging.Paged.{Paged}
 use Rattle.cbsp_wire.specs.CellLists.{contains}
 use Rattle.cbsp_wire.specs.declared.message.Cell.{Cell}
 use Rattle.alert_book.specs.Book.{Contents}
+use Rattle.alert_book.specs.Laws.{HaveSamePages}
 use Rattle.alert_book.specs.Network.{action_to, cells_of_action, has_cells, order_to, sending_to}
 use Rattle.alert_book.specs.Session.{orders_with}
 use Rattle.alert_book.specs.declared.book.order.Action.{Action}
@@ -51,3 +53,9 @@ restricted keep book =
 -- the cells of a list
 abbrev pub in_part : List Cell → Keep
 in_part part cell = contains part cell
+
+-- a book has the cells and the orders of another one, and of each order the same pages
+pub record IsCopyOf (book copy : Contents) : Type 0 where
+  pub cells : copy.cells ≡ book.cells
+  pub orders : copy.orders ≡ book.orders
+  pub pages : AllZip HaveSamePages book.pages copy.pages

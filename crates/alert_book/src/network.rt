@@ -42,6 +42,7 @@ pub(crate) mod all_groups;
 pub(crate) mod cell_set;
 pub(crate) mod group_cells;
 pub(crate) mod shares;
+pub(crate) mod some_cells;
 
 /// The most octets of a network book: 64 MiB.
 pub const MAX_NETWORK: usize = 0x400_0000;

@@ -6,6 +6,7 @@ ghost use Rattle.csv.specs.Records.{fields_of};
 ghost use Rattle.alert_book.specs.declared.book.order.Sending.{Sending};
 ghost use Rattle.alert_book.specs.AllGroupsSteps.{all_row, AreRowsOfAll, AreRightlyKept, IsAllMore};
 ghost use Rattle.alert_book.specs.Book.{refused, sending_of, unread, ArePagesOf, HavePages, IsRowFaultBy};
+ghost use Rattle.alert_book.specs.Laws.{HaveSamePages};
 ghost use Rattle.alert_book.specs.Network.{action_to, cells_of_action, cells_of_group, groups_of, has_cells};
 ghost use Rattle.alert_book.specs.Network.{named_of, order_to, orders_in, row_in_group, sending_to, IsGroupBook};
 ghost use Rattle.alert_book.specs.Network.{IsNoNetworkBook, MeansNetwork};
@@ -277,7 +278,7 @@ fn action_to(alloc: Global, action: &Action, cells: &[Cell]) -> Result<Action, A
 }
 
 /// An order for these cells.
-fn order_to(alloc: Global, order: &Order, cells: &[Cell]) -> Result<Order, AllocError>
+pub(crate) fn order_to(alloc: Global, order: &Order, cells: &[Cell]) -> Result<Order, AllocError>
     ensures { IfOk result (λ to. to ≡ order_to order.now cells.now) }
 {
     Ok(Order {
@@ -291,8 +292,9 @@ fn order_to(alloc: Global, order: &Order, cells: &[Cell]) -> Result<Order, Alloc
 }
 
 /// A copy of the pages of an order's text, if it has one.
-fn copy_pages(alloc: Global, paged: &Option<Paged>) -> Result<Option<Paged>, AllocError>
-    ensures { IfOk result (λ copy. (sending : Option Sending)
+pub(crate) fn copy_pages(alloc: Global, paged: &Option<Paged>) -> Result<Option<Paged>, AllocError>
+    ensures same { IfOk result (HaveSamePages paged.now) }
+    ensures pages { IfOk result (λ copy. (sending : Option Sending)
         → ArePagesOf sending paged.now → ArePagesOf sending copy) }
 {
     match paged {

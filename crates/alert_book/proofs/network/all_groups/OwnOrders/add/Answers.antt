@@ -8,7 +8,7 @@ use Rattle.alert_book.proofs.network.all_groups.OwnOrders.add.Goals as goal
 pub returns-clause-pages : goal.returns-clause-pages
 returns-clause-pages c =
     let own = order_to c.args.order.now c.args.cells.now in
-    let sent = c.in_ok-copy.ensures (sending_of own.action)
+    let sent = c.in_ok-copy.ensures.pages (sending_of own.action)
     (sent_to c.args.order.now c.args.cells.now c.args.paged.now c.requires.here) in
     rw (c.in_ok-push.ensures.items, c.in_ok-push-2.ensures.items)
     (pages_with c.args.self.now.orders.items c.args.self.now.pages.items c.in_ok-own.own c.in_ok-copy.copy
