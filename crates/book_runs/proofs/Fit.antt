@@ -98,6 +98,7 @@ pub parts_are_fit : PartsAreFit
 parts_are_fit from input keep book is = record {
   cells = kept_valid keep book.cells (all_cells_are_valid from input book is);
   orders = restricted_few keep book (all_orders_are_few from input book is);
+  paged = (kept_with_pages keep book.orders book.pages (paged_from from input book is)).paged;
   writable = λ part parts turns reached goes.
       let own : Contents = restricted keep book in
       requests_kept CanBeWritten IsReady

@@ -22,6 +22,7 @@ mod InOrder
 mod Settled
 mod OneAnswer
 mod SameBook
+mod ServedParts
 mod OneRun
 mod CellLists
 mod KeptRequests

@@ -123,7 +123,7 @@ alike_after reply s t alike =
     (due_requests (version_in replies) s.due t.left) (same_due (version_in replies) s.due s.left t.left alike.left))
 
 -- the same turns go on from both
-record GoesAlso (turns : List Turn) (t to : Standing) : Type 0 where
+pub record GoesAlso (turns : List Turn) (t to : Standing) : Type 0 where
   pub reached : Standing
   pub goes : GoesTo t turns reached
   pub over : reached.sent ≡ to.sent
@@ -170,19 +170,42 @@ same_orders part parts (order ∷ orders) (p ∷ ps) (q ∷ qs) same =
     by_part true rest = ((refl, same.0), rest)
     by_part false rest = rest
 
--- so the turns of a session of one book are those of a session of the other
-pub same_turns : (book other : Contents) (part parts : ℕ) (turns : List Turn) → book.orders ≡ other.orders
-    → AllZip HaveSamePages book.pages other.pages → AreTurnsOf book part parts turns → AreTurnsOf other part parts turns
-same_turns book other part parts turns orders pages are =
+-- so a session of one book goes on as a session of the other
+pub same_goes : (book other : Contents) (part parts : ℕ) (turns : List Turn) (reached : Standing)
+    → book.orders ≡ other.orders → AllZip HaveSamePages book.pages other.pages
+    → GoesTo (begun book part parts) turns reached
+    → GoesAlso turns (begun other part parts) reached
+same_goes book other part parts turns reached orders pages goes =
     let left : AreSameLeft (orders_from book part parts 0) (orders_from other part parts 0) =
     subst (λ (all : List Order). AreSameLeft (orders_from book part parts 0)
     (filter (is_of_part part parts) (orders_with all other.pages))) orders
     (same_orders part parts book.orders book.pages other.pages pages) in
     let alike : AreAlike (session_of book part parts) (session_of other part parts) =
     record { same = refl; left = left } in
-    let also = goes_also turns (begun book part parts) (begun other part parts) are.reached
-    (alike_after None (session_of book part parts) (session_of other part parts) alike) are.gone in record {
+    goes_also turns (begun book part parts) (begun other part parts) reached
+    (alike_after None (session_of book part parts) (session_of other part parts) alike) goes
+
+-- and the turns of a session of one book are those of a session of the other
+pub same_turns : (book other : Contents) (part parts : ℕ) (turns : List Turn) → book.orders ≡ other.orders
+    → AllZip HaveSamePages book.pages other.pages → AreTurnsOf book part parts turns → AreTurnsOf other part parts turns
+same_turns book other part parts turns orders pages are =
+    let also = same_goes book other part parts turns are.reached orders pages are.gone in record {
       reached = also.reached;
       gone = also.goes;
       over = also.over ∙ are.over;
     }
+
+-- pages are the same either way
+same_other : (paged other : Option Paged) → HaveSamePages paged other → HaveSamePages other paged
+same_other None None same = tt
+same_other None (Some q) same = absurd same
+same_other (Some p) None same = absurd same
+same_other (Some p) (Some q) same = (sym same.0, sym same.1)
+
+-- also of all orders
+pub same_back : (pages others : List (Option Paged)) → AllZip HaveSamePages pages others
+    → AllZip HaveSamePages others pages
+same_back [] [] same = tt
+same_back [] (q ∷ others) same = absurd same
+same_back (p ∷ pages) [] same = absurd same
+same_back (p ∷ pages) (q ∷ others) same = (same_other p q same.0, same_back pages others same.1)

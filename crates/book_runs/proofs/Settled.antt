@@ -9,6 +9,7 @@ use Rattle.std.proofs.lemmas.List.Elements.{All-cons, All-nil, AllZip-get_or, le
 use Rattle.std.proofs.lemmas.List.Folds.{list_any_at}
 use Rattle.cbsp_wire.specs.declared.message.Cell.{Cell}
 use Rattle.cbsp_wire.specs.Range.{are_distinct, is_cell}
+use Rattle.alert_book.proofs.Origins.{paged_from}
 use Rattle.alert_book.specs.Book.{Contents}
 use Rattle.alert_book.specs.Turns.{AreTurnsOf}
 use Rattle.bsc_table.specs.declared.entry.Entry.{Entry}
@@ -182,6 +183,7 @@ pub books_are_fit : BookLaws → (from : Origin) (input : List ℕ) (book : Cont
 books_are_fit laws from input book is = record {
   cells = laws.cells_are_valid from input book is;
   orders = laws.orders_are_few from input book is;
+  paged = paged_from from input book is;
   writable = λ part parts turns reached goes. laws.writable from input book part parts turns reached is goes;
 }
 

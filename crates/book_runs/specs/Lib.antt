@@ -9,4 +9,5 @@ pub mod OneRun
 pub mod CellParts
 pub mod WholeNetwork
 pub mod LiveParts
+pub mod ServedParts
 pub mod Fit

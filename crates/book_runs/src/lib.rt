@@ -8,13 +8,14 @@
 
 ghost use Rattle.book_runs.specs.CellParts.{CellsRunApart, PartsInARow, PartsMakeTheWhole, RecordsAreThoseOfTheWhole};
 ghost use Rattle.book_runs.specs.CellParts.{TapesInARow};
-ghost use Rattle.book_runs.specs.Fit.{PartsAreFit, SettledFitBooksAreRuns};
+ghost use Rattle.book_runs.specs.Fit.{BooksAreFit, CopiesAreFit, PartsAreFit, SettledFitBooksAreRuns};
 ghost use Rattle.book_runs.specs.LiveLaws.{LiveRunsAcceptWhatWasOrdered, LiveRunsShowTheBook, OneSessionIsARun};
 ghost use Rattle.book_runs.specs.LiveLaws.{SettledSessionsAreRuns};
 ghost use Rattle.book_runs.specs.LiveParts.{CellsLiveApart, LivePartsMakeTheWhole};
 ghost use Rattle.book_runs.specs.OneRun.{RunsAreOne};
 ghost use Rattle.book_runs.specs.Ordered.{RunsAcceptWhatWasOrdered};
 ghost use Rattle.book_runs.specs.RunLaws.{RunsShowTheBook};
+ghost use Rattle.book_runs.specs.ServedParts.{ServedPartsInARow};
 ghost use Rattle.book_runs.specs.WholeNetwork.{GroupsAreOfNetworks, GroupsAreParts, NetworksHaveOneRun};
 ghost use Rattle.book_runs.specs.WholeNetwork.{WholeNetworksAreCounted};
 
@@ -97,6 +98,21 @@ pub fn cells_law()
     alert_book::network_laws();
     alert_book::session_laws();
     scheduler::air_laws();
+}
+
+/// States, as its contract, that a book may be served part by part, some of its cells each. Does nothing: its body
+/// names the laws that carry it.
+pub fn served_parts_law()
+    // A book that was read is fit to be run at a desk, and a copy of a fit one is.
+    ensures books { BooksAreFit }
+    ensures copies { CopiesAreFit }
+
+    // What sessions of copies of the parts' books served, cell after cell, is what one session of the book serves.
+    ensures in_a_row { ServedPartsInARow }
+{
+    alert_book::book_laws();
+    alert_book::network_laws();
+    alert_book::session_laws();
 }
 
 /// States the law of `cells_law` for runs that several sessions serve side by side. Does nothing: its body names the
