@@ -16,12 +16,9 @@ use Rattle.cbsp_wire.specs.Value.{fields_of}
 use Rattle.cbsp_wire.specs.Refusals.{reported_fault}
 use Rattle.alert_book.specs.declared.book.order.Order.{Order}
 use Rattle.alert_book.specs.declared.session.request.Request.{Request}
-use Rattle.alert_book.specs.declared.network.Origin.{Origin}
 use Rattle.alert_book.specs.Book.{Contents}
-use Rattle.alert_book.specs.Origin.{IsBookFrom}
-use Rattle.alert_book.proofs.Origins.{paged_from}
 use Rattle.alert_book.specs.Session.{after_reply, Standing}
-use Rattle.alert_book.specs.TurnLaws.{ComesOf, IsSentFor, RequestsAreWritable, RequestsComeOfOrders}
+use Rattle.alert_book.specs.TurnLaws.{ComesOf, IsSentFor, RequestsComeOfOrders}
 use Rattle.alert_book.specs.Turns.{begun, GoesTo, Turn}
 use Rattle.bsc_table.specs.declared.command.Category.{Category}
 use Rattle.bsc_table.specs.declared.command.Command.{Command}
@@ -33,6 +30,7 @@ use Rattle.order_desk.specs.declared.note.Note.{Note}
 use Rattle.order_desk.specs.Desk.{IsRefusedOrder, DeskState}
 use Rattle.cbsp_wire.proofs.Tests.{and_parts}
 use Rattle.order_desk.proofs.Walked.{all_last}
+use Rattle.book_runs.specs.Fit.{IsFit}
 use Rattle.warnc_run.specs.Faults.{IsDeskFault}
 
 -- one more turn
@@ -80,48 +78,47 @@ is_order order (messages.KillDone id old completed cells channel) cause sent wri
 is_order order (messages.KillFailed id old failures completed cells channel) cause sent writable is = absurd sent
 
 -- a request of a book's session is an order
-request_is_order : RequestsComeOfOrders → RequestsAreWritable → (from : Origin) (input : List ℕ) (book : Contents)
-    (part parts : ℕ) (turns : List Turn) (reached : Standing) (request : Request) (cause : ℕ)
-    → IsBookFrom from input book
+request_is_order : RequestsComeOfOrders → (book : Contents) (part parts : ℕ) (turns : List Turn) (reached : Standing)
+    (request : Request) (cause : ℕ)
+    → IsFit book
     → GoesTo (begun book part parts) turns reached
     → reached.sent ≡ Some request
     → order_of request.message ≡ Err cause
     → ⊥
-request_is_order come writable from input book part parts turns reached request cause is_book gone sent is =
+request_is_order come book part parts turns reached request cause fit gone sent is =
     let turn : Turn = record { request = request; reply = request.message } in
     let all = turns ++ turn ∷ [] in
     let to = after_reply (Some request.message) reached in
     let went = gone_on turns (begun book part parts) reached request request.message gone sent in
     let comes = (all_last (λ (t : Turn). Any (ComesOf t.request) book.orders) turns turn
-    (come book part parts all to (paged_from from input book is_book) went)).1 in
+    (come book part parts all to fit.paged went)).1 in
     let can = (all_last (λ (t : Turn). is_writable t.request.message ≡ true) turns turn
-    (writable from input book part parts all to is_book went)).1 in
+    (fit.writable part parts all to went)).1 in
     is_order comes.1 request.message cause comes.4.sent can is
 
 -- so the desk refuses a request of a book's session only because it is out of memory, or finds a book of another cell
-pub refused_request : OneMeaning → MeantIsFaultless → RequestsComeOfOrders → RequestsAreWritable → (from : Origin)
-    (input : List ℕ) (book : Contents) (part parts : ℕ) (turns : List Turn) (reached : Standing) (request : Request)
-    (desk : DeskState)
+pub refused_request : OneMeaning → MeantIsFaultless → RequestsComeOfOrders → (book : Contents) (part parts : ℕ)
+    (turns : List Turn) (reached : Standing) (request : Request) (desk : DeskState)
     (at : ℕ) (octets : List ℕ) (fault : DeskFault) (notes : List Note)
-    → IsBookFrom from input book
+    → IsFit book
     → GoesTo (begun book part parts) turns reached
     → reached.sent ≡ Some request
     → IsMessage octets request.message
     → IsRefusedOrder desk at octets fault notes
     → IsDeskFault fault
-refused_request one faultless come writable from input book part parts turns reached request desk at octets
-    (faults.Memory done) notes is_book gone sent meant refused = tt
-refused_request one faultless come writable from input book part parts turns reached request desk at octets
-    faults.Unknown notes is_book gone sent meant refused = tt
-refused_request one faultless come writable from input book part parts turns reached request desk at octets
-    faults.Full notes is_book gone sent meant refused = absurd refused
-refused_request one faultless come writable from input book part parts turns reached request desk at octets
-    (faults.Cause cause) notes is_book gone sent meant refused =
-    absurd (request_is_order come writable from input book part parts turns reached request cause is_book gone sent
+refused_request one faultless come book part parts turns reached request desk at octets
+    (faults.Memory done) notes fit gone sent meant refused = tt
+refused_request one faultless come book part parts turns reached request desk at octets
+    faults.Unknown notes fit gone sent meant refused = tt
+refused_request one faultless come book part parts turns reached request desk at octets
+    faults.Full notes fit gone sent meant refused = absurd refused
+refused_request one faultless come book part parts turns reached request desk at octets
+    (faults.Cause cause) notes fit gone sent meant refused =
+    absurd (request_is_order come book part parts turns reached request cause fit gone sent
     (subst (λ (m : Message). order_of m ≡ Err cause)
     (one octets refused.0.0 request.message refused.0.1 meant) refused.0.2))
-refused_request one faultless come writable from input book part parts turns reached request desk at octets
-    (faults.Wire fault) notes is_book gone sent meant refused =
+refused_request one faultless come book part parts turns reached request desk at octets
+    (faults.Wire fault) notes fit gone sent meant refused =
     absurd (no_fault fault refused.0.0 (sym (faultless octets request.message meant) ∙ refused.0.1))
   where
     no_fault : (f : WireFault) → f ≢ wire.Refused → None ≡ reported_fault f → ⊥

@@ -2,6 +2,7 @@ pub mod Readings
 pub mod Serving
 pub mod Written
 pub mod Asked
+mod ApartLaws
 pub mod FirstFault
 pub mod OneOutput
 pub mod ReportColumns

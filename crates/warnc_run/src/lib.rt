@@ -12,6 +12,7 @@
 //! orders each cell answered, at which slot, and what a handset shows that reads its tape.
 #![tactic(auto)]
 
+mod apart;
 mod book;
 mod fault;
 mod finish;

@@ -69,7 +69,7 @@ pub fn compile_stream<T: AllocGlobal + Threads + Wait + Sync, R: Read, W: Write>
 /// their pages as they are played; the tapes are put together from them while the desk is open. Then the desk is
 /// settled with all passes, and the tapes are compared with the records of the cells; one worker makes them of these
 /// records. They are written in the order of the book, and nothing is written before. `gate` is called while a cell is
-/// held.
+/// held. Of one session several workers run the cells apart, each with a desk for some of them.
 ///
 /// What was written is what the book means (`IsLive`): there is a session for each part, whose messages are those of
 /// the part's rows by the replies that it gets; each cell's log has what the sessions order of it, each session's in

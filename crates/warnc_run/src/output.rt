@@ -5,10 +5,11 @@ ghost use Rattle.device_ends.specs.Sink.{sink_failed, writer_of};
 ghost use Rattle.warnc_run.specs.Faults.{IsPieceFault, IsWriteFault};
 ghost use Rattle.warnc_run.specs.RunSteps.{HasWritten, IsSomeBook, StopsAtTape};
 
+use crate::apart::records_of_run;
 use crate::fault::RunFault;
 use crate::finish::{write_in_turn, write_tapes};
 use crate::run::{Sessions, Workers};
-use crate::tapes::{records_after, tapes_by_several};
+use crate::tapes::tapes_by_several;
 use alert_book::Book;
 use cbch_blocks::Tape;
 use cbsp_wire::Cell;
@@ -19,16 +20,16 @@ use std::io::Write;
 use std::sync::Wait;
 use std::thread::Threads;
 
-/// Runs the sessions of a book's parts, and writes the tapes of its cells, by one worker. It has nobody to hand pages
-/// to while the desk is open, so the tapes are made of the settled records, each once, and there is nothing to compare.
-/// They are made as they are written: one alone is held, whose memory is taken before the first octet is written.
-fn write_by_one<T: AllocGlobal + Threads + Wait + Sync, W: Write, G: Gate>(
+/// Runs the sessions of a book's parts, and writes the tapes of its cells. They are made of the settled records, each
+/// once, so there is nothing to compare, and they are made as they are written: one alone is held, whose memory is
+/// taken before the first octet is written.
+fn write_by_records<T: AllocGlobal + Threads + Wait + Sync, W: Write, G: Gate>(
     rt: &T,
     book: Book,
     sink: &mut Sink<W>,
     slots: u16,
     sessions: Sessions,
-    worker: Workers,
+    workers: Workers,
     gate: &G,
 ) -> Result<(), RunFault>
     requires book { IsSomeBook book }
@@ -44,7 +45,7 @@ fn write_by_one<T: AllocGlobal + Threads + Wait + Sync, W: Write, G: Gate>(
 {
     // The tapes of a run have one size.
     book_runs::session_laws();
-    let records = records_after(rt, &book, slots, sessions, worker, gate)?;
+    let records = records_of_run(rt, &book, slots, sessions, workers, gate)?;
     drop(book);
     // any cell will do: every octet is overwritten
     let tape = Tape::open(rt.alloc(), Cell { lac: 0, ci: 0 }, slots)?;
@@ -54,7 +55,7 @@ fn write_by_one<T: AllocGlobal + Threads + Wait + Sync, W: Write, G: Gate>(
     }
 }
 
-/// Writes the tapes with several workers. All tapes are made before the first octet is written.
+/// Writes the tapes of several sessions with several workers. All tapes are made before the first octet is written.
 fn write_by_several<T: AllocGlobal + Threads + Wait + Sync, W: Write, G: Gate>(
     rt: &T,
     book: &Book,
@@ -103,8 +104,8 @@ pub(crate) fn write_run<T: AllocGlobal + Threads + Wait + Sync, W: Write, G: Gat
     ensures write { IfErr result (λ fault. IsWriteFault fault → sink_failed sink.new ≡ true) }
     ensures stays { sink_failed sink.old ≡ true → sink.new ≡ sink.old }
 {
-    if workers.number == 1 {
-        write_by_one(rt, book, sink, slots, sessions, workers, gate)
+    if workers.number == 1 || sessions.number == 1 {
+        write_by_records(rt, book, sink, slots, sessions, workers, gate)
     } else {
         write_by_several(rt, &book, sink, slots, sessions, workers, gate)
     }

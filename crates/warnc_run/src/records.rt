@@ -6,10 +6,10 @@ ghost use Rattle.alert_book.specs.Book.{unread};
 ghost use Rattle.warnc_run.specs.Records.{HasNoRecords, HasRecords};
 ghost use Rattle.warnc_run.specs.declared.fault.RunFault.TheVariants as faults;
 
+use crate::apart::records_of_run;
 use crate::book::book_from;
 use crate::fault::RunFault;
 use crate::run::{Sessions, Workers};
-use crate::tapes::records_after;
 use alert_book::Origin;
 use bsc_table::CellRecord;
 use device_ends::Source;
@@ -45,5 +45,5 @@ pub fn run_book<T: AllocGlobal + Threads + Wait + Sync, R: Read>(
     book_runs::session_laws();
     bsc_table::legal_histories();
     let book = book_from(rt, source, origin)?;
-    records_after(rt, &book, slots, Sessions { number: 1 }, workers, &Open)
+    records_of_run(rt, &book, slots, Sessions { number: 1 }, workers, &Open)
 }

@@ -1,8 +1,8 @@
 //! A session of a book at a desk: its orders, and the replies to them.
 
 ghost use Rattle.std.specs.Prelude.{◌<◌, ℕ, IfErr, List};
+ghost use Rattle.book_runs.specs.Fit.{IsFit};
 ghost use Rattle.warnc_run.specs.Faults.{IsOfRun};
-ghost use Rattle.warnc_run.specs.RunSteps.{IsSomeBook};
 
 use crate::fault::RunFault;
 use alert_book::{Book, Session};
@@ -27,7 +27,7 @@ pub(crate) fn run_session<R: Wait, G: Gate>(
     gate: &G,
 ) -> Result<(), RunFault>
     requires part { part < parts }
-    requires book { IsSomeBook book.now }
+    requires book { IsFit book.now }
     ensures { IfErr result IsOfRun }
 {
     // Each request leaves fewer that can follow it, so a session ends; and its message is an order, so the desk refuses

@@ -1,8 +1,9 @@
 //! The sessions of a book's parts, side by side.
 
 ghost use Rattle.std.specs.Prelude.{◌≡◌, ◌⊎◌, ◌<◌, ℕ, map, vec_len, All, IfErr, IfOk, List};
+ghost use Rattle.book_runs.specs.Fit.{IsFit};
 ghost use Rattle.warnc_run.specs.Faults.{IsOfRun};
-ghost use Rattle.warnc_run.specs.RunSteps.{IsFirstUserFault, IsSomeBook};
+ghost use Rattle.warnc_run.specs.RunSteps.{IsFirstUserFault};
 ghost use Rattle.warnc_run.specs.declared.fault.RunFault.TheVariants as faults;
 
 use crate::fault::RunFault;
@@ -52,7 +53,7 @@ fn run_part<T: AllocGlobal + Wait, G: Gate>(
     gate: &G,
 ) -> UserEnd
     requires part { job.part < parts }
-    requires book { IsSomeBook book.now }
+    requires book { IsFit book.now }
     ensures { IfErr result.done IsOfRun }
 {
     let SessionJob { part, mut pass } = job;
@@ -92,7 +93,7 @@ pub(crate) fn run_sessions<T: AllocGlobal + Threads + Wait + Sync, G: Gate>(
     sessions: Sessions,
     gate: &G,
 ) -> Result<Vec<Pass>, RunFault>
-    requires { IsSomeBook book.now }
+    requires { IsFit book.now }
     ensures ok { IfOk result (λ passes. vec_len passes ≡ sessions.number) }
     ensures err { IfErr result IsOfRun }
 {
@@ -103,7 +104,7 @@ pub(crate) fn run_sessions<T: AllocGlobal + Threads + Wait + Sync, G: Gate>(
         jobs,
         &|job: SessionJob| -> UserEnd
             requires part { job.part < parts }
-            requires book { IsSomeBook book.now }
+            requires book { IsFit book.now }
             ensures { IfErr result.done IsOfRun }
         { run_part(rt, book, parts, desk, job, gate) },
     )?;

@@ -1,9 +1,10 @@
 //! The end of a run at a desk: its settlement with the passes of the sessions.
 
 ghost use Rattle.std.specs.Prelude.{◌≡◌, ◌≤◌, ℕ, List, length, IfErr, IfOk};
+ghost use Rattle.book_runs.specs.Fit.{IsFit};
 ghost use Rattle.book_runs.specs.Live.{IsLiveRun};
 ghost use Rattle.warnc_run.specs.Faults.{IsOfBook};
-ghost use Rattle.warnc_run.specs.RunSteps.{HaveRunLive, IsSomeBook};
+ghost use Rattle.warnc_run.specs.RunSteps.{HaveRunLive};
 
 use crate::fault::RunFault;
 use crate::run::Sessions;
@@ -27,14 +28,14 @@ pub(crate) fn settled_records(
     sessions: Sessions,
     passes: &[Pass],
 ) -> Result<Vec<CellRecord>, RunFault>
-    requires book { IsSomeBook book.now }
+    requires book { IsFit book.now }
     requires cells { desk.cells ≡ book.now.cells }
     requires passes { sessions.number ≤ length passes.now }
     ensures ok { IfOk result (λ records. HaveRunLive book.now desk.slots sessions.number records.items) }
     ensures err { IfErr result (IsOfBook book.now desk.slots sessions.number) }
 {
     // What the passes noted is what each cell holds, so the cells hold what the sessions asked.
-    book_runs::session_laws();
+    book_runs::cells_law();
     let closed = desk.close()?;
     let records = closed.settle(alloc, passes)?;
     check_sessions(alloc, book, sessions.number, &records, passes)?;

@@ -2,6 +2,7 @@
 
 ghost use Rattle.std.specs.Prelude.{◌≡◌, ℕ, List, IfErr, IfOk, map};
 ghost use Rattle.cbch_blocks.specs.RecordBlocks.{tape_of_record};
+ghost use Rattle.book_runs.specs.Fit.{IsFit};
 ghost use Rattle.warnc_run.specs.Faults.{IsOfBook};
 ghost use Rattle.warnc_run.specs.RunSteps.{AreTapesOf, HaveRunLive, IsOfTapes, IsSomeBook};
 
@@ -28,12 +29,10 @@ pub(crate) fn records_after<T: AllocGlobal + Threads + Wait + Sync, G: Gate>(
     workers: Workers,
     gate: &G,
 ) -> Result<Vec<CellRecord>, RunFault>
-    requires book { IsSomeBook book.now }
+    requires book { IsFit book.now }
     ensures ok { IfOk result (λ records. HaveRunLive book.now slots sessions.number records.items) }
     ensures err { IfErr result (IsOfBook book.now slots sessions.number) }
 {
-    // No book has a cell twice.
-    alert_book::book_laws();
     let desk = Desk::open(rt.alloc(), book.cells(), slots)?;
     let mut passes = run_sessions(rt, book, &desk, sessions, gate)?;
     let mut played = play_out(rt, &desk, workers, gate)?;
@@ -65,6 +64,7 @@ pub(crate) fn tapes_by_one<T: AllocGlobal + Threads + Wait + Sync>(
     ensures ok { IfOk result (λ tapes. AreTapesOf book slots sessions.number tapes.items) }
     ensures err { IfErr result (IsOfBook book slots sessions.number) }
 {
+    book_runs::served_parts_law();
     let records = records_after(rt, &book, slots, sessions, Workers { number: 1 }, &Open)?;
     // what the book holds is free for the tapes
     drop(book);
@@ -85,8 +85,8 @@ pub(crate) fn tapes_by_several<T: AllocGlobal + Threads + Wait + Sync, G: Gate>(
     ensures ok { IfOk result (λ tapes. AreTapesOf book.now slots sessions.number tapes.items) }
     ensures err { IfErr result (IsOfTapes book.now slots sessions.number) }
 {
-    // No book has a cell twice.
-    alert_book::book_laws();
+    // A book that was read has no cell twice.
+    book_runs::served_parts_law();
     let desk = Desk::open(rt.alloc(), book.cells(), slots)?;
     let mut passes = run_sessions(rt, book, &desk, sessions, gate)?;
     let (tapes, mut played) = stream_all(rt, rt.alloc(), &desk, workers.number, gate)?;

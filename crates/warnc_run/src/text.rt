@@ -14,11 +14,11 @@ ghost use Rattle.asked_orders.specs.Asked.{orders_of_run};
 ghost use Rattle.bsc_table.specs.Record.{Record};
 ghost use Rattle.warnc_run.specs.declared.fault.RunFault.TheVariants as faults;
 
+use crate::apart::records_of_run;
 use crate::book::book_from;
 use crate::fault::RunFault;
 use crate::product::{Product, ProductFault};
 use crate::run::{Books, Run, Sessions, Workers};
-use crate::tapes::records_after;
 use alert_book::{Book, Order, Origin};
 use asked_orders::orders_of_run;
 use bsc_table::CellRecord;
@@ -114,7 +114,7 @@ pub(crate) fn text_of_book<T: AllocGlobal + Threads + Wait + Sync, G: Gate>(
     // No book has over 64 cells, and each record gives a tape.
     alert_book::book_laws();
     book_runs::session_laws();
-    let records = records_after(rt, &book, slots, sessions, workers, gate)?;
+    let records = records_of_run(rt, &book, slots, sessions, workers, gate)?;
     let orders = orders_for(rt.alloc(), text, book.given(), &records)?;
     // what else the book holds is free for the tapes
     drop(book);

@@ -16,8 +16,8 @@ shown 1 -> 4370 0010 One, 4370 0011 Two
 keep
 scarce 300 compile 3 1 -> refused; done
 all -> worked
-scarce-threads 300 compile 3 2 -> refused to the end
-all -> 0 of 284
+scarce-threads 300 compile 3 2 -> refused; done
+all -> worked
 
 in cell,1,1
 in cell,1,2
@@ -39,7 +39,7 @@ shown 2 -> 4370 0010 ЖЖЖЖЖЖЖЖЖЖЖЖЖЖЖЖЖЖЖЖЖЖЖЖЖЖЖЖЖ�
 ";
 
 /// So too for two sessions. With so little memory no thread can be made: a session works in the calling thread, and
-/// several workers are refused whatever else they have.
+/// several workers of several sessions are refused whatever else they have.
 const LIVE: &str = "
 in cell,1,1
 in cell,1,2
@@ -189,7 +189,7 @@ in cell,1,1
 in cell,1,2
 compile 100 1 -> done
 keep
-starve 100 1 2 -> Compile(Refused), in both cells at once
+starve 100 1 2 -> Refused, in both cells at once
 all -> 0 of 18416
 live 100 1 2 -> done
 all -> worked

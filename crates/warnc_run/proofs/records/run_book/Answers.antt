@@ -14,7 +14,7 @@ pub returns-clause-ok : goal.returns-clause-ok
 returns-clause-ok g c =
     let read = c.in_ok-book.ensures.ok in
     let few : c.args.slots ≤ 65535 = omega (arith, c.ranges.slots.fits) in
-    IfOk-weaker c.records_after.result _ _
+    IfOk-weaker c.records_of_run.result _ _
     (λ records live. record {
       input = read.input;
       read = read.consumed;
@@ -23,7 +23,7 @@ returns-clause-ok g c =
           c.legal_histories.ensures.legal_histories_are_served c.args.origin read.input c.in_ok-book.book c.args.slots 1
           _ few read.meant live;
     })
-    c.records_after.ensures.ok
+    c.records_of_run.ensures.ok
 
 pub returns-clause-err : goal.returns-clause-err
 returns-clause-err g c =
@@ -35,7 +35,7 @@ returns-clause-err g c =
       ended = read.ended;
       is_book = read.meant;
     } in
-    IfErr-weaker c.records_after.result _ _
+    IfErr-weaker c.records_of_run.result _ _
     (λ fault of_book.
     let other = of_any_product c.in_ok-book.book c.args.slots 1 (product.Report (untimed columns.Plain)) fault of_book
     in (
@@ -43,7 +43,7 @@ returns-clause-err g c =
       fault_of_run c.args.origin c.args.slots 1 (λ input output. ⊥) _ _ None None c.in_ok-book.book fault whole refl
           other.1 (Keeps-refl None),
     ))
-    c.records_after.ensures.err
+    c.records_of_run.ensures.err
 
 pub returns-in_err-book-clause-err : goal.returns-in_err-book-clause-err
 returns-in_err-book-clause-err g c =

@@ -44,11 +44,9 @@ returns-in_err-reply g c =
     let sent = sent_is serving.reached.sent given (subst (IsGiven serving.reached.sent) c.in-Some.is serving.given) in
     let refused = c.in_err-reply.ensures.refused in
     let is = refused_request c.meaning_law.ensures.one_value c.meaning_law.ensures.no_fault
-    c.session_laws.ensures.come_of_orders c.session_laws.ensures.writable c.requires.book.0 c.requires.book.1
-    c.args.book.now
-    c.args.part
-    c.args.parts serving.turns serving.reached sent.0 c.args.desk.now c.in-Some.at c.in-Some.octets.items
-    c.in_err-reply.field-0.0 refused.0 c.requires.book.2 serving.gone sent.1 sent.2.meant
+    c.session_laws.ensures.come_of_orders c.args.book.now c.args.part c.args.parts serving.turns serving.reached sent.0
+    c.args.desk.now c.in-Some.at c.in-Some.octets.items c.in_err-reply.field-0.0 refused.0 c.requires.book serving.gone
+    sent.1 sent.2.meant
     (subst (λ (octets : List ℕ). IsRefusedOrder c.args.desk.now c.in-Some.at octets c.in_err-reply.field-0.0 refused.0)
     c.deref.ensures.value refused.1) in
     search (rules, is, c.from_residual-in_err-reply.ensures)

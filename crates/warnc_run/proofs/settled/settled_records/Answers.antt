@@ -19,9 +19,8 @@ check_sessions-requires-clause-agree c =
 
 pub returns-clause-ok : goal.returns-clause-ok
 returns-clause-ok c =
-    let run = c.session_laws.ensures.settled c.requires.book.0 c.requires.book.1 c.args.book.now c.args.desk.slots
-    c.args.sessions.number
-    c.in_ok-closed.closed c.args.passes.now c.in_ok-records.records.items c.requires.book.2 c.args.sessions.some
+    let run = c.cells_law.ensures.settled c.args.book.now c.args.desk.slots c.args.sessions.number
+    c.in_ok-closed.closed c.args.passes.now c.in_ok-records.records.items c.requires.book c.args.sessions.some
     (c.in_ok-closed.ensures.cells ∙ c.requires.cells) c.in_ok-closed.ensures.slots c.in_ok-records.ensures.ok
     (subst (λ (records : List Record). AreSessions c.args.book.now c.args.sessions.number records c.args.passes.now)
     c.deref.ensures.value (c.in_ok-check_sessions.ensures.ok refl)) in

@@ -1,7 +1,7 @@
 use Rattle.std.proofs.Common.{◌≤◌}
 use native.Mathlib.Omega.{arith}
 use Rattle.warnc_run.proofs.Written.{has_room_for_each}
-use Rattle.warnc_run.proofs.output.write_by_one.Goals as goal
+use Rattle.warnc_run.proofs.output.write_by_records.Goals as goal
 
 pub write_in_turn-requires-clause-same : goal.write_in_turn-requires-clause-same
 write_in_turn-requires-clause-same g c =
