@@ -31,7 +31,7 @@ use warnc_air::all::AllWanted;
 use warnc_run::{Books, Product, Run, Sessions, Workers};
 
 /// The version of the program, and on a line of its own what `rt version` says of the toolchain that proved it.
-const VERSION: &str = "1.16.0\nrattle-kit-13f logic dac8208d650f15bf";
+const VERSION: &str = "1.17.0\nrattle-kit-13f logic dac8208d650f15bf";
 
 /// The words for the channel that packets name.
 const CHANNEL_TYPES: &[&str] = &["cbch", "sdcch"];

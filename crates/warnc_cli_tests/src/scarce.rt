@@ -224,8 +224,8 @@ run -> 0
 all -> worked
 ";
 
-/// Two cells, two pages, two sessions and two workers, which are refused whatever else they have. The tapes are those
-/// of a program that isn't ours.
+/// Two cells, two pages, and two workers: those of one session work in the calling thread, and those of two are refused
+/// whatever else they have. The tapes are those of a program that isn't ours.
 const TWO: &str = "
 in cell,1,1
 in cell,1,2
@@ -265,7 +265,7 @@ args compile --slots 2
 run -> 0
 keep
 args compile --slots 2 --workers 2
-scarce-threads 13 3600 -> refused to the end
+scarce-threads 13 3600 -> worked
 args live --slots 2 --sessions 2 --workers 2
 scarce-threads 10 3600 -> refused to the end
 run -> 0
