@@ -129,9 +129,17 @@ def option_of(body):
                   choices_of(text, body))
 
 
+@functools.cache
+def parts():
+    """Returns the functions that go on with a command that is put together."""
+    return dict(re.findall(r"^fn (\w+)<'a>\(alloc: Global, command: Command<'a>\)[^{]*\{\n(.*?)^\}", read(SOURCE),
+                           re.M | re.S))
+
+
 def of_source():
     """Returns the commands that the source describes, in the order of the program."""
-    bodies = dict(re.findall(r"^fn (\w+)<'a>\(alloc: Global\)[^{]*\{\n(.*?)^\}", read(SOURCE), re.M | re.S))
+    bodies = {name: re.sub(r"(\w+)\(alloc, command\)", lambda it: parts()[it[1]], body) for name, body in
+              re.findall(r"^fn (\w+)<'a>\(alloc: Global\)[^{]*\{\n(.*?)^\}", read(SOURCE), re.M | re.S)}
     commands = []
     for body in (bodies[it] for it in given(bodies["warnc"], "subcommand")):
         name, text = only(rf"Command::new\(alloc, {STRING}\)", body), only(rf"\.about\(\s*{STRING},?\s*\)", body)

@@ -771,30 +771,59 @@ const COLUMNS: &str = concat!(
 
 /// The program's command line. Its commands are listed in this order.
 fn warnc<'a>(alloc: Global) -> Result<Command<'a>, AllocError> {
-    Command::new(alloc, "warnc")
+    let command = Command::new(alloc, "warnc")
         .about(
             "Compiles cell broadcast warnings to the blocks that cells send,\nand reads them as handsets do",
         )
         .after_help(COLUMNS)
         .version(VERSION)
         .subcommand_required(true)
-        .arg_required_else_help(true)
+        .arg_required_else_help(true);
+    let command = with_plans(alloc, command)?;
+    let command = with_runs(alloc, command)?;
+    let command = with_tapes(alloc, command)?;
+    let command = with_captures(alloc, command)?;
+    with_networks(alloc, command)
+}
+
+/// Adds the commands on plans and books: each function adds a few, since what is given back where one can't be added
+/// grows with those before it.
+fn with_plans<'a>(alloc: Global, command: Command<'a>) -> Result<Command<'a>, AllocError> {
+    command
         .subcommand(plan(alloc))?
         .subcommand(check(alloc)?)?
-        .subcommand(texts(alloc)?)?
+        .subcommand(texts(alloc)?)
+}
+
+/// Adds those that run a book.
+fn with_runs<'a>(alloc: Global, command: Command<'a>) -> Result<Command<'a>, AllocError> {
+    command
         .subcommand(compile(alloc)?)?
         .subcommand(report(alloc)?)?
-        .subcommand(chart(alloc)?)?
+        .subcommand(chart(alloc)?)
+}
+
+/// Adds those on tapes, and those on a text and on sessions.
+fn with_tapes<'a>(alloc: Global, command: Command<'a>) -> Result<Command<'a>, AllocError> {
+    command
         .subcommand(read(alloc)?)?
         .subcommand(verify(alloc)?)?
         .subcommand(page(alloc)?)?
-        .subcommand(live(alloc)?)?
+        .subcommand(live(alloc)?)
+}
+
+/// Adds those on captures.
+fn with_captures<'a>(alloc: Global, command: Command<'a>) -> Result<Command<'a>, AllocError> {
+    command
         .subcommand(pcap(alloc)?)?
         .subcommand(cells(alloc))?
         .subcommand(tape(alloc)?)?
-        .subcommand(orders(alloc)?)?
-        .subcommand(whole(alloc))?
-        .subcommand(groups(alloc))
+        .subcommand(orders(alloc)?)
+}
+
+/// Adds the last two.
+fn with_networks<'a>(alloc: Global, command: Command<'a>) -> Result<Command<'a>, AllocError> {
+    command.subcommand(whole(alloc))?.subcommand(groups(alloc))
 }
 
 /// The command line of `compile`.
@@ -851,20 +880,32 @@ fn read<'a>(alloc: Global) -> Result<Command<'a>, AllocError> {
 
 /// The command line of `verify`.
 fn verify<'a>(alloc: Global) -> Result<Command<'a>, AllocError> {
-    Command::new(alloc, "verify")
+    let command = Command::new(alloc, "verify")
         .about(
             "Reads tapes, also of another sender's, and writes what they have\notherwise than a book of alerts asks, or than orders ask of a cell, as\nCSV",
         )
         .after_help(
             "Examples: warnc verify --slots 4096 --book book.csv < tapes\n          warnc verify --orders orders.csv --cell 1-1 --delay 4 < tapes",
-        )
+        );
+    let command = by_book(alloc, command)?;
+    by_orders(alloc, command)
+}
+
+/// Adds the options of `verify` by a book.
+fn by_book<'a>(alloc: Global, command: Command<'a>) -> Result<Command<'a>, AllocError> {
+    command
         .arg(book(alloc)?)?
         .arg(verified_slots(alloc)?)?
         .arg(short(alloc))?
         .arg(explain(alloc))?
         .arg(differing_clock(alloc))?
         .arg(group(alloc))?
-        .arg(workers(alloc))?
+        .arg(workers(alloc))
+}
+
+/// Adds those of `verify` by the orders of a cell.
+fn by_orders<'a>(alloc: Global, command: Command<'a>) -> Result<Command<'a>, AllocError> {
+    command
         .arg(judging_orders(alloc)?)?
         .arg(judged_cell(alloc)?)?
         .arg(delay(alloc)?)
