@@ -7,7 +7,7 @@ Usage: command_line.py              says which texts are stale, and fails if one
                                     wider than a terminal of 80 columns
        command_line.py --help       prints this
 
-The source is crates/warnc_cli/src/command.rt. The completions are written whole. Of the man page, docs/warnc.1, the
+The source is crates/warnc_cli/src/options.rt. The completions are written whole. Of the man page, docs/warnc.1, the
 commands are put in the program's order and their options are written; what stands between the heading of a command and
 its options stays, and a new command gets the line of its --help there. Of docs/usage.md the list of commands is
 written.
@@ -24,7 +24,7 @@ import limits
 import release
 
 TOP = os.path.dirname(os.path.dirname(os.path.realpath(__file__)))
-SOURCE = "crates/warnc_cli/src/command.rt"
+SOURCE = "crates/warnc_cli/src/options.rt"
 STRING = r'"((?:[^"\\]|\\.)*)"'
 HELP = ("help", "Prints what a command takes")
 # a range of up to this many numbers is listed in completions
@@ -138,8 +138,8 @@ def parts():
 
 def of_source():
     """Returns the commands that the source describes, in the order of the program."""
-    bodies = {name: re.sub(r"(\w+)\(alloc, command\)", lambda it: parts()[it[1]], body) for name, body in
-              re.findall(r"^fn (\w+)<'a>\(alloc: Global\)[^{]*\{\n(.*?)^\}", read(SOURCE), re.M | re.S)}
+    found = re.findall(r"^(?:pub\(crate\) )?fn (\w+)<'a>\(alloc: Global\)[^{]*\{\n(.*?)^\}", read(SOURCE), re.M | re.S)
+    bodies = {name: re.sub(r"(\w+)\(alloc, command\)", lambda it: parts()[it[1]], body) for name, body in found}
     commands = []
     for body in (bodies[it] for it in given(bodies["warnc"], "subcommand")):
         name, text = only(rf"Command::new\(alloc, {STRING}\)", body), only(rf"\.about\(\s*{STRING},?\s*\)", body)

@@ -31,7 +31,7 @@ MANIFEST = os.path.join(DIST, "MANIFEST")
 PARTS = ("src", "specs", "proofs")
 # the crate of what programs in C call
 LIBRARY = "warnc_c"
-COMMAND_LINE = os.path.join("crates", "warnc_cli", "src", "command.rt")
+COMMAND_LINE = os.path.join("crates", "warnc_cli", "src", "options.rt")
 
 
 def read(path):

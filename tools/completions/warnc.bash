@@ -1,5 +1,5 @@
 # Completes the words of warnc in bash. To install it, source it in ~/.bashrc.
-# tools/command_line.py writes it by what crates/warnc_cli/src/command.rt says.
+# tools/command_line.py writes it by what crates/warnc_cli/src/options.rt says.
 
 _warnc() {
     local word=${COMP_WORDS[COMP_CWORD]} before=${COMP_WORDS[COMP_CWORD - 1]} words=

@@ -1,5 +1,5 @@
 # Completes the words of warnc in fish. To install it, put it into ~/.config/fish/completions.
-# tools/command_line.py writes it by what crates/warnc_cli/src/command.rt says.
+# tools/command_line.py writes it by what crates/warnc_cli/src/options.rt says.
 
 complete -c warnc -f
 complete -c warnc -s h -l help -d 'Print what is taken'

@@ -5,6 +5,7 @@
 mod command;
 mod ends;
 pub mod mistaken;
+mod options;
 pub mod run;
 mod start;
 pub mod status;
