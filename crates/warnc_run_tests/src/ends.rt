@@ -87,9 +87,18 @@ keep
 meet 2 2 1 -> done, in both cells at once
 all -> worked
 
-# two workers; of these cells nothing is asked, so that no session enters them
+# two workers of two sessions; of these cells nothing is asked, so that no session enters them
 in cell,1,1
 in cell,1,2
+compile 3 1 -> done
+keep
+meet 3 2 2 -> done, in both cells at once
+all -> worked
+
+# two workers of one session that orders in both cells, which it enters one after the other, if they are at one desk
+in cell,1,1
+in cell,1,2
+in write,0,a,4370,0,1,en,2,2,0,*,@
 compile 3 1 -> done
 keep
 meet 3 1 2 -> done, in both cells at once

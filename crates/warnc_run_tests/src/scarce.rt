@@ -172,7 +172,8 @@ all -> worked
 ";
 
 /// Two sessions are each in a cell when memory ends: the one has no entry then, and if memory runs out for the passes
-/// of both, too, that is told. Then two workers are, each at a desk of its own, who may have all that they need.
+/// of both, too, that is told. Then workers of two sessions find none, of whom no session is in a cell; and two of one
+/// are each at a desk of its own, and may have all that they need.
 const STARVED: &str = "
 in cell,1,1
 in cell,1,2
@@ -189,6 +190,10 @@ in cell,1,1
 in cell,1,2
 compile 100 1 -> done
 keep
+starve 100 2 2 -> Compile(Refused), in both cells at once
+all -> 0 of 18416
+live 100 2 2 -> done
+all -> worked
 starve 100 1 2 -> Refused, in both cells at once or done, in both cells at once
 all -> 0 of 18416 or worked
 live 100 1 2 -> done
