@@ -4,8 +4,8 @@
 Usage: build.py      the program is crates/warnc/out/warnc then
 
 `rt` keeps one checkout's checks out of each other's libraries, so that two of them wait for each other. So each lane is
-a checkout of its own, outside the repository: what is proved in one is taken over by the others, and is linked into
-this one.
+a checkout of its own, outside the repository: what is proved there is linked into this one, and from here into a lane
+that needs it.
 
 Of the crates that can begin, the one with the longest way to the program begins first: by the seconds that each crate
 took on this machine the last time, which its out/ keeps, else by its lines. A crate that runs alone gets all
@@ -88,6 +88,13 @@ def processors():
     return len(os.sched_getaffinity(0))
 
 
+def gate_from_nothing():
+    """Returns the words that run the gate from nothing: some toolchains keep what their gates proved, if not told so."""
+    said = subprocess.run(["rt", "help"], stdin=subprocess.DEVNULL, stdout=subprocess.PIPE, stderr=subprocess.STDOUT,
+                          text=True, check=False).stdout
+    return ["rt", "ci"] + ["--anew"] * ("--anew" in said)
+
+
 def lanes(memory=MEMORY):
     """Returns how many checks run at a time: one a processor, and no more than memory holds."""
     with open("/proc/meminfo", encoding="ascii") as lines:
@@ -142,13 +149,19 @@ def copy_checkout(folder, crates):
     return folder
 
 
-def link_out(crate, checkout):
-    """Links what a check of a crate kept in another checkout into this one."""
-    made, here = (os.path.join(it, "crates", crate, "out") for it in (checkout, TOP))
-    for name in ("incremental", "rlib"):
+def link_out(crate, checkout, to, names):
+    """Links what a check of a crate kept in a checkout into another one."""
+    made, here = (os.path.join(it, "crates", crate, "out") for it in (checkout, to))
+    for name in names:
         shutil.rmtree(os.path.join(here, name), ignore_errors=True)
         if os.path.isdir(os.path.join(made, name)):
             shutil.copytree(os.path.join(made, name), os.path.join(here, name), copy_function=link_or_copy)
+
+
+def link_in(crate, checkout):
+    """Links into a checkout what is kept here of a crate and of those that it stands on: nothing is proved again."""
+    for below in crates_below(crate):
+        link_out(below, TOP, checkout, ("incremental", "rlib") if below == crate else ("rlib",))
 
 
 def link_or_copy(file, to):
@@ -216,6 +229,8 @@ def build():
             for crate in ready:
                 left.remove(crate)
                 checkout = TOP if crate == PROGRAM else free.pop()
+                if checkout != TOP:
+                    link_in(crate, checkout)
                 running[crate] = (start(crate, folder, checkout, jobs), checkout, time.monotonic())
             progress.show(running)
             time.sleep(0.2)
@@ -227,7 +242,7 @@ def build():
                     explain(crate, folder)
                     return 70
                 if crate != PROGRAM:
-                    link_out(crate, checkout)
+                    link_out(crate, checkout, TOP, ("incremental", "rlib"))
                     free.append(checkout)
                 keep_seconds(crate, time.monotonic() - began)
                 progress.add(crate)

@@ -1,6 +1,6 @@
 #!/usr/bin/env python3
-"""Runs the gate, `rt ci --anew`, and prints what processor time each crate took: its proof, its tests, its edits that
-must be refused.
+"""Runs the gate, `rt ci`, from nothing, and prints what processor time each crate took: its proof, its tests, its
+edits that must be refused.
 
 Usage: gate_times.py [--log FILE] [CRATE..]      with names of crates, these and those below them alone; what the gate
                                                  says goes to the file, or to standard output. A run of all crates that
@@ -18,6 +18,8 @@ import re
 import subprocess
 import sys
 import time
+
+from build import gate_from_nothing
 
 TICKS = os.sysconf("SC_CLK_TCK")
 UNIT = "septets"
@@ -142,7 +144,7 @@ def main():
         return 0
     began, seen = time.monotonic(), {}
     out = open(words.log, "w", encoding="utf-8") if words.log else None
-    gate = subprocess.Popen(["rt", "ci", "--anew", *words.crates], stdin=subprocess.DEVNULL, stdout=out,
+    gate = subprocess.Popen([*gate_from_nothing(), *words.crates], stdin=subprocess.DEVNULL, stdout=out,
                             stderr=subprocess.STDOUT if out else None)
     while gate.poll() is None:
         sample(seen, gate.pid)

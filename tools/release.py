@@ -4,7 +4,7 @@
 Usage: release.py            proves and builds the program, and writes both
        release.py --stale    says in a line why dist/ isn't of this tree, and nothing if it is
        release.py --check    proves and builds the program once more, from nothing and in a folder of its own, by
-                             `rt ci --anew`, and says whether it is the one of dist/, octet for octet
+                             `rt ci`, and says whether it is the one of dist/, octet for octet
 
 It fails if dist/ isn't of this tree, or if the two programs differ.
 
@@ -21,7 +21,7 @@ import subprocess
 import sys
 import tempfile
 
-from build import PROGRAM, TOP, build, copy_checkout, crates_below
+from build import PROGRAM, TOP, build, copy_checkout, crates_below, gate_from_nothing
 
 DIST = os.path.join(TOP, "dist")
 RELEASED = os.path.join(DIST, "warnc-x86_64-linux")
@@ -162,7 +162,7 @@ def check():
         copy = copy_checkout(os.path.join(folder, "checkout"), crates)
         for crate in crates:
             shutil.rmtree(os.path.join(copy, "crates", crate, "must-fail"), ignore_errors=True)
-        done = subprocess.run(["rt", "ci", "--anew"], cwd=copy, stdin=subprocess.DEVNULL, check=False)
+        done = subprocess.run(gate_from_nothing(), cwd=copy, stdin=subprocess.DEVNULL, check=False)
         return 0 if done.returncode == 0 and compare(copy) and compare_others(copy) else 1
 
 
