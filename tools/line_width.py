@@ -17,8 +17,9 @@ import textwrap
 WIDTH = 120
 TEXTS = ("README.md", "docs/*.md", "crates/*/README.md", "crates/*/src/**/*.rt", "crates/*/specs/**/*.antt",
          "crates/*/proofs/**/*.antt")
-SCRIPTS = ("warnc", "test", "*.sh", "tools/*.py", "bench/*.py", "cluster/*.sh", "cap/warnc-cap", "cap/**/*.py",
-           "browser/*.py", "browser/*.js", "browser/*.css", "browser/*.html", "browser/*.c", "browser/*.md")
+SCRIPTS = ("warnc", "test", "*.sh", "tools/*.py", "bench/*.py", "cluster/*.sh", "link/*.sh", "link/*.py",
+           "cap/warnc-cap", "cap/**/*.py", "browser/*.py", "browser/*.js", "browser/*.css", "browser/*.html",
+           "browser/*.c", "browser/*.md")
 
 
 def is_exempt(path, line):
