@@ -17,6 +17,7 @@ osmo-bsc ends the connection.
 """
 import argparse
 import os
+import resource
 import subprocess
 import sys
 import time
@@ -33,6 +34,8 @@ ALONE = ("unshare", "--net", "--pid", "--fork", "--kill-child")
 RECORDED = "tcp port 48049 or (udp port 4729 and udp[20] = 0x0f and (udp[16:4] / 51) % 8 < 4)"
 # the ARFCN of the first cell, and how far the next one's is
 FIRST_ARFCN, STEP = 871, 4
+# the most octets of a file: osmo-bsc can write a hundred megabytes of complaints in ten seconds
+MOST_WRITTEN = 4_000_000
 # in seconds: how long the network may take to begin, how long a program may take to end, and between two looks
 PATIENCE, ENDING, LOOK = 30, 3, 0.1
 
@@ -125,8 +128,9 @@ class Network:
     def start(self, name, *words):
         """Starts a program, whose output goes to a file of this name."""
         with open(self.path(f"{name}.log"), "wb") as log:
+            # without the signal of a file that is too large, which Python ignores, and so do they
             self.running.append(subprocess.Popen(words, cwd=self.folder, stdin=subprocess.DEVNULL, stdout=log,
-                                                 stderr=log))
+                                                 stderr=log, restore_signals=False))
 
     def configure(self, name, text):
         """Writes a configuration, and returns its path."""
@@ -187,6 +191,7 @@ def inside(asked):
     """Runs the network in this one, which has no devices yet, and returns the status."""
     for words in ("link set lo up", "link set lo multicast on", "route add 224.0.0.0/4 dev lo"):
         subprocess.run(["ip", *words.split()], check=True)
+    resource.setrlimit(resource.RLIMIT_FSIZE, (MOST_WRITTEN, MOST_WRITTEN))
     with Network(asked.cells, asked.folder) as network:
         network.begin()
         return network.play(sys.stdin.buffer.read(), asked.seconds)
