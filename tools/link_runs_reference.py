@@ -1,0 +1,187 @@
+#!/usr/bin/env python3
+"""Closes the circle of the link: has the orders of random books and their air in one capture, and asks the program for
+both.
+
+Usage: link_runs_reference.py PROGRAM [RUNS]    random books, 300 if no number is given. Of each cell the orders and the
+                                                answers are written as messages of the link here, and the air is what
+                                                the program makes of the book. Of the capture of both `tape` has to be
+                                                the book's tape, `orders` the orders and answers, and `verify --orders`
+                                                without a row; and of a tape that is spoilt it has to say what
+                                                orders_verdict_reference.py says. PROGRAM is a built `warnc`
+       link_runs_reference.py --help            prints this
+
+What a cell answered, and how many broadcasts were over by then, is taken from `warnc report`. Cells in which a message
+waits for the one that it replaces are left out, and counted: there an answer is no start.
+"""
+import collections
+import csv
+import dataclasses
+import io
+import random
+import sys
+import tempfile
+
+import gsm
+from capture_files import packets_of as packets_in
+from link_session import SLOT, answer_of, capture_of, coding_of, message_of, packets_of, page
+from orders_verdict_reference import Order, line_of, rows_of, table_of
+from random_runs import judged
+from report_reference import NOT_LIVE, Lines, random_book, run
+
+# when slot 0 begins, in words and in microseconds, and how far into its slot an order comes
+START, BEGIN, LATE = "2026-01-01T00:00:00Z", 1767225600 * 10 ** 6, 400_000
+# a message that is live in a cell: its serial number, and how many broadcasts are whole by its end
+Live = collections.namedtuple("Live", "serial completed")
+# an order to a cell, the serial number that it replaces, and the answer: a cause, or how many broadcasts are over
+Exchange = collections.namedtuple("Exchange", "slot order replaced cause done")
+
+
+# ---- the link of a book's run
+
+class Waits(Exception):
+    """A message begins later than it is accepted."""
+
+
+class Cell:
+    """What a cell was asked and answered, by the lines of its report."""
+
+    def __init__(self, cell, lines, slots):
+        self.cell, self.lines, self.slots = cell, Lines(lines), slots
+        self.live, self.clock = {}, 0
+
+    def is_asked(self, order):
+        """Whether an order asks the cell: a write does, and an update or a stop where a version of its alert is live.
+        """
+        return (order.cells is None or self.cell in order.cells) and (order.verb == "write"
+                                                                      or order.alert.name in self.live)
+
+    def is_refused_stop(self, ident, serial):
+        """Whether the next line is that of a refused stop; a stop that was accepted has none."""
+        return self.lines.has_refused(ident, serial) and (
+            self.clock == self.slots or self.lines.left[0][7] == f"refused {NOT_LIVE:02x}")
+
+    def exchange(self, order):
+        """Returns what comes of the next order, which asks the cell."""
+        name, ident = order.alert.name, order.alert.identifier
+        self.clock = min(self.slots, max(self.clock, order.at))
+        old = None if order.verb == "write" else self.live[name]
+        serial = old.serial if order.verb == "stop" else order.alert.serial()
+        line, cause = None, None
+        if order.verb != "stop" or self.is_refused_stop(ident, serial):
+            line, cause = self.lines.next(ident, serial)
+        if cause in (None, NOT_LIVE):
+            self.live.pop(name, None)
+        if cause is None and line:
+            if int(line[4]) != self.clock:
+                raise Waits
+            self.live[name] = Live(serial, int(line[6]))
+        alert = dataclasses.replace(order.alert, update=serial & 15)
+        return Exchange(self.clock, dataclasses.replace(order, alert=alert, cells=[self.cell]),
+                        old.serial if order.verb == "update" else None, cause,
+                        old.completed if old and cause is None else None)
+
+
+def messages_of(exchanges, cell):
+    """Returns the messages of exchanges, each as packets_of takes it."""
+    messages = []
+    for place, it in enumerate(exchanges):
+        at = BEGIN + it.slot * SLOT + LATE + 2 * place
+        messages += [(at, False, message_of(it.order, it.replaced)),
+                     (at + 1, True, answer_of(it.order, cell, it.cause, it.done, it.replaced))]
+    return messages
+
+
+def row_of(exchange):
+    """Returns the row that `orders` has to have of an exchange."""
+    order, sending = exchange.order, exchange.order.sending
+    ident, serial = order.alert.identifier, order.alert.serial()
+    answer = "ok" if exchange.cause is None else f"{exchange.cause:02x}"
+    if sending is None:
+        return Order("kill", exchange.slot, (ident, 0), serial, 2, 0, 0, 0, [], answer, exchange.done)
+    pieces, is_gsm = gsm.pieces_of(sending.text)
+    pages = [(it[1], it[2:]) for it in (page(piece, is_gsm) for piece in pieces)]
+    return Order("write", exchange.slot, (ident, serial), exchange.replaced, sending.category, sending.period,
+                 sending.broadcasts, coding_of(sending, is_gsm), pages, answer, exchange.done)
+
+
+# ---- judging
+
+def spoilt(rng, blocks):
+    """Returns blocks with a bit of a page changed, or a page's slot idle; None if they have no page."""
+    used = [it for it in range(0, len(blocks), 4) if blocks[it] != gsm.IDLE]
+    if not used:
+        return None
+    place = rng.choice(used)
+    if rng.random() < 0.5:
+        return blocks[:place] + [gsm.IDLE] * 4 + blocks[place + 4:]
+    place += rng.randrange(4)
+    block = bytearray(blocks[place])
+    block[rng.randrange(1, len(block))] ^= 1 << rng.randrange(8)
+    return blocks[:place] + [bytes(block)] + blocks[place + 1:]
+
+
+def verdict(program, cell, orders, blocks):
+    """Returns what the program says of a tape by orders."""
+    with tempfile.NamedTemporaryFile() as file:
+        file.write(orders)
+        file.flush()
+        words = ["verify", "--orders", file.name, "--cell", "-".join(map(str, cell))]
+        return run(program, words, gsm.tape_of(*cell, blocks)).stdout.decode()
+
+
+def judge_cell(program, rng, cell, blocks, exchanges, counts):
+    """Yields what is wrong of a cell."""
+    air = run(program, ["pcap", "--start", START], gsm.tape_of(*cell, blocks)).stdout
+    packets = [(time // 1000, octets) for _, _, time, octets in packets_in(air)]
+    capture = capture_of([*packets_of(messages_of(exchanges, cell)), *packets])
+    rows = [row_of(it) for it in exchanges]
+    wanted = "".join(f"{line_of(it)}\n" for it in rows).encode()
+    name = ["--cell", "-".join(map(str, cell))]
+    tape, orders = run(program, ["tape", *name], capture).stdout, run(program, ["orders", *name], capture).stdout
+    if tape != gsm.tape_of(*cell, blocks):
+        yield f"the tape has {len(tape)} octets"
+    if orders != wanted:
+        yield f"orders are {orders}, and not {wanted}"
+    found = verdict(program, cell, wanted, blocks)
+    if found != table_of(cell, []):
+        yield f"its own tape has {found}"
+    counts.update(cells=1, orders=len(rows))
+    other = spoilt(rng, blocks)
+    if other:
+        found, wanted = verdict(program, cell, wanted, other), table_of(cell, rows_of(rows, other, 0))
+        counts.update(spoilt=1, found=found != table_of(cell, []))
+        if found != wanted:
+            yield f"of a spoilt tape it says {found}, and not {wanted}"
+
+
+def differs(program, seed, counts):
+    """Whether something of a run isn't what it has to be; prints what."""
+    rng = random.Random(seed)
+    text, _, orders = random_book(rng)
+    slots = rng.randrange(8, 60)
+    report, tapes = (run(program, [it, "--slots", str(slots)], text.encode()) for it in ("report", "compile"))
+    lines, wrong = list(csv.reader(io.StringIO(report.stdout.decode())))[1:], []
+    for lac, ci, blocks in gsm.tapes_of(tapes.stdout):
+        cell = Cell((lac, ci), [it for it in lines if it[:2] == [str(lac), str(ci)]], slots)
+        try:
+            exchanges = [cell.exchange(it) for it in orders if cell.is_asked(it)]
+        except Waits:
+            counts.update(waits=1)
+            continue
+        wrong += judge_cell(program, rng, (lac, ci), blocks, exchanges, counts)
+    if wrong:
+        print(f"link_runs_reference: run {seed}: {wrong[0]}")
+    return bool(wrong)
+
+
+def main(words):
+    counts = collections.Counter()
+    status = judged("link_runs_reference", __doc__, words, lambda *it: differs(*it, counts), 300)
+    if counts:
+        print(f"link_runs_reference: {counts['cells']} cells with {counts['orders']} orders, {counts['waits']} where a "
+              f"message waits left out; {counts['spoilt']} tapes were spoilt, and in {counts['found']} that is found")
+    return status
+
+
+if __name__ == "__main__":
+    sys.exit(main(sys.argv[1:]))
