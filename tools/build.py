@@ -89,7 +89,7 @@ def processors():
 
 
 def gate_from_nothing():
-    """Returns the words that run the gate from nothing: some toolchains keep what their gates proved, if not told so."""
+    """Returns the words that run the gate from nothing: some toolchains keep what their gates proved, if not told."""
     said = subprocess.run(["rt", "help"], stdin=subprocess.DEVNULL, stdout=subprocess.PIPE, stderr=subprocess.STDOUT,
                           text=True, check=False).stdout
     return ["rt", "ci"] + ["--anew"] * ("--anew" in said)
