@@ -125,12 +125,20 @@ def connected(address):
             time.sleep(0.1)
 
 
+def address_of(word):
+    """Returns the octets of an address."""
+    try:
+        return socket.inet_aton(word)
+    except OSError:
+        raise argparse.ArgumentTypeError(f"no address as 127.0.0.1: {word}") from None
+
+
 def main(words):
     if words in (["-h"], ["--help"]):
         print(__doc__, end="")
         return 0
     parser = argparse.ArgumentParser(add_help=False, allow_abbrev=False)
-    parser.add_argument("--bsc", type=socket.inet_aton)
+    parser.add_argument("--bsc", type=address_of)
     parser.add_argument("--to", default="127.0.0.1")
     parser.add_argument("--port", type=int, default=PORT)
     parser.add_argument("--seconds", type=float)
