@@ -139,7 +139,7 @@ fn is_taken_by(answer: Answer) -> bool
 }
 
 /// Whether there is an entry that the cell answered so.
-fn is_taken(next: Option<&Entry>) -> bool
+pub(crate) fn is_taken(next: Option<&Entry>) -> bool
     ensures { result ≡ is_taken (option_copied next.entry) }
 {
     match next {
@@ -149,7 +149,7 @@ fn is_taken(next: Option<&Entry>) -> bool
 }
 
 /// Keeps the alerts of which a cell accepted the first version, after one more order, which asked it by this entry.
-fn keep_taken(
+pub(crate) fn keep_taken(
     accepted: &mut Vec<u16>,
     order: &Order,
     next: Option<&Entry>,
@@ -164,7 +164,7 @@ fn keep_taken(
 }
 
 /// The entry at a place of a log, if it is so long.
-fn entry_at(log: &[Entry], place: usize) -> Option<&Entry>
+pub(crate) fn entry_at(log: &[Entry], place: usize) -> Option<&Entry>
     ensures { option_copied result ≡ slice_get log.now place }
 {
     match log.get(place) {

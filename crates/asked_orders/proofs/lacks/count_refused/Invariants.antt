@@ -1,0 +1,9 @@
+use Rattle.std.proofs.Common.{◌≡◌, ◌≤◌, ◌+◌, drop}
+use Rattle.asked_orders.specs.Lacks.{refused_from}
+use Rattle.asked_orders.proofs.lacks.count_refused.Given as goal
+
+abbrev pub invariant-loop-place : goal.invariant-loop-place
+invariant-loop-place l = record {
+  few : l.count ≤ l.place;
+  counted : l.count + refused_from l.cells l.place (drop l.place l.orders) ≡ refused_from l.cells 0 l.orders;
+}
