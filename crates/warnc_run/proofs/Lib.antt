@@ -8,4 +8,5 @@ pub mod OneOutput
 pub mod ReportColumns
 pub mod FirstShown
 pub mod GroupParts
+pub mod StrictRuns
 mod Whole

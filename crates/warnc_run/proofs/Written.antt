@@ -89,7 +89,8 @@ pub record TakesFrontOf (size written : ℕ) (old new : Option (List ℕ)) (outp
   pub some_left : 0 < length output → size * whole + written < length output
   pub front : Appends old new (take (size * whole + written) output)
 
-front_taken : (size : ℕ) (tapes : List (List ℕ)) (written : ℕ) (old new : Option (List ℕ))
+-- a front of tapes of one size is a front of all of them, joined
+pub front_taken : (size : ℕ) (tapes : List (List ℕ)) (written : ℕ) (old new : Option (List ℕ))
     → 0 < size
     → All (λ tape. length tape ≡ size) tapes
     → TakesFront tapes written old new
@@ -405,6 +406,13 @@ idle_long (suc slots) =
     let own : length (octets_of_blocks idle_blocks) ≡ 92 = refl in
     omega (arith, both, own, idle_long slots)
 
+-- and those of a silent cell's tape
+pub silent_size : (cell : Cell) (slots : ℕ) → length (tape_of_record (silent_record cell slots)) ≡ tape_size slots
+silent_size cell slots =
+    let header = tape_header cell slots in
+    let both = length-append header (octets_of_blocks (blocks_of_uses [] (replicate slots None))) in
+    omega (arith, both, idle_long slots)
+
 -- the tape of a silent cell has as many octets as those of a run's records
 pub has_room_for_each : LiveRunsShowTheBook → (from : Origin) (input : List ℕ) (book : Contents) (slots parts : ℕ)
     (records shown : List Record) (cell : Cell) (tape : List ℕ)
@@ -419,16 +427,10 @@ has_room_for_each law from input book slots parts records shown cell tape few is
     (law from input book slots live.sessions records is_book few live.run)
     (All-weaker (IsRunBy slots live.sessions) (λ (r : Record). r.slots ≡ slots) (λ r run. run.run) records
     live.run.each) in
-    let long : length tape ≡ tape_size slots = ap length silent ∙ size in
+    let long : length tape ≡ tape_size slots = ap length silent ∙ silent_size cell slots in
     subst (All (λ (r : Record). length (tape_of_record r) ≡ length tape)) (sym is)
     (λ k d within. of_one sizes k d within ∙ sym long)
   where
-    size : length (tape_of_record (silent_record cell slots)) ≡ tape_size slots
-    size =
-        let header = tape_header cell slots in
-        let both = length-append header (octets_of_blocks (blocks_of_uses [] (replicate slots None))) in
-        omega (arith, both, idle_long slots)
-
     of_one : All (λ t. length t ≡ tape_size slots) (map tape_of_record records) → (k : ℕ) (d : Record)
         → k < length records → length (tape_of_record (get_or records k d)) ≡ tape_size slots
     of_one sizes k d within =

@@ -12,3 +12,5 @@ pub mod OneOutput
 pub mod Whole
 pub mod ReportColumns
 pub mod FirstShown
+pub mod Strict
+pub mod StrictSteps

@@ -7,6 +7,7 @@
 //! hand on their pages, of which the tapes are put together while the desk is open, and compared with the records when
 //! it is settled; one worker hands on nothing: each tape is made of its record when it is written.
 //! [`live_stream`] and [`compile_stream`] are that for the tapes of a book, and [`run_book`] gives the records.
+//! [`run_strictly`] writes only of a run in which every order was done.
 //!
 //! What was written is said by definitions of the book's octets alone (`IsMadeBy`), which know of no worker: which
 //! orders each cell answered, at which slot, and what a handset shows that reads its tape.
@@ -28,6 +29,7 @@ mod run;
 mod session;
 mod sessions;
 mod settled;
+pub mod strict;
 mod tapes;
 mod text;
 mod workers;
@@ -38,4 +40,5 @@ pub use laws::{first_shown_law, output_laws, report_column_laws, whole_laws};
 pub use live::{compile_stream, live_stream};
 pub use product::{Product, ProductFault, run_product};
 pub use records::run_book;
-pub use run::{Books, Run, Sessions, Workers};
+pub use run::{BookRun, Books, Run, Sessions, Workers};
+pub use strict::{StrictFault, run_strictly};

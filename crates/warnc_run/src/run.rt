@@ -76,3 +76,17 @@ pub struct Run {
     pub workers: Workers,
     pub ghost few_slots: { slots ≤ 65535 },
 }
+
+/// How one book is run.
+#[derive(Clone, Copy, Debug, PartialEq, Eq)]
+pub struct BookRun {
+    /// A book, or the group of a network book.
+    pub origin: Origin,
+    /// How many slots each cell's run has.
+    pub slots: u16,
+    /// How many sessions order at a desk side by side, each what a part of the book says.
+    pub sessions: Sessions,
+    /// How many workers play the cells of the book side by side.
+    pub workers: Workers,
+    pub ghost few_slots: { slots ≤ 65535 },
+}

@@ -74,7 +74,7 @@ pub(crate) fn write_text_from<T: AllocGlobal + Threads + Wait + Sync, R: Read, W
 }
 
 /// The text of a book, or of a group by itself.
-fn text_of_product(made: Product, origin: Origin) -> Text
+pub(crate) fn text_of_product(made: Product, origin: Origin) -> Text
     requires { IsText made }
     ensures { (slots : ℕ) (orders : List Order) (records : List Record)
         → octets_of_text result slots (orders_of_run orders records) records
@@ -123,7 +123,7 @@ pub(crate) fn text_of_book<T: AllocGlobal + Threads + Wait + Sync, G: Gate>(
 }
 
 /// The orders of a book, and which of them asked each cell of its run: none for a plain report, which names no order.
-fn orders_for(
+pub(crate) fn orders_for(
     alloc: Global,
     text: Text,
     orders: &[Order],
@@ -143,7 +143,7 @@ fn orders_for(
 }
 
 /// The text of records, by the orders that asked their cells and by what handsets read of their tapes.
-fn text_of_records<T: AllocGlobal + Threads + Wait + Sync>(
+pub(crate) fn text_of_records<T: AllocGlobal + Threads + Wait + Sync>(
     rt: &T,
     orders: &BookOrders,
     records: &[CellRecord],

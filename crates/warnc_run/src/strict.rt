@@ -1,0 +1,214 @@
+//! Runs of books of which something is made only if every order was done.
+
+ghost use Rattle.std.specs.Prelude.{◌≡◌, ℕ, List, length, false, true, All, IfErr, IfOk, OnOk};
+ghost use Rattle.std.specs.Io.KnownBytes.{Appends};
+ghost use Rattle.std.specs.List.{flat_map};
+ghost use Rattle.asked_orders.specs.Asked.{orders_of_run};
+ghost use Rattle.cbch_blocks.specs.RecordBlocks.{tape_of_record};
+ghost use Rattle.device_ends.specs.Sink.{sink_failed, writer_of};
+ghost use Rattle.device_ends.specs.Stream.{IsStreamBetween};
+ghost use Rattle.warnc_run.specs.Engine.{IsOfWriter};
+ghost use Rattle.warnc_run.specs.Faults.{IsOfRun, IsWriteFault};
+ghost use Rattle.warnc_run.specs.Made.{tape_size, IsMade, IsUnmade};
+ghost use Rattle.warnc_run.specs.Products.{octets_of};
+ghost use Rattle.warnc_run.specs.RunSteps.{octets_of_text, IsSomeBook};
+ghost use Rattle.warnc_run.specs.Strict.{strictly_unread, IsStrictlyMadeBy, IsStrictlyOfPiece, IsStrictlyOfWriter};
+ghost use Rattle.warnc_run.specs.Strict.{IsStrictlyUnmadeBy};
+ghost use Rattle.warnc_run.specs.StrictSteps.{AreDone, GiveTapes, IsNotDone, StopsAtProduct, StopsAtRecord};
+ghost use Rattle.warnc_run.specs.declared.product.ProductFault.TheVariants as product_faults;
+ghost use Rattle.warnc_run.specs.declared.strict.StrictFault.TheVariants as faults;
+
+use crate::apart::records_of_run;
+use crate::book::book_from;
+use crate::fault::RunFault;
+use crate::finish::write_in_turn;
+use crate::product::{Product, ProductFault};
+use crate::run::{BookRun, Workers};
+use crate::text::{Text, orders_for, text_of_product, text_of_records};
+use alert_book::Book;
+use asked_orders::lacks_of;
+use bsc_table::CellRecord;
+use cbch_blocks::Tape;
+use cbsp_wire::Cell;
+use device_ends::{Failed, Sink, Source, write_all};
+use order_desk::Gate;
+use std::alloc::{AllocGlobal, Global};
+use std::io::{Read, Write};
+use std::sync::Wait;
+use std::thread::Threads;
+use thiserror::Error;
+
+/// Why nothing, or not all, is written of a run whose orders are all to be done.
+#[derive(Clone, Copy, Debug, PartialEq, Eq, Error)]
+pub enum StrictFault {
+    /// As without that wish ([`run_product`](crate::run_product)).
+    #[error("{0}")]
+    Product(ProductFault),
+    /// Some orders weren't done. Nothing is written.
+    #[error("refused: {refused}, doing nothing: {idle}")]
+    Undone {
+        /// How many orders a cell at least refused.
+        refused: usize,
+        /// How many orders asked no cell: updates and stops of alerts of which no version is live in any of the cells
+        /// that they name.
+        idle: usize,
+    },
+}
+
+impl From<ProductFault> for StrictFault {
+    ghost from_gives = { λ product fault. fault ≡ faults.Product product };
+
+    fn from(fault: ProductFault) -> StrictFault {
+        StrictFault::Product(fault)
+    }
+}
+
+impl From<RunFault> for StrictFault {
+    ghost from_gives = { λ run fault. fault ≡ faults.Product (product_faults.Run run) };
+
+    fn from(fault: RunFault) -> StrictFault {
+        StrictFault::Product(ProductFault::Run(fault))
+    }
+}
+
+/// Reads a book, or a network book and in it the book of a group, runs it, and writes what is to be made of the run if
+/// every order was done: no cell refused one, and each asked some cell. Else nothing is written.
+///
+/// What is judged is the run of which it is written, and which [`run_product`](crate::run_product) has, too. `gate` is
+/// called while a cell is held.
+///
+/// # Errors
+///
+/// [`StrictFault::Undone`] with how many orders weren't done, and nothing written. Else the faults of
+/// [`run_product`](crate::run_product) for one book; no tape is another record's.
+pub fn run_strictly<T: AllocGlobal + Threads + Wait + Sync, R: Read, W: Write, G: Gate>(
+    rt: &T,
+    source: &mut Source<R>,
+    sink: &mut Sink<W>,
+    run: &BookRun,
+    made: Product,
+    gate: &G,
+) -> Result<(), StrictFault>
+    ensures ok { IsMade result R.remaining W.contents (IsStrictlyMadeBy run.now made) source.old source.new sink.old
+        sink.new }
+    ensures err { IsUnmade result R.remaining W.contents (IsStrictlyUnmadeBy run.now made) source.old source.new
+        sink.old sink.new }
+    ensures no_piece { IfErr result (λ fault. IsStrictlyOfPiece fault → ⊥) }
+
+    // At any reader and any writer.
+    ensures any_ends { IsStreamBetween strictly_unread IsStrictlyOfWriter result W.contents source.old source.new
+        sink.old sink.new }
+{
+    // A handset is shown what the book means, whatever the cells answered, and each cell keeps the guarantee; and no
+    // book has over 64 cells.
+    book_runs::session_laws();
+    bsc_table::legal_histories();
+    alert_book::book_laws();
+    let book = book_from(rt, source, run.origin)?;
+    let records = records_done(rt, &book, run, gate)?;
+    write_product(rt, &book, &records, sink, run, made)?;
+    Ok(())
+}
+
+/// Runs the sessions of a book's parts, and returns the records of its cells if every order was done.
+fn records_done<T: AllocGlobal + Threads + Wait + Sync, G: Gate>(
+    rt: &T,
+    book: &Book,
+    run: &BookRun,
+    gate: &G,
+) -> Result<Vec<CellRecord>, StrictFault>
+    requires book { IsSomeBook book.now }
+    ensures ok { IfOk result (λ records. AreDone book.now run.now.slots run.now.sessions.number records.items) }
+    ensures err { IfErr result (IsNotDone book.now run.now.slots run.now.sessions.number) }
+{
+    let records = records_of_run(rt, book, run.slots, run.sessions, run.workers, gate)?;
+    let Ok(lacks) = lacks_of(rt.alloc(), book.given(), &records) else {
+        return Err(StrictFault::Product(ProductFault::Run(RunFault::Refused)));
+    };
+    if !lacks.is_none() {
+        return Err(StrictFault::Undone {
+            refused: lacks.refused,
+            idle: lacks.idle,
+        });
+    }
+    Ok(records)
+}
+
+/// Writes what is to be made of the records of a book's run.
+fn write_product<T: AllocGlobal + Threads + Wait + Sync, W: Write>(
+    rt: &T,
+    book: &Book,
+    records: &[CellRecord],
+    sink: &mut Sink<W>,
+    run: &BookRun,
+    made: Product,
+) -> Result<(), ProductFault>
+    requires tapes { GiveTapes run.now.slots records.now }
+    ensures ok { OnOk result (Appends (W.contents (writer_of sink.old)) (W.contents (writer_of sink.new))
+        (octets_of made run.now.origin run.now.slots book.now.orders records.now)) }
+    ensures err { IfErr result (StopsAtProduct made run.now.origin run.now.slots book.now.orders records.now
+        (W.contents (writer_of sink.old)) (W.contents (writer_of sink.new))) }
+    ensures not_failed { OnOk result (sink_failed sink.new ≡ false) }
+    ensures untouched { IfErr result (λ fault. (IsOfWriter fault → ⊥) → sink.new ≡ sink.old) }
+    ensures write { IfErr result (λ fault. IsOfWriter fault → sink_failed sink.new ≡ true) }
+    ensures stays { sink_failed sink.old ≡ true → sink.new ≡ sink.old }
+{
+    match made {
+        Product::Tapes => {
+            write_tapes_of(rt.alloc(), records, sink, run.slots)?;
+            Ok(())
+        }
+        Product::Report(_) | Product::Chart(_) => {
+            let text = text_of_product(made, run.origin);
+            let octets = text_of(rt, book, records, text, run.slots, run.workers)?;
+            match write_all(sink, &octets) {
+                Ok(()) => Ok(()),
+                Err(Failed) => Err(ProductFault::WriteFailed),
+            }
+        }
+    }
+}
+
+/// Writes the tapes of records, of which one alone is held, whose memory is taken before the first octet is written.
+fn write_tapes_of<W: Write>(
+    alloc: Global,
+    records: &[CellRecord],
+    sink: &mut Sink<W>,
+    slots: u16,
+) -> Result<(), RunFault>
+    requires sized { All (λ r. length (tape_of_record r) ≡ tape_size slots) records.now }
+    ensures ok { OnOk result (Appends (W.contents (writer_of sink.old)) (W.contents (writer_of sink.new))
+        (flat_map tape_of_record records.now)) }
+    ensures err { IfErr result (StopsAtRecord records.now (W.contents (writer_of sink.old))
+        (W.contents (writer_of sink.new))) }
+    ensures not_failed { OnOk result (sink_failed sink.new ≡ false) }
+    ensures untouched { IfErr result (λ fault. (IsWriteFault fault → ⊥) → sink.new ≡ sink.old) }
+    ensures write { IfErr result (λ fault. IsWriteFault fault → sink_failed sink.new ≡ true) }
+    ensures stays { sink_failed sink.old ≡ true → sink.new ≡ sink.old }
+{
+    // any cell will do: every octet is overwritten
+    let tape = Tape::open(alloc, Cell { lac: 0, ci: 0 }, slots)?;
+    match write_in_turn(tape, records, sink) {
+        Ok(()) => Ok(()),
+        Err(failed) => Err(RunFault::Write(failed)),
+    }
+}
+
+/// The text of the records of a book's run.
+fn text_of<T: AllocGlobal + Threads + Wait + Sync>(
+    rt: &T,
+    book: &Book,
+    records: &[CellRecord],
+    text: Text,
+    slots: u16,
+    workers: Workers,
+) -> Result<Vec<u8>, RunFault>
+    requires tapes { GiveTapes slots records.now }
+    ensures ok { IfOk result (λ octets. octets.items
+        ≡ octets_of_text text slots (orders_of_run book.now.orders records.now) records.now) }
+    ensures err { IfErr result IsOfRun }
+{
+    let orders = orders_for(rt.alloc(), text, book.given(), records)?;
+    let octets = text_of_records(rt, &orders, records, text, slots, workers)?;
+    Ok(octets)
+}
