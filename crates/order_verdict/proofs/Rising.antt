@@ -1,14 +1,13 @@
 -- The slots of pages on the air rise.
-use Rattle.std.proofs.Common.{◌≡◌, ℕ, ◌+◌, ◌<◌, ◌≤◌, All, List, [], ◌∷◌, ◌++◌, arith, filter, get_or, length, map}
+use Rattle.std.proofs.Common.{ℕ, ◌+◌, ◌<◌, ◌≤◌, All, List, [], ◌∷◌, ◌++◌, arith, filter, get_or, length, map}
 use Rattle.std.specs.List.{AllPairs}
 use Rattle.std.specs.Option.{option_to_list}
 use Rattle.std.proofs.lemmas.List.{get_or-map, length-map}
 use Rattle.std.proofs.lemmas.List.Elements.{All-append, All-cons, All-nil}
 use Rattle.std.proofs.lemmas.List.Kept.{AllPairs-cons, AllPairs-filter}
 use Rattle.short_pages.specs.Slots.{page_of_slot}
-use Rattle.verification.specs.declared.judged.JudgedPage.{JudgedPage}
 use Rattle.verification.specs.Asked.{AskedMessage}
-use Rattle.order_verdict.specs.Air.{AirOctets, four_by_four, page_in, pages_from, pages_on_air}
+use Rattle.order_verdict.specs.Air.{AirOctets, page_in, pages_from}
 use Rattle.order_verdict.specs.Judged.{is_own_page, judged_page, own_pages_in}
 use Rattle.order_verdict.specs.Ordered.{OrderedMessage}
 

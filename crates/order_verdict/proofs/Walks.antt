@@ -1,5 +1,5 @@
 -- Lists that are walked from the front, each item after those before it.
-use Rattle.std.proofs.Common.{◌≡◌, ◌+◌, ◌<◌, ◌∙◌, ℕ, Bool, Option, Some, List, [], ◌∷◌, ◌++◌, ap, arith, drop, get_or}
+use Rattle.std.proofs.Common.{◌≡◌, ◌+◌, ◌<◌, ◌∙◌, ℕ, Option, Some, List, [], ◌∷◌, ◌++◌, ap, drop, get_or}
 use Rattle.std.proofs.Common.{cond, length, map, sym, take}
 use Rattle.std.proofs.lemmas.List.{map-append, take_more}
 use Rattle.cell_orders.specs.declared.row.OrderRow.{OrderRow}
@@ -9,7 +9,6 @@ use Rattle.order_verdict.specs.Air.{AirOctets}
 use Rattle.order_verdict.specs.Counts.{again_after, comes_again}
 use Rattle.order_verdict.specs.Ordered.{OrderedMessage, ordered_after, ordered_of_row}
 use Rattle.order_verdict.specs.Verdict.{unordered, unordered_after}
-use Rattle.order_verdict.specs.declared.difference.OrderDifference.{OrderDifference}
 
 -- the front of a list with its next item is the next front
 pub fronted : {X : Type 0} (xs : List X) (i : ℕ) (x : X) → i < length xs → x ≡ get_or xs i x →

@@ -1,8 +1,8 @@
 -- How many broadcasts of a message came, and which came again in the time of one. Own.
-use Rattle.std.specs.Prelude.{ℕ, ◌+◌, ◌*◌, ◌-◌, ◌==◌, ◌&&◌, ◌||◌, not, nat_le, nat_lt, min, Bool, if◌then◌else◌}
+use Rattle.std.specs.Prelude.{ℕ, ◌-◌, ◌==◌, ◌&&◌, not, nat_le, nat_lt, min, Bool, if◌then◌else◌}
 use Rattle.std.specs.Prelude.{Option, Some, None, List, [], ◌∷◌, ◌++◌, length, count_by, filter, find, fold}
 use Rattle.std.specs.Prelude.{option_map}
-use Rattle.std.specs.List.{list_any, range_with_len, slice_get}
+use Rattle.std.specs.List.{list_any, range_with_len}
 use Rattle.verification.specs.Asked.{AskedMessage}
 use Rattle.verification.specs.Difference.{is_in_time, is_past_stop}
 use Rattle.verification.specs.declared.judged.JudgedPage.{JudgedPage}

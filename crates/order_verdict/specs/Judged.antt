@@ -1,7 +1,7 @@
 -- The pages of a message that were sent, each right or not. Own.
 use Rattle.std.specs.Prelude.{ℕ, ◌-◌, ◌==◌, ◌&&◌, nat_le, nat_lt, Bool, true, false, Option, Some, None, List, length}
 use Rattle.std.specs.Prelude.{filter, map, take}
-use Rattle.std.specs.List.{list_any, slice_get}
+use Rattle.std.specs.List.{slice_get}
 use Rattle.std.specs.Str.{bytes_eq}
 use Rattle.cbs_page.specs.declared.content.Content.{Content}
 use Rattle.verification.specs.Asked.{AskedMessage}

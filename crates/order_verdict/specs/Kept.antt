@@ -10,6 +10,7 @@ air_kept k = record { slot = k.slot; octets = k.octets.items }
 
 abbrev pub ordered_kept : Ordered → OrderedMessage
 ordered_kept k = record {
+  row = k.row;
   early = asked_kept k.early;
   late = asked_kept k.late;
   since = k.since;

@@ -5,3 +5,5 @@ pub mod Judged
 pub mod Counts
 pub mod Verdict
 pub mod Text
+pub mod Lags
+pub mod LagLaws

@@ -1,8 +1,8 @@
 -- What a cell was ordered to broadcast, by the rows of an orders file: the messages that it took, and how each of them
 -- ended. Own.
-use Rattle.std.specs.Prelude.{ℕ, ◌+◌, ◌==◌, ◌&&◌, ◌||◌, nat_le, Bool, true, false, if◌then◌else◌, is_none, is_some}
-use Rattle.std.specs.Prelude.{Option, Some, None, List, [], ◌∷◌, ◌++◌, find, option_and_then, option_map, take, drop}
-use Rattle.std.specs.List.{flat_map, list_any, range_with_len, slice_get}
+use Rattle.std.specs.Prelude.{ℕ, ◌+◌, ◌==◌, ◌&&◌, ◌||◌, nat_le, Bool, true, false, if◌then◌else◌, is_none}
+use Rattle.std.specs.Prelude.{Option, Some, None, List, [], ◌∷◌, ◌++◌, find, length, option_and_then, option_map}
+use Rattle.std.specs.List.{list_any}
 use Rattle.cbs_page.specs.declared.content.Content.{Content}
 use Rattle.cell_orders.specs.declared.row.CellAnswer.{CellAnswer}
 use Rattle.cell_orders.specs.declared.row.CellOrder.{CellOrder}
@@ -59,11 +59,12 @@ row_slot at = if nat_le at latest_slot then at else latest_slot
 abbrev pub tape_stop : (slot : ℕ) → Option ℕ
 tape_stop slot = if nat_le slot 65535 then Some slot else None
 
--- a message that the cell took: what it was asked from the slot of its answer on, and what it was asked with all slots
--- later by a delay; the slot from which pages of its name are its own, and the one from which they are those of a later
--- message of that name, if there is one; and the slot of the answer that ended it, and the number of broadcasts that
--- this says
+-- a message that the cell took: the number of its row, from 1; what it was asked from the slot of its answer on, and
+-- what it was asked with all slots later by a delay; the slot from which pages of its name are its own, and the one
+-- from which they are those of a later message of that name, if there is one; and the slot of the answer that ended it,
+-- and the number of broadcasts that this says
 pub record OrderedMessage : Type 0 where
+  pub row : ℕ
   pub early : AskedMessage
   pub late : AskedMessage
   pub since : ℕ
@@ -104,6 +105,7 @@ abbrev pub ordered_by : (delay at : ℕ) → CellOrder → (before later : List 
 ordered_by delay at (rows.Write id new_serial old_serial category period broadcasts dcs contents answer) before later =
     if is_answered_ok answer then
     record {
+      row = length before + 1;
       early = asked_from_slot id new_serial dcs.0 contents at category period broadcasts None;
       late = asked_from_slot id new_serial dcs.0 contents (at + delay) category period broadcasts
           (option_and_then (λ (slot : ℕ). tape_stop (slot + delay)) (slot_among (ends_row id new_serial) later));

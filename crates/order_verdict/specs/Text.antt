@@ -1,5 +1,5 @@
 -- The table of differences, as CSV. Own.
-use Rattle.std.specs.Prelude.{ℕ, List, [], ◌∷◌, ◌++◌, codes}
+use Rattle.std.specs.Prelude.{ℕ, List, ◌++◌, codes}
 use Rattle.std.specs.Fmt.{decimal}
 use Rattle.std.specs.List.{flat_map}
 use Rattle.cbsp_wire.specs.declared.message.Cell.{Cell}
@@ -23,7 +23,7 @@ difference_line cell d =
     ++ (serial_text d.serial ++ (codes "," ++ (decimal d.slot ++ (codes "," ++ (order_kind_text d.kind
     ++ codes "\n"))))))))))
 
--- the table of differences, and that of a cell without a tape
+-- the table of differences, that of a cell without a tape, and that of one whose tape has another number of slots
 abbrev pub differences_text : Cell → List OrderDifference → List ℕ
 differences_text cell found = header_text ++ flat_map (difference_line cell) found
 
@@ -32,3 +32,9 @@ no_tape_line cell = decimal cell.lac ++ (codes "," ++ (decimal cell.ci ++ codes 
 
 abbrev pub no_tape_text : Cell → List ℕ
 no_tape_text cell = header_text ++ no_tape_line cell
+
+abbrev pub other_slots_line : Cell → List ℕ
+other_slots_line cell = decimal cell.lac ++ (codes "," ++ (decimal cell.ci ++ codes ",,,,other slots\n"))
+
+abbrev pub other_slots_text : Cell → List ℕ
+other_slots_text cell = header_text ++ other_slots_line cell

@@ -20,6 +20,8 @@ const LATEST_SLOT: u32 = 0x7FFF_FFFF;
 /// A message that a cell took.
 #[derive(Clone, Copy)]
 pub struct Ordered<'a> {
+    /// The number of its row, from 1.
+    pub row: usize,
     /// What it was asked, from the slot of its answer on.
     pub early: Asked<'a>,
     /// What it was asked, with all slots later by a delay.
@@ -256,6 +258,7 @@ impl<'a> Ordered<'a> {
                 let end = first_end(*id, *new_serial, later);
                 let ended = slot_of_row(end);
                 Some(Ordered {
+                    row: before.len() + 1,
                     early,
                     late: Asked {
                         start: at + u32::from(delay),

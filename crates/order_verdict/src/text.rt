@@ -2,7 +2,7 @@
 
 ghost use Rattle.std.specs.Prelude.{◌≡◌, IfOk, string_bytes};
 ghost use Rattle.order_verdict.specs.Text.{difference_line, differences_text, no_tape_line, no_tape_text};
-ghost use Rattle.order_verdict.specs.Text.{order_kind_text};
+ghost use Rattle.order_verdict.specs.Text.{order_kind_text, other_slots_line, other_slots_text};
 
 use crate::difference::{OrderDifference, OrderKind};
 use cbsp_wire::Cell;
@@ -82,5 +82,26 @@ pub fn no_tape_text(alloc: Global, cell: Cell) -> Result<String, AllocError>
 {
     let mut text = String::from_str(alloc, HEADER)?;
     text.push_str(&no_tape_line(alloc, cell)?)?;
+    Ok(text)
+}
+
+/// The line of a cell whose tape has another number of slots.
+fn other_slots_line(alloc: Global, cell: Cell) -> Result<String, AllocError>
+    ensures { IfOk result (λ text. string_bytes text ≡ other_slots_line cell) }
+{
+    let (lac, ci) = (cell.lac, cell.ci);
+    format!(in alloc; "{lac},{ci},,,,other slots\n")
+}
+
+/// The table of a cell whose tape has another number of slots than is asked for: it has a line that says so.
+///
+/// # Errors
+///
+/// Out of memory.
+pub fn other_slots_text(alloc: Global, cell: Cell) -> Result<String, AllocError>
+    ensures { IfOk result (λ text. string_bytes text ≡ other_slots_text cell) }
+{
+    let mut text = String::from_str(alloc, HEADER)?;
+    text.push_str(&other_slots_line(alloc, cell)?)?;
     Ok(text)
 }

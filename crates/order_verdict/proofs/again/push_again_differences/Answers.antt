@@ -1,4 +1,4 @@
-use Rattle.std.proofs.Common.{◌≡◌, ◌+◌, ◌-◌, ◌++◌, List, ℕ, arith}
+use Rattle.std.proofs.Common.{◌+◌, ◌-◌, ◌++◌, List, ℕ, arith}
 use Rattle.std.specs.List.{flat_map, range_with_len}
 use Rattle.order_verdict.specs.Verdict.{again_difference}
 use Rattle.order_verdict.specs.declared.difference.OrderDifference.{OrderDifference}

@@ -1,4 +1,4 @@
-use Rattle.std.proofs.Common.{◌≡◌, ◌+◌, ◌-◌, ◌∙◌, ℕ, ap, arith, sym}
+use Rattle.std.proofs.Common.{◌+◌, ◌-◌, ◌∙◌, ℕ, ap, arith, sym}
 use Rattle.std.specs.Prelude.{fold, min}
 use Rattle.std.specs.List.{range_with_len}
 use Rattle.order_verdict.specs.Counts.{times_by}

@@ -1,4 +1,4 @@
-use Rattle.std.proofs.Common.{◌≡◌, ◌+◌, ◌-◌, ◌++◌, [], ap, arith, List, ℕ}
+use Rattle.std.proofs.Common.{◌+◌, ◌-◌, ◌++◌, arith, List, ℕ}
 use Rattle.std.specs.List.{flat_map, range_with_len}
 use Rattle.verification.specs.declared.difference.Difference.{Difference}
 use Rattle.verification.specs.declared.difference.Kind.TheVariants as kinds
