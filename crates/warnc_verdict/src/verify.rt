@@ -1,7 +1,7 @@
 //! The command `verify --orders`: an orders file and tapes to their differences.
 
-ghost use Rattle.std.specs.Prelude.{◌≡◌, ◌↔◌, ◌+◌, ◌≤◌, List, ℕ, false, true, find, length, string_bytes, IfErr, IfOk};
-ghost use Rattle.std.specs.Prelude.{IfSome, IsErrOf, IsTrue, None, OnErr, OnOk, Some, if◌then◌else◌};
+ghost use Rattle.std.specs.Prelude.{◌≡◌, ◌↔◌, ◌+◌, ◌≤◌, List, ℕ, [], false, true, find, length, string_bytes, IfErr};
+ghost use Rattle.std.specs.Prelude.{IfOk, IfSome, IsErrOf, IsTrue, None, OnErr, OnOk, Some, if◌then◌else◌};
 ghost use Rattle.std.specs.Option.{option_or};
 ghost use Rattle.std.specs.Io.KnownBytes.{Appends, IsAtEnd};
 ghost use Rattle.cbsp_wire.specs.Range.{is_cell};
@@ -13,15 +13,17 @@ ghost use Rattle.verification.specs.Rows.{is_tape_of};
 ghost use Rattle.warnc_verdict.specs.OrdersSteps.{HasNoTable, IsRowsOrFault, IsTableFault, fault_of_file};
 ghost use Rattle.warnc_verdict.specs.OrdersVerified.{HasOrders, HasWrittenTable, IsOfOrders, IsOrderDifference};
 ghost use Rattle.warnc_verdict.specs.OrdersVerified.{IsVerdictBy, IsVerifyOrdersFault, JudgesAndWrites, JudgesOrders};
-ghost use Rattle.warnc_verdict.specs.OrdersVerified.{readers_of};
+ghost use Rattle.warnc_verdict.specs.OrdersVerified.{HasLags, TellsLags, WritesUnlessFailed};
+ghost use Rattle.warnc_verdict.specs.OrdersVerified.{has_other_slots, lags_of, readers_of};
 ghost use Rattle.warnc_verdict.specs.declared.fault.VerifyOrdersFault.TheVariants as faults;
 
 use crate::fault::VerifyOrdersFault;
+use crate::terms::VerdictTerms;
 use cbsp_wire::Cell;
 use cell_orders::OrderRow;
 use device_ends::{Failed, ReadFault, Sink, Source, read_up_to, write_all};
 use handset::{Recording, TakesRecordings, record_each};
-use order_verdict::{differences_text, no_tape_text, verdict_of};
+use order_verdict::{differences_text, lags_text, no_tape_text, other_slots_text, verdict_of};
 use orders_file::{MAX_ORDERS_FILE, OrdersFileFault, OrdersFileFaultKind, read_rows};
 use std::alloc::{AllocError, Global};
 use std::io::{Read, Write};
@@ -63,36 +65,64 @@ fn first_of(cell: Cell, kept: Option<Recording>, other: Recording) -> Option<Rec
     }
 }
 
-/// The differences of a cell's tape from orders, and their table.
+/// The differences of a cell's tape from orders, and their table; and what is told of how late messages come.
 #[derive(Drop)]
 struct OrdersTable {
     count: usize,
     text: String,
+    lags: String,
+}
+
+impl OrdersTable {
+    /// The table of a tape that isn't judged, which is a row that says why.
+    fn unjudged(alloc: Global, text: String) -> OrdersTable
+        ensures one { result.count ≡ 1 }
+        ensures text { result.text ≡ text }
+        ensures nothing { string_bytes result.lags ≡ [] }
+    {
+        OrdersTable {
+            count: 1,
+            text,
+            lags: String::new(alloc),
+        }
+    }
 }
 
 /// Reads an orders file and tapes up to their ends, and writes a row for each difference between what a cell was
 /// ordered and answered and what its first tape sends (`AreOrderDifferences`), whose pages have one to four blocks; or
-/// a row that there is no tape of the cell. What was ordered is judged `delay` slots later than its answer came.
-/// Nothing is written before all is known.
+/// a row that there is no tape of the cell, or that it has another number of slots than the terms ask for. What was
+/// ordered is judged later than its answer came by the delay of the terms. Nothing is written before all is known.
+///
+/// If the terms ask for it, it is then told to `notes` how late each message comes and ends
+/// ([`lags_text`](order_verdict::lags_text)), unless there is no tape or one of another number of slots. What `notes`
+/// doesn't take changes no result.
 ///
 /// # Errors
 ///
 /// [`VerifyOrdersFault::Differences`] if there is one row or more: the table is written then, as is the line of the
 /// columns' names alone if there is none. With any other fault nothing is written, but after
-/// [`VerifyOrdersFault::WriteFailed`] a front of the table may be out.
-pub fn verify_orders_stream<B: Read, R: Read, W: Write>(
+/// [`VerifyOrdersFault::WriteFailed`] a front of the table may be out. Nothing is told with any other fault.
+pub fn verify_orders_stream<B: Read, R: Read, W: Write, N: Write>(
     alloc: Global,
     orders: &mut Source<B>,
     tapes: &mut Source<R>,
     sink: &mut Sink<W>,
+    notes: &mut Sink<N>,
     cell: Cell,
-    delay: u16,
+    terms: VerdictTerms,
 ) -> Result<(), VerifyOrdersFault>
-    ensures ok { OnOk result (Writes W.contents (λ old new. JudgesAndWrites cell delay
+    ensures ok { OnOk result (Writes W.contents (λ old new. JudgesAndWrites cell terms
         (readers_of B.remaining R.remaining orders.old orders.new tapes.old tapes.new) old new 0) sink.old sink.new) }
-    ensures err { IfErr result (λ fault. Writes W.contents (λ old new. IsVerifyOrdersFault cell delay
+    ensures err { IfErr result (λ fault. Writes W.contents (λ old new. IsVerifyOrdersFault cell terms
         (readers_of B.remaining R.remaining orders.old orders.new tapes.old tapes.new) old new fault)
         sink.old sink.new) }
+    ensures lags { OnOk result (Writes N.contents (λ old new. TellsLags cell terms
+        (readers_of B.remaining R.remaining orders.old orders.new tapes.old tapes.new) (sink_failed notes.new) old new)
+        notes.old notes.new) }
+    ensures lags_of_differences { IfErr result (λ fault. IsOrderDifference fault → Writes N.contents
+        (λ old new. TellsLags cell terms
+        (readers_of B.remaining R.remaining orders.old orders.new tapes.old tapes.new) (sink_failed notes.new) old new)
+        notes.old notes.new) }
 
     // At any readers and any writer: which end failed is reported, the orders' first, and what failed before is as it
     // was. The tapes aren't touched if there are no orders.
@@ -110,9 +140,13 @@ pub fn verify_orders_stream<B: Read, R: Read, W: Write>(
     ensures orders_stay { source_failed orders.old ≡ true → orders.new ≡ orders.old }
     ensures tapes_stay { source_failed tapes.old ≡ true → tapes.new ≡ tapes.old }
     ensures sink_stays { sink_failed sink.old ≡ true → sink.new ≡ sink.old }
+    ensures nothing_asked { terms.lags ≡ false → notes.new ≡ notes.old }
+    ensures nothing_told { IfErr result (λ fault. (IsOrderDifference fault → ⊥) → notes.new ≡ notes.old) }
+    ensures notes_stay { sink_failed notes.old ≡ true → notes.new ≡ notes.old }
 {
-    let table = table_of(alloc, orders, tapes, cell, delay)?;
+    let table = table_of(alloc, orders, tapes, cell, terms)?;
     write_table(sink, &table.text)?;
+    tell_lags(notes, &table.lags);
     match table.count {
         0 => Ok(()),
         count => Err(VerifyOrdersFault::Differences(count)),
@@ -125,11 +159,14 @@ fn table_of<B: Read, R: Read>(
     orders: &mut Source<B>,
     tapes: &mut Source<R>,
     cell: Cell,
-    delay: u16,
+    terms: VerdictTerms,
 ) -> Result<OrdersTable, VerifyOrdersFault>
-    ensures ok { IfOk result (λ table. JudgesOrders cell delay
+    ensures ok { IfOk result (λ table. JudgesOrders cell terms
         (readers_of B.remaining R.remaining orders.old orders.new tapes.old tapes.new) table.count
         (string_bytes table.text)) }
+    ensures lags { IfOk result (λ table. HasLags cell terms
+        (readers_of B.remaining R.remaining orders.old orders.new tapes.old tapes.new) (string_bytes table.lags)) }
+    ensures nothing_asked { IfOk result (λ table. terms.lags ≡ false → string_bytes table.lags ≡ []) }
     ensures err { IfErr result (HasNoTable
         (readers_of B.remaining R.remaining orders.old orders.new tapes.old tapes.new)) }
     ensures orders_failed { IsErrOf result faults.Unread ↔ IsTrue (source_failed orders.new) }
@@ -144,7 +181,7 @@ fn table_of<B: Read, R: Read>(
     let rows = rows_of(alloc, orders)?;
     let mut taker = CellTape { cell, tape: None };
     record_each(alloc, tapes, &mut taker)?;
-    let table = table_by(alloc, cell, delay, &rows, &taker.tape)?;
+    let table = table_by(alloc, cell, terms, &rows, &taker.tape)?;
     Ok(table)
 }
 
@@ -187,29 +224,59 @@ fn fault_of_file(fault: OrdersFileFault) -> VerifyOrdersFault
 fn table_by(
     alloc: Global,
     cell: Cell,
-    delay: u16,
+    terms: VerdictTerms,
     rows: &[OrderRow],
     tape: &Option<Recording>,
 ) -> Result<OrdersTable, AllocError>
-    ensures { IfOk result (λ table. IsVerdictBy cell delay rows.now tape.now table.count (string_bytes table.text)) }
+    ensures verdict { IfOk result (λ table. IsVerdictBy cell terms rows.now tape.now table.count
+        (string_bytes table.text)) }
+    ensures lags { IfOk result (λ table. string_bytes table.lags ≡ lags_of terms rows.now tape.now) }
 {
     match tape {
-        None => Ok(OrdersTable {
-            count: 1,
-            text: no_tape_text(alloc, cell)?,
-        }),
-        Some(tape) => {
-            // No tape has more slots.
-            let Ok(slots) = u16::try_from(tape.slots()) else {
-                return Err(AllocError);
-            };
-            let found = verdict_of(alloc, slots, delay, rows, tape.blocks())?;
-            Ok(OrdersTable {
-                count: found.len(),
-                text: differences_text(alloc, cell, &found)?,
-            })
-        }
+        None => Ok(OrdersTable::unjudged(alloc, no_tape_text(alloc, cell)?)),
+        Some(tape) => table_of_tape(alloc, cell, terms, rows, tape),
     }
+}
+
+/// Whether a tape has another number of slots than is asked for.
+fn has_other_slots(wanted: Option<u16>, slots: u16) -> bool
+    ensures { result ≡ has_other_slots wanted slots }
+{
+    match wanted {
+        Some(wanted) => slots != wanted,
+        None => false,
+    }
+}
+
+/// The table of the differences of a tape from rows, or that it has another number of slots than is asked for.
+fn table_of_tape(
+    alloc: Global,
+    cell: Cell,
+    terms: VerdictTerms,
+    rows: &[OrderRow],
+    tape: &Recording,
+) -> Result<OrdersTable, AllocError>
+    ensures verdict { IfOk result (λ table. IsVerdictBy cell terms rows.now (Some tape.now) table.count
+        (string_bytes table.text)) }
+    ensures lags { IfOk result (λ table. string_bytes table.lags ≡ lags_of terms rows.now (Some tape.now)) }
+{
+    // No tape has more slots.
+    let Ok(slots) = u16::try_from(tape.slots()) else {
+        return Err(AllocError);
+    };
+    if has_other_slots(terms.slots, slots) {
+        return Ok(OrdersTable::unjudged(alloc, other_slots_text(alloc, cell)?));
+    }
+    let found = verdict_of(alloc, slots, terms.delay, rows, tape.blocks())?;
+    Ok(OrdersTable {
+        count: found.len(),
+        text: differences_text(alloc, cell, &found)?,
+        lags: if terms.lags {
+            lags_text(alloc, rows, tape.blocks())?
+        } else {
+            String::new(alloc)
+        },
+    })
 }
 
 /// Writes a table.
@@ -225,4 +292,17 @@ fn write_table<W: Write>(sink: &mut Sink<W>, text: &str) -> Result<(), VerifyOrd
         Ok(()) => Ok(()),
         Err(Failed) => Err(VerifyOrdersFault::WriteFailed),
     }
+}
+
+/// Tells how late messages come, if there is anything to tell. What the writer doesn't take changes nothing.
+fn tell_lags<N: Write>(notes: &mut Sink<N>, text: &str)
+    ensures told { Writes N.contents (λ old new. WritesUnlessFailed (sink_failed notes.new) old new text.now)
+        notes.old notes.new }
+    ensures nothing { text.now ≡ [] → notes.new ≡ notes.old }
+    ensures stays { sink_failed notes.old ≡ true → notes.new ≡ notes.old }
+{
+    if text.is_empty() {
+        return;
+    }
+    let _ = write_all(notes, text.as_bytes());
 }
