@@ -18,7 +18,12 @@ const loadAt = (group, slot) => (group.loads.findLast(([from]) => from <= slot) 
 const fullestText = ({ fullest: [slot, load] }, key = "fullest") => say(key, percent(load), timeText(slot));
 
 // Of a message: the slots after which a broadcast is whole, by the chart or by its cell's tape, and what is said of it.
-const marksOf = (message) => message.slots ??= Array.from(message.marks.matchAll(/M(\d+)/g), ([, slot]) => +slot);
+// The chart's line of marks goes along by so many slots to each of them.
+function slotsOn(path) {
+    let slot = 0;
+    return Array.from(path.matchAll(/h(\d+)/g), ([, along]) => (slot += +along));
+}
+const marksOf = (message) => message.slots ??= slotsOn(message.marks);
 const nameOf = (message) => message.name || `${message.id} ${message.serial}`;
 const kindOf = (message) => `${message.id} · ${nameOfId(message.id)}`;
 const urgencyOf = (message) => say(`category${["high", "background", "normal"].indexOf(message.category)}`);

@@ -17,8 +17,8 @@ bars, marks and loads of the run that are in it, which are put together of parts
 message has marks, or their number, by the rule of docs/formats.md. A third of the charts has the times of the day, by
 `--start`, and ticks at round ones of these. The page in German has to have the same elements and
 numbers, the German words that the page for browsers has, and none of the English ones. What titles say that identifiers
-mean has to be what Wireshark says, where it is installed. Contrasts have to be as chart_contrast.py asks, and the chart
-of a book of 64 cells has to have three million octets at most.
+mean has to be what Wireshark says, where it is installed. Contrasts have to be as chart_contrast.py asks, and the
+charts of ten books of 64 cells have to have three million octets at most, in a run of 4,096 slots and in the longest.
 """
 import csv
 import datetime
@@ -91,8 +91,8 @@ SLOTS_LONG = 1000
 BROWSED = 10
 # widths of windows in pixels
 WIDTHS = (320, 400, 1280)
-# the most octets of the chart of the typical book of bench/, of 64 cells
-MOST_OCTETS = 3_000_000
+# the most octets of the charts of the typical books of bench/, of 64 cells each, and the seeds of these
+MOST_OCTETS, SEEDS = 3_000_000, range(10)
 # so many pixels are below the last line of a picture
 MARGIN = 2
 # the pictures of docs/: the width of the window (A4 has 794 pixels), the last line, by night, and the medium
@@ -351,8 +351,11 @@ def expected(rows, shown, asked, slots, time_of):
 
 
 def marks_in(line):
-    """Returns the slots of a message's marks."""
-    return [int(it) for it in re.findall(r"M(\d+) 0v10", line["whole"])]
+    """Returns the slots of a message's marks, which are strokes down and up of one line: it goes along to each of them,
+    from slot 0 on. Of another line there are none."""
+    if not re.fullmatch(r"M0 0(h\d+V9h\d+V0)*(h\d+V9)?", line["whole"]):
+        return []
+    return list(itertools.accumulate(int(it) for it in re.findall(r"h(\d+)", line["whole"])))
 
 
 def broadcasts_of(line):
@@ -666,10 +669,12 @@ def take_pictures(program, folder):
 
 
 def too_large(program):
-    """Yields whether the chart of the typical book has more octets than it may have."""
-    chart = chart_contrast.chart_of(program, inputs.made("typical"), inputs.SLOTS)
-    if len(chart) > MOST_OCTETS:
-        yield f"the chart of the typical book of bench/inputs.py has {len(chart)} octets, over {MOST_OCTETS}"
+    """Yields which charts of the typical books have more octets than they may have."""
+    for seed, slots in itertools.product(SEEDS, (inputs.SLOTS, inputs.MOST_SLOTS)):
+        chart = chart_contrast.chart_of(program, inputs.made("typical", seed), slots)
+        if len(chart) > MOST_OCTETS:
+            yield (f"the chart of `bench/inputs.py typical {seed}` in {slots} slots has {len(chart)} octets, "
+                   f"over {MOST_OCTETS}")
 
 
 def main(words):

@@ -44,7 +44,8 @@ BARS = """
 return [...document.querySelectorAll("svg rect")].map((rect) => {
     const svg = rect.ownerSVGElement, lane = svg.getBoundingClientRect(), bar = rect.getBoundingClientRect();
     const left = Math.round(lane.left), { x, width } = svg.viewBox.baseVal, path = svg.querySelector(".whole");
-    const slots = path?.getAttribute("d").match(/\\d+(?= 0v10)/g) ?? [];
+    let slot = 0;
+    const slots = (path?.getAttribute("d").match(/h\\d+/g) ?? []).map((it) => slot += +it.slice(1));
     return { name: svg.parentNode.querySelector("b").textContent, step: rect.className.baseVal,
         row: Math.round(lane.top) + Math.floor(0.8 * lane.height), lane: [left, left + Math.floor(lane.width)],
         bar: [left + bar.left - lane.left, left + bar.right - lane.left],

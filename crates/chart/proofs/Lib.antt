@@ -8,4 +8,5 @@ mod MarkLaws
 mod RangeLaws
 mod SectionLaws
 pub mod SomeChart
+mod StrokeLaws
 mod Worked

@@ -1,16 +1,19 @@
 -- What the marks, the loads, the fullest slots, the sections and the axis of a chart promise (own).
 use Rattle.std.specs.Prelude.{◌≡◌, ◌↔◌, ◌&&◌, ℕ, ◌+◌, ◌-◌, ◌*◌, ◌<◌, ◌≤◌, Bool, true, All, if◌then◌else◌, nat_le}
-use Rattle.std.specs.Prelude.{Option, None, Some}
+use Rattle.std.specs.Prelude.{List, [], ◌∷◌, length, map, not, Option, None, Some, ⊤}
 use Rattle.admission.specs.declared.measure.TheConstants.{SCALE}
+use Rattle.scheduler.specs.Air.{Air}
 use Rattle.scheduler.specs.Completed.{completed}
+use Rattle.scheduler.specs.Message.{ScheduledMessage}
 use Rattle.bsc_table.specs.Claim.{claimed_at}
 use Rattle.bsc_table.specs.Legal.{IsLegal}
 use Rattle.bsc_table.specs.Record.{Accepted, Record, accepted_in, claims_in}
 use Rattle.chart.specs.Facts.{fullest_in, hundredths}
 use Rattle.chart.specs.Load.{height_of}
-use Rattle.chart.specs.Message.{number_instead, number_of_marks}
+use Rattle.chart.specs.Message.{number_instead, number_of_marks, strokes_of, whole_slots}
 use Rattle.chart.specs.Panels.{is_like}
 use Rattle.chart.specs.declared.fullest.Fullest.{Fullest}
+use Rattle.chart.specs.declared.message.Stroke.{Stroke}
 use Rattle.chart.specs.declared.panel.Panel.{Panel}
 use Rattle.chart.specs.declared.load.TheConstants.{LOAD_HEIGHT, LOAD_STEP}
 use Rattle.chart.specs.declared.time.TheConstants.{MOST_TICKS}
@@ -46,6 +49,27 @@ MarksOfPartsAreCompleted = (r : Record) (part : Part)
     → r.clock ≡ r.slots
     → All (λ a. let s = stretch_of (Some part) r.slots in
     AreDrawn r s a (completed a.message r.air s.to - completed a.message r.air s.from)) (accepted_in r.log)
+
+-- where the strokes of a line stand that has come to a place: each goes along from where the one before stands
+abbrev pub places_along : (place : ℕ) → List Stroke → List ℕ
+places_along place [] = []
+places_along place (stroke ∷ strokes) = (place + stroke.along) ∷ places_along (place + stroke.along) strokes
+
+-- each crosses the picture, the first downwards or upwards, and each of the others back from where the one before ended
+abbrev pub Cross : (is_down : Bool) → List Stroke → Type 0
+Cross is_down [] = ⊤
+Cross is_down (stroke ∷ strokes) = (stroke.is_down ≡ is_down) × Cross (not is_down) strokes
+
+-- the line of a message's marks, from slot 0 on and from over the picture, has one stroke for each slot that makes a
+-- broadcast of it whole, at its end and in the order of the slots, and each crosses the picture
+pub record AreMarks (s : Stretch) (slots : ℕ) (air : Air) (m : ScheduledMessage) (strokes : List Stroke) : Type 0 where
+  pub places : places_along 0 strokes ≡ map (λ slot. slot + 1) (whole_slots s slots air m)
+  pub cross : Cross true strokes
+  pub number : length strokes ≡ number_of_marks s slots air m
+
+abbrev pub StrokesAreMarks : Type 0
+StrokesAreMarks = (s : Stretch) (slots : ℕ) (air : Air) (m : ScheduledMessage)
+    → AreMarks s slots air m (strokes_of s slots air m)
 
 -- a full cell is as high as the picture in steps, is drawn at its top, an empty one at its bottom, and more never lower
 -- than less

@@ -1,7 +1,7 @@
 -- What is drawn of an accepted message beside its row (own).
 use Rattle.std.specs.Prelude.{ℕ, ◌+◌, ◌-◌, ◌==◌, ◌&&◌, if◌then◌else◌, max, min, Option}
-use Rattle.std.specs.Prelude.{Some, None, List, [], ◌++◌, find}
-use Rattle.std.specs.Prelude.{Bool, false, ◌*◌, count_by, encode_utf8_all, nat_le, nat_lt, slice_get}
+use Rattle.std.specs.Prelude.{Some, None, List, [], ◌∷◌, ◌++◌, filter, find}
+use Rattle.std.specs.Prelude.{Bool, false, not, true, ◌*◌, count_by, encode_utf8_all, nat_le, nat_lt, slice_get}
 use Rattle.std.specs.Fmt.{decimal}
 use Rattle.std.specs.List.{flat_map, range_with_len}
 use Rattle.std.specs.Option.{option_map_or, unwrap_or}
@@ -26,8 +26,9 @@ use Rattle.chart.specs.View.{holds, width_of}
 use Rattle.chart.specs.declared.word.Language.{Language}
 use Rattle.chart.specs.declared.word.Word.TheVariants as words
 use Rattle.chart.specs.Words.{word_in}
-use Rattle.chart.specs.declared.message.TheConstants.{MARK, MARK_END, MARKS, MARKS_END}
-use Rattle.chart.specs.declared.message.TheConstants.{FIRST_END, LEAST_GAP, MOST_MARKS, PAGE_WIDTH}
+use Rattle.chart.specs.declared.message.Stroke.{Stroke}
+use Rattle.chart.specs.declared.message.TheConstants.{ALONG, DOWN, MARKS, MARKS_END, UP}
+use Rattle.chart.specs.declared.message.TheConstants.{FIRST, FIRST_END, LEAST_GAP, MOST_MARKS, PAGE_WIDTH}
 use Rattle.chart.specs.declared.message.TheConstants.{EVERY_15_S, EVERY_30_S, EVERY_MINUTE, EVERY_2_MINUTES, RARER}
 
 -- the text that a handset shows of a message of this identifier and serial number, if it shows one
@@ -68,10 +69,6 @@ end_within slots m = min (unwrap_or (end_of m) slots) slots
 abbrev pub is_marked : Air → ScheduledMessage → (slot : ℕ) → Bool
 is_marked air m slot = option_map_or (airs_page m.entry m.pages) (slice_get air slot) false
 
--- the mark after such a slot
-abbrev pub mark_at : Air → ScheduledMessage → (slot : ℕ) → List ℕ
-mark_at air m slot = if is_marked air m slot then MARK.now ++ decimal (slot + 1) ++ MARK_END.now else []
-
 -- the slots of its reservation that are drawn
 abbrev pub marked_from : Stretch → ScheduledMessage → ℕ
 marked_from s m = max m.start s.from
@@ -82,9 +79,30 @@ marked_to s slots m = min (end_within slots m) s.to
 abbrev pub marked_slots : Stretch → (slots : ℕ) → ScheduledMessage → List ℕ
 marked_slots s slots m = range_with_len (marked_from s m) (marked_to s slots m - marked_from s m)
 
+-- those of them that make a broadcast whole
+abbrev pub whole_slots : Stretch → (slots : ℕ) → Air → ScheduledMessage → List ℕ
+whole_slots s slots air m = filter (is_marked air m) (marked_slots s slots m)
+
+-- The marks are strokes of one line, which begins at slot 0 over the picture. It goes along over or under it, where it
+-- isn't seen, to the end of each of these slots, and there across the picture.
+
+-- the strokes at the ends of slots, where the line has come to a place, over the picture or under it, so that the first
+-- of them goes down or up
+abbrev pub strokes_from : (place : ℕ) → (is_down : Bool) → List ℕ → List Stroke
+strokes_from place is_down [] = []
+strokes_from place is_down (slot ∷ slots) =
+    record { along = slot + 1 - place; is_down = is_down } ∷ strokes_from (slot + 1) (not is_down) slots
+
+abbrev pub strokes_of : Stretch → (slots : ℕ) → Air → ScheduledMessage → List Stroke
+strokes_of s slots air m = strokes_from 0 true (whole_slots s slots air m)
+
+-- a stroke of the line
+unfoldable pub stroke_text : Stroke → List ℕ
+stroke_text stroke = ALONG.now ++ decimal stroke.along ++ (if stroke.is_down then DOWN.now else UP.now)
+
 abbrev pub marks_of : Stretch → (slots : ℕ) → Air → Option Accepted → List ℕ
 marks_of s slots air None = []
-marks_of s slots air (Some a) = flat_map (mark_at air a.message) (marked_slots s slots a.message)
+marks_of s slots air (Some a) = flat_map stroke_text (strokes_of s slots air a.message)
 
 -- how many marks a message has at the slots that are drawn, which is how many of its broadcasts are whole there
 abbrev pub number_of_marks : Stretch → (slots : ℕ) → Air → ScheduledMessage → ℕ
@@ -118,7 +136,7 @@ drawn_marks (Some number) marks = []
 
 -- the mark where a phone shows a message first: at the end of the slot after whose blocks it does
 unfoldable pub first_mark_after : (slot : ℕ) → List ℕ
-first_mark_after slot = MARK.now ++ decimal (slot + 1) ++ FIRST_END.now
+first_mark_after slot = FIRST.now ++ decimal (slot + 1) ++ FIRST_END.now
 
 abbrev pub first_mark : Stretch → (first : Option ℕ) → List ℕ
 first_mark s None = []

@@ -70,7 +70,8 @@ nav .loads{border-top-width:1px;height:1.4em}
 .f3{background:var(--f3);fill:var(--f3)}
 .f4{background:var(--f4);fill:var(--f4)}
 .f5{background:var(--f5);fill:var(--f5)}
-.whole{shape-rendering:crispEdges;stroke:var(--mark);stroke-width:1px;transform:translateY(5px)}
+.whole{clip-path:inset(50% -999px 0)fill-box;fill:none;shape-rendering:crispEdges;stroke:var(--mark);stroke-width:1px}
+.whole{transform:translateY(-1px)scaleY(calc(4/3))}
 :is(.f3,.f4,.f5)~.whole{stroke:var(--pale)}
 :is(.f4,.f5)~.whole{stroke-opacity:.8}
 .pace b{display:inline-block;height:.8em;margin:0 .3em 0 .6em;width:1.6em}

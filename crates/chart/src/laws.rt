@@ -2,8 +2,7 @@
 
 ghost use Rattle.chart.specs.Escape.{EscapedIsPlain};
 ghost use Rattle.chart.specs.Laws.{FullestHasMost, HeightsAreOfLoads, LikeAreTheSame, MarksAreCompleted};
-ghost use Rattle.chart.specs.Laws.{MarksOfPartsAreCompleted};
-ghost use Rattle.chart.specs.Laws.{TicksReachTheEnd};
+ghost use Rattle.chart.specs.Laws.{MarksOfPartsAreCompleted, StrokesAreMarks, TicksReachTheEnd};
 
 /// States, as its contract, what texts, marks, loads, sections and axes are in a page, and where a cell is fullest.
 /// Does nothing: its body names the laws that carry it.
@@ -17,6 +16,10 @@ pub fn chart_laws()
 
     // In a part of the run the same goes for those that were completed in that.
     ensures parts { MarksOfPartsAreCompleted }
+
+    // The line that is drawn of a message's marks crosses the picture once after each of the slots that make a
+    // broadcast of it whole, and nowhere else.
+    ensures strokes { StrokesAreMarks }
 
     // The picture of the loads is as high as a full cell, and in proportion.
     ensures heights { HeightsAreOfLoads }

@@ -11,9 +11,9 @@ ghost use Rattle.bsc_table.specs.Record.{rank_of};
 ghost use Rattle.handset.specs.Keeping.{messages_shown};
 ghost use Rattle.chart.specs.Kept.{accepted_kept};
 ghost use Rattle.chart.specs.Message.{are_apart, category_words, drawn_marks, first_mark, first_mark_after, has_marks};
-ghost use Rattle.chart.specs.Message.{is_every, is_marked, mark_at, marks_of, marks_path, number_instead};
-ghost use Rattle.chart.specs.Message.{number_of_marks, pace_text, period_of, rank_words, text_asked, text_asked_by};
-ghost use Rattle.chart.specs.Message.{text_of_contents, text_shown};
+ghost use Rattle.chart.specs.Message.{is_every, is_marked, marks_of, marks_path, number_instead};
+ghost use Rattle.chart.specs.Message.{number_of_marks, pace_text, period_of, rank_words, stroke_text, text_asked};
+ghost use Rattle.chart.specs.Message.{text_asked_by, text_of_contents, text_shown};
 ghost use Rattle.chart.specs.Words.{word_in};
 
 use crate::kept::KeptMessage;
@@ -27,17 +27,23 @@ use handset::Shown;
 use report::{Demand, Row};
 use std::alloc::{AllocError, Global};
 
-/// What comes before the slot of a mark.
-pub const MARK: &str = "M";
+/// What comes before the slot of the mark where a phone shows a message first.
+pub const FIRST: &str = "M";
 
-/// What comes after it: the mark is drawn downwards.
-pub const MARK_END: &str = " 0v10";
-
-/// What comes after the slot of the mark where a phone shows a message first: it is a short one.
+/// What comes after it: the mark is a short one.
 pub const FIRST_END: &str = " 0v6";
 
-/// What comes before the marks.
-pub const MARKS: &str = "<path class=\"whole\" d=\"";
+/// What comes before the marks, which are strokes of one line: it begins at slot 0, over the picture.
+pub const MARKS: &str = "<path class=\"whole\" d=\"M0 0";
+
+/// What comes before how far the line goes along to a stroke.
+pub const ALONG: &str = "h";
+
+/// A stroke down across the picture.
+pub const DOWN: &str = "V9";
+
+/// A stroke up across it.
+pub const UP: &str = "V0";
 
 /// What comes after them.
 pub const MARKS_END: &str = "\"/>\n";
@@ -175,23 +181,23 @@ fn is_marked(air: &[Option<Aired>], kept: &KeptMessage, slot: usize) -> bool
     is_last_page(air[slot], kept)
 }
 
-/// Appends the mark of a slot, if it has one.
-fn push_mark(
-    page: &mut Page,
-    air: &[Option<Aired>],
-    kept: &KeptMessage,
-    slot: usize,
-) -> Result<(), AllocError>
-    requires { slot < length air.now }
-    ensures { OnOk result (page.new ≡ page.old
-        ++ mark_at (air_pairs air.now) (accepted_kept kept.now).message slot) }
+/// A stroke of the line that a message's marks are.
+#[derive(Clone, Copy, Debug, PartialEq, Eq)]
+pub struct Stroke {
+    /// How far the line goes along to it, in slots.
+    pub along: usize,
+    /// Whether it crosses the picture downwards, or else upwards.
+    pub is_down: bool,
+}
+
+/// Appends a stroke.
+#[tactic(auto, unfolding(crate::specs::Message::stroke_text))]
+fn push_stroke(page: &mut Page, stroke: Stroke) -> Result<(), AllocError>
+    ensures { OnOk result (page.new ≡ page.old ++ stroke_text stroke) }
 {
-    if is_marked(air, kept, slot) {
-        page.markup(MARK)?;
-        page.number(slot as u64 + 1)?;
-        page.markup(MARK_END)?;
-    }
-    Ok(())
+    page.markup(ALONG)?;
+    page.number(stroke.along as u64)?;
+    page.markup(if stroke.is_down { DOWN } else { UP })
 }
 
 /// The period of a message in slots; 0 of none.
@@ -331,8 +337,16 @@ fn push_marks(
     };
     let from = (kept.start as usize).max(usize::from(stretch.from));
     let to = end_within(&kept, air.len()).min(usize::from(stretch.to));
+    let mut place = 0;
+    let mut is_down = true;
     for slot in from..to {
-        push_mark(page, air, &kept, slot)?;
+        if !is_marked(air, &kept, slot) {
+            continue;
+        }
+        let along = slot + 1 - place;
+        push_stroke(page, Stroke { along, is_down })?;
+        place = slot + 1;
+        is_down = !is_down;
     }
     Ok(())
 }
@@ -356,7 +370,7 @@ pub(crate) fn push_first_mark(
 fn push_first_mark_after(page: &mut Page, slot: u16) -> Result<(), AllocError>
     ensures { OnOk result (page.new ≡ page.old ++ first_mark_after slot) }
 {
-    page.markup(MARK)?;
+    page.markup(FIRST)?;
     page.number(u64::from(slot) + 1)?;
     page.markup(FIRST_END)
 }
