@@ -258,7 +258,9 @@ def in_words(option, others, needing):
 
 def words_of(name, options):
     """Returns the words of a command with these options: those that have to be given first."""
-    excluding = {name: it for it in options for name in it.excludes}
+    beside = {it.name for it in options if it.excludes}
+    # an option that can't be given beside one that stands beside another already has its own place
+    excluding = {name: it for it in options for name in it.excludes if name not in beside}
     hidden = {it.name for it in excluding.values()} | {it.name for it in options if it.needs}
     ordered = sorted((it for it in options if it.name not in hidden), key=lambda it: not it.is_required)
     return " ".join([name, *(in_words(it, [excluding[it.name]] if it.name in excluding else [],
@@ -272,8 +274,9 @@ def forms_of(command):
     yield words_of(command.name, [replace(it, is_required=it.is_required or bool(other and other.name in it.unless))
                                   for it in command.options if it not in beside])
     if other:
+        both = [it for it in command.options if other.name in it.unless and it.name not in other.instead]
         yield words_of(command.name, [replace(it, is_required=it is other or it.name in other.needs, needs=[])
-                                      for it in beside])
+                                      for it in beside + both])
 
 
 def usage(commands):

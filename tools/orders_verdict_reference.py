@@ -7,8 +7,8 @@ Usage: orders_verdict_reference.py PROGRAM [RUNS]    random orders files and tap
                                                      files with a fault. PROGRAM is a built `warnc`
        orders_verdict_reference.py --help            prints this
 
-Statuses, tables and the lines on standard error are compared. Each kind of difference has to come up, if there are 200
-runs or more.
+Statuses, tables and the lines on standard error are compared, with --slots and --lag in some runs. Each kind of
+difference has to come up, and each sign of a lag, if there are 200 runs or more.
 """
 import collections
 import random
@@ -25,11 +25,13 @@ PART, PAGE, MOST_PAGES = 22, 82, 15
 LATEST = (1 << 31) - 1
 IDLE = bytes([0x2F]) + bytes(22)
 HEADER = "lac,ci,id,serial,slot,difference\n"
+LAGS = "row,id,serial,at,first,stop,last\n"
 PLACES = ("page ", "before its start", "after its stop", "after its last broadcast", "not whole", "not ordered",
-          " again", "more than ordered", "answer ", "no answer")
+          " again", "more than ordered", "answer ", "no answer", "other slots", "no tape")
+SIGNS = ("early", "late", "no page", "stopped early", "stopped late")
 Page = collections.namedtuple("Page", "slot name dcs number total content")
 Order = collections.namedtuple("Order", "kind at name old category period broadcasts dcs pages answer done")
-Message = collections.namedtuple("Message", "order since until end done")
+Message = collections.namedtuple("Message", "row order since until end done")
 
 
 # ---- judging
@@ -63,7 +65,7 @@ def messages_of(orders):
         before = [other for other in again if orders.index(other) < place]
         after = [other for other in again if orders.index(other) > place]
         end = next((it for it in orders[place + 1:] if ends(it, order.name)), None)
-        yield Message(order, order.at if before else 0, after[0].at if after else None, end and end.at,
+        yield Message(place + 1, order, order.at if before else 0, after[0].at if after else None, end and end.at,
                       end and end.done)
 
 
@@ -127,15 +129,19 @@ def message_rows(message, pages, slots, delay):
             yield message.end, 8, message.done, f'"answer {message.done}, air {air}"'
 
 
+def own_pages(message, air):
+    """Returns the pages of a message."""
+    return [it for it in air if it.name == message.order.name and message.since <= it.slot
+            and (message.until is None or it.slot < message.until)]
+
+
 def rows_of(orders, blocks, delay):
     """Returns the differences between orders and the blocks of a tape; equal ones stand as their messages do."""
     slots, air, rows = len(blocks) // 4, list(pages_on_air(blocks)), []
     messages = list(messages_of(orders))
     for message in messages:
-        own = [it for it in air if it.name == message.order.name and message.since <= it.slot
-               and (message.until is None or it.slot < message.until)]
         rows += [(slot, *message.order.name, place, number, name)
-                 for slot, place, number, name in message_rows(message, own, slots, delay)]
+                 for slot, place, number, name in message_rows(message, own_pages(message, air), slots, delay)]
     for order in orders:
         if order.kind != "clear" and order.answer is None:
             serial = order.name[1] if order.kind == "write" else order.old
@@ -146,6 +152,20 @@ def rows_of(orders, blocks, delay):
             known.add(page.name)
             rows.append((page.slot, *page.name, 5, 0, "not ordered"))
     return sorted(rows, key=lambda it: it[:5])
+
+
+def lags_of(orders, blocks, seen):
+    """Returns the table of how late messages come and end."""
+    air, lines = list(pages_on_air(blocks)), []
+    for message in messages_of(orders):
+        order, slots = message.order, [it.slot for it in own_pages(message, air)]
+        first = slots[0] - order.at if slots else ""
+        last = slots[-1] - message.end if slots and message.end is not None else ""
+        lines.append(f"{message.row},{order.name[0]},{order.name[1]:04x},{order.at},{first},"
+                     f"{'' if message.end is None else message.end},{last}\n")
+        seen.update([SIGNS[2] if first == "" else SIGNS[int(first >= 0)]])
+        seen.update([] if last == "" else [SIGNS[3 + (last >= 0)]])
+    return LAGS + "".join(lines)
 
 
 def table_of(cell, rows):
@@ -265,16 +285,26 @@ def differs(program, seed, seen):
         tapes.insert(0, tape_of((cell[0], 7), [IDLE] * 4))
     if rng.random() < .03:
         tapes = tapes[:-1]
-    rows = rows_of(orders, blocks, delay)
-    wanted = (1 if rows else 0, table_of(cell, rows), f"warnc: differences: {len(rows)}\n" if rows else "")
-    if len(tapes) == 0 or tapes[-1][2:4] == b"\0\7":
+    has_lag = rng.random() < .5
+    asked = rng.choice((None, None, slots, slots, slots + 1, max(1, slots - 1)))
+    is_judged = len(tapes) != 0 and tapes[-1][2:4] != b"\0\7"
+    if not is_judged:
         wanted = 1, f"{HEADER}{cell[0]},{cell[1]},,,,no tape\n", "warnc: differences: 1\n"
+    elif asked not in (None, slots):
+        wanted = 1, f"{HEADER}{cell[0]},{cell[1]},,,,other slots\n", "warnc: differences: 1\n"
+    else:
+        rows = rows_of(orders, blocks, delay)
+        wanted = (1 if rows else 0, table_of(cell, rows), f"warnc: differences: {len(rows)}\n" if rows else "")
+        if has_lag:
+            wanted = *wanted[:2], lags_of(orders, blocks, seen) + wanted[2]
     fault = spoilt(rng, lines) if rng.random() < .05 else ""
     with tempfile.NamedTemporaryFile("w", suffix=".csv") as file:
         file.write("".join(f"{line}\n" for line in lines))
         file.flush()
         wanted = (1, "", f"warnc: {file.name}: {fault}\n") if fault else wanted
         words = [program, "verify", "--orders", file.name, "--cell", f"{cell[0]}-{cell[1]}", "--delay", str(delay)]
+        words += ["--slots", str(asked)] if asked else []
+        words += ["--lag"] if has_lag else []
         said = subprocess.run(words, input=b"".join(tapes), capture_output=True, check=False)
     found = said.returncode, said.stdout.decode(), said.stderr.decode()
     seen.update(["runs", *(name for name in PLACES if name in wanted[1])])
@@ -287,7 +317,7 @@ def main(words):
     seen = collections.Counter()
     status = judged("orders_verdict_reference.py", __doc__, words,
                     lambda program, seed: differs(program, seed, seen), 500)
-    lacking = [name.strip() for name in PLACES if seen["runs"] >= 200 and not seen[name]]
+    lacking = [name.strip() for name in PLACES + SIGNS if seen["runs"] >= 200 and not seen[name]]
     for name in lacking:
         print(f"no run has `{name}`")
     return status or int(bool(lacking))

@@ -10,7 +10,7 @@ _warnc() {
         before=${COMP_WORDS[COMP_CWORD - 2]}
     fi
     # after an option without a value comes another option
-    case $before in --strict | --network | --full | --short | --explain | --used | --all | --packets) before= ;; esac
+    case $before in --strict | --network | --full | --short | --explain | --lag | --used | --all | --packets) before= ;; esac
     if [ "$COMP_CWORD" -eq 1 ]; then
         words="plan check texts compile report chart read verify page live pcap cells tape orders whole groups help -h --help -V --version"
     else
@@ -35,13 +35,13 @@ _warnc() {
             plan) words="-h --help" ;;
             check) words="--slots --start --strict -h --help" ;;
             texts) words="--pages -h --help" ;;
-            compile) words="--slots --group --network --workers -h --help" ;;
+            compile) words="--slots --group --network --strict --workers -h --help" ;;
             report) words="--slots --group --network --full --start --workers -h --help" ;;
-            chart) words="--slots --group --network --cell --from --to --lang --start --workers -h --help" ;;
+            chart) words="--slots --group --network --cell --from --to --lang --start --strict --workers -h --help" ;;
             read) words="--short -h --help" ;;
-            verify) words="--book --slots --short --explain --start --group --workers --orders --cell --delay -h --help" ;;
+            verify) words="--book --slots --short --explain --start --group --workers --orders --cell --delay --lag -h --help" ;;
             page) words="--lang --id --scope --code --update -h --help" ;;
-            live) words="--slots --group --network --sessions --workers -h --help" ;;
+            live) words="--slots --group --network --strict --sessions --workers -h --help" ;;
             pcap) words="--used --channel --start -h --help" ;;
             cells) words="-h --help" ;;
             tape) words="--cell --all --cells --slots --first-slot --from --arfcn --channel -h --help" ;;

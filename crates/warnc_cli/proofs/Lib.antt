@@ -6,6 +6,7 @@ pub mod NoRun
 pub mod Statuses
 pub mod NotVerified
 pub mod Products
+pub mod StrictRuns
 pub mod Words
 pub mod OneInput
 pub mod RemarkedRuns

@@ -110,7 +110,7 @@ stopped_desk from slots parts book last desk.Unknown why read is =
 stopped_desk from slots parts book last other why read is = absurd why
 
 -- a fault of a run with status 1 says that the book is none, or has no run
-no_run_here : (from : Origin) (slots parts : ℕ) (Means : (input output : List ℕ) → Type 0) (book : List ℕ)
+pub no_run_here : (from : Origin) (slots parts : ℕ) (Means : (input output : List ℕ) → Type 0) (book : List ℕ)
     (last old new : Option (List ℕ)) (made : Product) (f : RunFault)
     → IsOfProduct f made
     → IsRunFault from slots parts Means (Some book) last old new f

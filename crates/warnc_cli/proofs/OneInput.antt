@@ -19,7 +19,7 @@ use Rattle.warnc_cli.specs.declared.command.Task.TheVariants as task
 writes : (t : Task) (book input old new : Option (List ℕ)) → IsSilent t → WritesOutput (Means t) input old new
     → WritesAll t book input old new
 writes (task.Verify from slots pages layout file workers) book input old new one wrote = absurd one
-writes (task.VerifyOrders cell delay file) book input old new one wrote = absurd one
+writes (task.VerifyOrders cell terms file) book input old new one wrote = absurd one
 writes (task.Tapes wanted file) book input old new one wrote = absurd one
 writes (task.Page language id serial) book input old new one wrote = wrote
 writes (task.Read wanted) book input old new one wrote = wrote
@@ -34,12 +34,13 @@ writes task.Check book input old new one wrote = absurd one
 writes (task.Remark slots start strict) book input old new one wrote = absurd one
 writes (task.Texts pages) book input old new one wrote = wrote
 writes (task.Make run made) book input old new one wrote = wrote
+writes (task.Strict run made) book input old new one wrote = wrote
 
 -- what it refuses
 refuses : (t : Task) (book input : Option (List ℕ)) → IsSilent t → IfSome input (RefusesOne t)
     → Refuses t book input
 refuses (task.Verify from slots pages layout file workers) book input one refused = absurd one
-refuses (task.VerifyOrders cell delay file) book input one refused = absurd one
+refuses (task.VerifyOrders cell terms file) book input one refused = absurd one
 refuses (task.Tapes wanted file) book input one refused = absurd one
 refuses (task.Page language id serial) book input one refused = refused
 refuses (task.Read wanted) book input one refused = refused
@@ -54,12 +55,13 @@ refuses task.Check book input one refused = absurd one
 refuses (task.Remark slots start strict) book input one refused = absurd one
 refuses (task.Texts pages) book input one refused = refused
 refuses (task.Make run made) book input one refused = refused
+refuses (task.Strict run made) book input one refused = refused
 
 -- the first groups that it wrote
 groups : (t : Task) (book input old new : Option (List ℕ)) → WritesFirstGroups t None input old new
     → WritesFirstGroups t book input old new
 groups (task.Verify from slots pages layout file workers) book input old new wrote = wrote
-groups (task.VerifyOrders cell delay file) book input old new wrote = wrote
+groups (task.VerifyOrders cell terms file) book input old new wrote = wrote
 groups (task.Tapes wanted file) book input old new wrote = wrote
 groups (task.Page language id serial) book input old new wrote = wrote
 groups (task.Read wanted) book input old new wrote = wrote
@@ -74,6 +76,7 @@ groups task.Check book input old new wrote = wrote
 groups (task.Remark slots start strict) book input old new wrote = wrote
 groups (task.Texts pages) book input old new wrote = wrote
 groups (task.Make run made) book input old new wrote = wrote
+groups (task.Strict run made) book input old new wrote = wrote
 
 -- nothing, or the first groups
 front : (t : Task) (book input old new : Option (List ℕ))
@@ -86,7 +89,7 @@ front t book input old new (inr wrote) = inr (groups t book input old new wrote)
 unseen : (t : Task) (book input old new : Option (List ℕ)) → IsSilent t → Keeps old new
     → KeepsUnseen t book input old new
 unseen (task.Verify from slots pages layout file workers) book input old new one kept = absurd one
-unseen (task.VerifyOrders cell delay file) book input old new one kept = absurd one
+unseen (task.VerifyOrders cell terms file) book input old new one kept = absurd one
 unseen (task.Tapes wanted file) book input old new one kept = absurd one
 unseen (task.Page language id serial) book input old new one kept = (tt, kept)
 unseen (task.Read wanted) book input old new one kept = (tt, kept)
@@ -101,6 +104,7 @@ unseen task.Check book input old new one kept = absurd one
 unseen (task.Remark slots start strict) book input old new one kept = absurd one
 unseen (task.Texts pages) book input old new one kept = (tt, kept)
 unseen (task.Make run made) book input old new one kept = (tt, kept)
+unseen (task.Strict run made) book input old new one kept = (tt, kept)
 
 -- or the first groups
 any_front : (t : Task) (book input old new : Option (List ℕ)) → IsSilent t

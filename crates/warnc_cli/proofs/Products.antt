@@ -90,7 +90,8 @@ some_of_group (product.Report layout) slots groups orders records text =
 some_of_group (product.Chart wanted) slots groups orders records text =
     some_part slots _ wanted (orders_of_run orders records) records _
 
-some_of_book : (b : Books) (made : Product) (slots parts : ℕ) (input output : List ℕ)
+-- and so has what is made of any books, but tapes
+pub some_of_book : (b : Books) (made : Product) (slots parts : ℕ) (input output : List ℕ)
     → IsProductOf made b slots parts input output
     → (r : Run) → r.books ≡ b
     → AlwaysWrites (task.Make r made)
@@ -170,7 +171,7 @@ product_kind books.EachGroup slots parts made first last old new (fault.Group gr
 product_kind b slots parts made first last old new fault.WriteFailed why = inr (inl tt)
 
 -- a fault of the writer has status 3
-of_writer : (f : ProductFault) → IsOfWriter f → status_of_product_fault f ≡ 3
+pub of_writer : (f : ProductFault) → IsOfWriter f → status_of_product_fault f ≡ 3
 of_writer (fault.Run (run.Write failed)) is = refl
 of_writer (fault.Run (run.Book f)) is = absurd is
 of_writer (fault.Run (run.NoGroup groups)) is = absurd is

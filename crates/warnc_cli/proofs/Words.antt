@@ -15,7 +15,7 @@ use Rattle.warnc_cli.specs.declared.command.Task.TheVariants as task
 -- no other command than `verify` reads a book beside its input, and none but `tape` of all cells a table
 pub of_one_input : (words : List (List ℕ)) (t : Task) → IsTaskOf words t → IsOfOneFile words → IsOfOneInput t
 of_one_input words (task.Verify from slots pages layout file workers) asked other = absurd (other.0 asked.command)
-of_one_input words (task.VerifyOrders cell delay file) asked other = absurd (other.0 asked.command)
+of_one_input words (task.VerifyOrders cell terms file) asked other = absurd (other.0 asked.command)
 of_one_input words (task.Tapes wanted file) asked other = absurd (apart (other.1 asked.command))
   where
     apart : is_given words (codes "--cells") ≡ false → ⊥
@@ -33,6 +33,7 @@ of_one_input words task.Check asked other = tt
 of_one_input words (task.Remark slots start strict) asked other = tt
 of_one_input words (task.Texts pages) asked other = tt
 of_one_input words (task.Make run made) asked other = tt
+of_one_input words (task.Strict run made) asked other = tt
 
 -- what a task may have written, its words say that it may
 pub may_write : (words : List (List ℕ)) (t : Task) (status : ℕ) → IsTaskOf words t → MayHaveWritten t status
@@ -41,13 +42,15 @@ may_write words (task.Make run made) status asked (inl done) = inl done
 may_write words (task.Make run made) status asked (inr (inl device)) = inr (inl device)
 may_write words (task.Make run made) status asked (inr (inr early)) =
     inr (inr (inr (early.0, subst (GivesBooks words) early.1 asked.books_given)))
+may_write words (task.Strict run made) status asked (inl done) = inl done
+may_write words (task.Strict run made) status asked (inr device) = inr (inl device)
 may_write words (task.Verify from slots pages layout file workers) status asked (inl done) = inl done
 may_write words (task.Verify from slots pages layout file workers) status asked (inr (inl device)) = inr (inl device)
 may_write words (task.Verify from slots pages layout file workers) status asked (inr (inr differ)) =
     inr (inr (inl (differ, inl asked.command)))
-may_write words (task.VerifyOrders cell delay file) status asked (inl done) = inl done
-may_write words (task.VerifyOrders cell delay file) status asked (inr (inl device)) = inr (inl device)
-may_write words (task.VerifyOrders cell delay file) status asked (inr (inr differ)) =
+may_write words (task.VerifyOrders cell terms file) status asked (inl done) = inl done
+may_write words (task.VerifyOrders cell terms file) status asked (inr (inl device)) = inr (inl device)
+may_write words (task.VerifyOrders cell terms file) status asked (inr (inr differ)) =
     inr (inr (inl (differ, inl asked.command)))
 may_write words task.Check status asked (inl done) = inl done
 may_write words task.Check status asked (inr (inl device)) = inr (inl device)
@@ -111,8 +114,13 @@ writes_some words (task.Make run product.Tapes) asked compile live whole plan or
 writes_some words (task.Make run (product.Report layout)) asked compile live whole plan orders report =
     headed words run.books asked.books_given (report asked.made_given.0)
 writes_some words (task.Make run (product.Chart wanted)) asked compile live whole plan orders report = tt
+writes_some words (task.Strict run product.Tapes) asked compile live whole plan orders report =
+    absurd (of_tapes words run.sessions.number asked.made_given compile live)
+writes_some words (task.Strict run (product.Report layout)) asked compile live whole plan orders report =
+    headed words (books.One run.origin) asked.book_given (report asked.made_given.0)
+writes_some words (task.Strict run (product.Chart wanted)) asked compile live whole plan orders report = tt
 writes_some words (task.Verify from slots pages layout file workers) asked compile live whole plan orders report = tt
-writes_some words (task.VerifyOrders cell delay file) asked compile live whole plan orders report = tt
+writes_some words (task.VerifyOrders cell terms file) asked compile live whole plan orders report = tt
 writes_some words (task.Page language id serial) asked compile live whole plan orders report = tt
 writes_some words (task.Read wanted) asked compile live whole plan orders report = tt
 writes_some words task.Whole asked compile live whole plan orders report = absurd (whole asked)

@@ -36,11 +36,13 @@ use Rattle.verification.specs.declared.detail.Detail.{Detail}
 use Rattle.verification.specs.declared.detail.Detail.TheVariants as detail
 use Rattle.verification.specs.declared.detail.TableLayout.{TableLayout}
 use Rattle.warnc_air.specs.declared.all.AllWanted.{AllWanted}
+use Rattle.warnc_run.specs.declared.run.BookRun.{BookRun}
 use Rattle.warnc_run.specs.declared.run.Books.{Books}
 use Rattle.warnc_run.specs.declared.run.Books.TheVariants as books
 use Rattle.warnc_run.specs.declared.product.Product.{Product}
 use Rattle.warnc_run.specs.declared.product.Product.TheVariants as product
 use Rattle.warnc_run.specs.declared.run.Run.{Run}
+use Rattle.warnc_verdict.specs.declared.terms.VerdictTerms.{VerdictTerms}
 
 -- the words give the option of this name this value: as the word after its name, or in one word with it, after `=`
 abbrev pub GivesValue : (words : List (List ℕ)) (name value : List ℕ) → Type 0
@@ -340,6 +342,15 @@ pub record AsksForRun (words : List (List ℕ)) (run : Run) (made : Product) : T
   pub books_given : GivesBooks words run.books
   pub slots_given : GivesSlots words run.slots
   pub workers_given : GivesThreads words (codes "--workers") run.workers.number
+  pub as_it_is : is_given words (codes "--strict") ≡ false
+
+-- the words ask for the same of one book, if every order was done
+pub record AsksForStrictRun (words : List (List ℕ)) (run : BookRun) (made : Product) : Type 0 where
+  pub made_given : GivesProduct words made run.sessions.number
+  pub book_given : GivesBooks words (books.One run.origin)
+  pub slots_given : GivesSlots words run.slots
+  pub workers_given : GivesThreads words (codes "--workers") run.workers.number
+  pub strict_given : is_given words (codes "--strict") ≡ true
 
 -- how much the words want to be told of each difference
 abbrev pub detail_given : (words : List (List ℕ)) → Detail
@@ -368,13 +379,20 @@ abbrev pub GivesDelay : (words : List (List ℕ)) → ℕ → Type 0
 GivesDelay words delay =
     GivesNumber words (codes "--delay") delay ⊎ ((is_given words (codes "--delay") ≡ false) × (delay ≡ 0))
 
--- the words ask for `verify` of what this cell was ordered, by the orders in the file of this name and this delay
-pub record AsksForVerifyOrders (words : List (List ℕ)) (cell : Cell) (delay : ℕ) (file : List ℕ) : Type 0 where
-  pub command : slice_get words 1 ≡ Some (codes "verify")
-  pub given : is_given words (codes "--orders") ≡ true
-  pub cell_given : GivesCell words cell
-  pub delay_given : GivesDelay words delay
-  pub orders_given : GivesValue words (codes "--orders") file
+-- the words say how a tape is judged by orders
+pub record GivesTerms (words : List (List ℕ)) (terms : VerdictTerms) : Type 0 where
+  pub delay_given : GivesDelay words terms.delay
+  pub slots_given : GivesTapeSlots words terms.slots
+  pub lags_given : is_given words (codes "--lag") ≡ terms.lags
+
+-- the words ask for `verify` of what this cell was ordered, by the orders in the file of this name and on these terms
+pub record AsksForVerifyOrders (words : List (List ℕ)) (cell : Cell) (terms : VerdictTerms) (file : List ℕ) : Type 0
+  where
+    pub command : slice_get words 1 ≡ Some (codes "verify")
+    pub given : is_given words (codes "--orders") ≡ true
+    pub cell_given : GivesCell words cell
+    pub terms_given : GivesTerms words terms
+    pub orders_given : GivesValue words (codes "--orders") file
 
 -- the words name the file by which `verify` judges: the orders, where a word begins with the option's name, or else the
 -- book

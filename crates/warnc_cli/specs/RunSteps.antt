@@ -21,7 +21,7 @@ abbrev pub MayHaveWritten : Task → (status : ℕ) → Type 0
 MayHaveWritten (task.Make run made) status =
     (status ≡ 0) ⊎ ((status ≡ 3) ⊎ (((status ≡ 1) ⊎ (status ≡ 4)) × (run.books ≡ books.EachGroup)))
 MayHaveWritten (task.Verify from slots pages layout file workers) status = (status ≡ 0) ⊎ ((status ≡ 3) ⊎ (status ≡ 1))
-MayHaveWritten (task.VerifyOrders cell delay file) status = (status ≡ 0) ⊎ ((status ≡ 3) ⊎ (status ≡ 1))
+MayHaveWritten (task.VerifyOrders cell terms file) status = (status ≡ 0) ⊎ ((status ≡ 3) ⊎ (status ≡ 1))
 MayHaveWritten task.Check status = (status ≡ 0) ⊎ ((status ≡ 3) ⊎ (status ≡ 1))
 MayHaveWritten (task.Remark slots start strict) status = (status ≡ 0) ⊎ ((status ≡ 3) ⊎ (status ≡ 1))
 MayHaveWritten other status = (status ≡ 0) ⊎ (status ≡ 3)
@@ -29,14 +29,14 @@ MayHaveWritten other status = (status ≡ 0) ⊎ (status ≡ 3)
 -- a task reads no book, orders or table beside its input
 abbrev pub IsOfOneInput : Task → Type 0
 IsOfOneInput (task.Verify from slots pages layout file workers) = ⊥
-IsOfOneInput (task.VerifyOrders cell delay file) = ⊥
+IsOfOneInput (task.VerifyOrders cell terms file) = ⊥
 IsOfOneInput (task.Tapes wanted file) = ⊥
 IsOfOneInput other = ⊤
 
 -- nor a table with status 1
 abbrev pub IsSilent : Task → Type 0
 IsSilent (task.Verify from slots pages layout file workers) = ⊥
-IsSilent (task.VerifyOrders cell delay file) = ⊥
+IsSilent (task.VerifyOrders cell terms file) = ⊥
 IsSilent (task.Tapes wanted file) = ⊥
 IsSilent task.Check = ⊥
 IsSilent (task.Remark slots start strict) = ⊥

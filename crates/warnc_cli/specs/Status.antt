@@ -36,6 +36,8 @@ use Rattle.warnc_run.specs.declared.fault.RunFault.{RunFault}
 use Rattle.warnc_run.specs.declared.fault.RunFault.TheVariants as run
 use Rattle.warnc_run.specs.declared.product.ProductFault.{ProductFault}
 use Rattle.warnc_run.specs.declared.product.ProductFault.TheVariants as product
+use Rattle.warnc_run.specs.declared.strict.StrictFault.{StrictFault}
+use Rattle.warnc_run.specs.declared.strict.StrictFault.TheVariants as strict
 use Rattle.warnc_verify.specs.declared.fault.VerifyFault.{VerifyFault}
 use Rattle.warnc_verify.specs.declared.fault.VerifyFault.TheVariants as verify
 use Rattle.warnc_verdict.specs.declared.fault.VerifyOrdersFault.{VerifyOrdersFault}
@@ -160,6 +162,11 @@ abbrev pub status_of_product_fault : ProductFault → ℕ
 status_of_product_fault (product.Run f) = status_of_run_fault f
 status_of_product_fault (product.Group group f) = status_of_run_fault f
 status_of_product_fault product.WriteFailed = 3
+
+-- that of a run whose orders are all to be done, 1 if one wasn't
+abbrev pub status_of_strict_fault : StrictFault → ℕ
+status_of_strict_fault (strict.Product f) = status_of_product_fault f
+status_of_strict_fault (strict.Undone refused idle) = 1
 
 abbrev pub status_of_tapes_fault : TapeFault → ℕ
 status_of_tapes_fault tapes.Short = 1

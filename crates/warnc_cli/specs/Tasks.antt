@@ -1,5 +1,5 @@
 -- What a command writes and refuses: by the task that the words ask for. Own.
-use Rattle.std.specs.Prelude.{◌≡◌, ⊤, ℕ, ◌<◌, ◌≤◌, ◌⊎◌, Bool, true, List, length, Option, IfSome}
+use Rattle.std.specs.Prelude.{◌≡◌, ◌≢◌, ⊤, ℕ, ◌<◌, ◌≤◌, ◌⊎◌, Bool, true, List, length, Option, IfSome}
 use Rattle.std.specs.Io.KnownBytes.{Appends, Keeps}
 use Rattle.alert_book.specs.declared.fault.BookFault.{BookFault}
 use Rattle.alert_book.specs.declared.network.Origin.{Origin}
@@ -7,6 +7,8 @@ use Rattle.alert_book.specs.declared.network.Origin.TheVariants as origin
 use Rattle.alert_book.specs.Book.{Contents, IsRowFault, IsWrong, max_book}
 use Rattle.alert_book.specs.Network.{HasGroups, IsGroupBook, IsWrongNetwork, max_network}
 use Rattle.alert_book.specs.Origin.{IsBookFrom}
+use Rattle.asked_orders.specs.Lacks.{lacks_of, no_lacks}
+use Rattle.bsc_table.specs.Record.{Record}
 use Rattle.book_check.specs.Checked.{HasFaults, IsClean}
 use Rattle.book_remarks.specs.Remarked.{HasRemarks, IsRemarkedFor, IsStopped}
 use Rattle.book_texts.specs.TextsOutput.{IsTextsOutput}
@@ -49,12 +51,15 @@ use Rattle.warnc_run.specs.Engine.{IsMadeBy}
 use Rattle.warnc_run.specs.Faults.{StopsRun}
 use Rattle.warnc_run.specs.Groups.{IsGroupCount}
 use Rattle.warnc_run.specs.Network.{AreFirstParts}
+use Rattle.warnc_run.specs.Products.{RunOf}
+use Rattle.warnc_run.specs.Strict.{IsStrictlyMadeBy}
 use Rattle.warnc_verdict.specs.OrdersVerified.{AreOrdersBroken, AreOrdersKept, HasOrderDifferences}
+use Rattle.warnc_verdict.specs.declared.terms.VerdictTerms.{VerdictTerms}
 use Rattle.warnc_verify.specs.Verified.{Differs, HasDifferences, HasRun, IsVerified}
 use Rattle.warnc_cli.specs.CommandLine.{AsksForCells, AsksForOrders, AsksForTapes}
 use Rattle.warnc_cli.specs.CommandLine.{AsksForGroups, AsksForPage, AsksForPcap, AsksForRead, AsksForRun, AsksForTape}
 use Rattle.warnc_cli.specs.CommandLine.{AsksForCheck, AsksForPlan, AsksForRemarks, AsksForTexts, AsksForVerify}
-use Rattle.warnc_cli.specs.CommandLine.{AsksForVerifyOrders, AsksForWhole}
+use Rattle.warnc_cli.specs.CommandLine.{AsksForStrictRun, AsksForVerifyOrders, AsksForWhole}
 use Rattle.warnc_cli.specs.Status.{status_of_book_fault, status_of_page_fault}
 use Rattle.warnc_cli.specs.declared.command.Task.{Task}
 use Rattle.warnc_cli.specs.declared.command.Task.TheVariants as task
@@ -75,9 +80,10 @@ IsTaskOf words (task.Remark slots start strict) = AsksForRemarks words slots sta
 IsTaskOf words task.Plan = AsksForPlan words
 IsTaskOf words (task.Texts pages) = AsksForTexts words pages
 IsTaskOf words (task.Make run made) = AsksForRun words run made
+IsTaskOf words (task.Strict run made) = AsksForStrictRun words run made
 IsTaskOf words (task.Verify from slots pages layout file workers) =
     AsksForVerify words from slots pages layout file.now workers.number
-IsTaskOf words (task.VerifyOrders cell delay file) = AsksForVerifyOrders words cell delay file.now
+IsTaskOf words (task.VerifyOrders cell terms file) = AsksForVerifyOrders words cell terms file.now
 
 -- What is written with status 0.
 
@@ -98,8 +104,9 @@ Means (task.Remark slots start strict) = IsRemarkedFor slots start strict
 Means task.Plan = IsPlanOutput
 Means (task.Texts pages) = IsTextsOutput pages
 Means (task.Make run made) = IsMadeBy run made
+Means (task.Strict run made) = IsStrictlyMadeBy run made
 Means (task.Verify from slots pages layout file workers) = λ input output. ⊥
-Means (task.VerifyOrders cell delay file) = λ input output. ⊥
+Means (task.VerifyOrders cell terms file) = λ input output. ⊥
 
 -- the octets are a table of cells and a capture, and the tapes of the cells
 abbrev pub AreAllTapes : AllWanted → (table capture output : List ℕ) → Type 0
@@ -123,8 +130,8 @@ pub record WritesOutputOfBoth (IsOutput : (book tapes output : List ℕ) → Typ
 abbrev pub WritesAll : Task → (book input old new : Option (List ℕ)) → Type 0
 WritesAll (task.Verify from slots pages layout file workers) book input old new =
     WritesOutputOfBoth (IsVerified from slots pages layout) book input old new
-WritesAll (task.VerifyOrders cell delay file) book input old new =
-    WritesOutputOfBoth (AreOrdersKept cell delay) book input old new
+WritesAll (task.VerifyOrders cell terms file) book input old new =
+    WritesOutputOfBoth (AreOrdersKept cell terms) book input old new
 WritesAll (task.Tapes wanted file) book input old new = WritesOutputOfBoth (AreAllTapes wanted) book input old new
 WritesAll other book input old new = WritesOutput (Means other) input old new
 
@@ -138,6 +145,8 @@ IsHeaded other = ⊤
 abbrev pub AlwaysWrites : Task → Type 0
 AlwaysWrites (task.Make run product.Tapes) = ⊥
 AlwaysWrites (task.Make run (product.Report layout)) = IsHeaded run.books
+AlwaysWrites (task.Strict run product.Tapes) = ⊥
+AlwaysWrites (task.Strict run (product.Report layout)) = IsHeaded (books.One run.origin)
 AlwaysWrites task.Whole = ⊥
 AlwaysWrites task.Plan = ⊥
 AlwaysWrites (task.Orders wanted packets) = ⊥
@@ -214,6 +223,14 @@ abbrev pub IsNoRunOf : Books → (slots parts : ℕ) (input : List ℕ) → Type
 IsNoRunOf (books.One from) = IsNoRun from
 IsNoRunOf books.EachGroup = IsNoNetworkRun
 
+-- or in a run of it some orders, and at least one, weren't done
+abbrev pub HasUndoneOrders : (from : Origin) (slots parts : ℕ) (input : List ℕ) → Type 0
+HasUndoneOrders from slots parts input = (records : List Record) × (run : RunOf from slots parts input records)
+    × (lacks_of run.book.orders records ≢ no_lacks)
+
+abbrev pub IsNotAllDone : (from : Origin) (slots parts : ℕ) (input : List ℕ) → Type 0
+IsNotAllDone from slots parts input = IsNoRun from slots parts input ⊎ HasUndoneOrders from slots parts input
+
 -- nothing can be said of these tapes and this book: it is none or has no run; or it has one, and the tapes are no whole
 -- ones
 abbrev pub IsUnverified : (from : Origin) (slots : ℕ) (book tapes : List ℕ) → Type 0
@@ -239,9 +256,9 @@ AreUnjudged orders tapes = IsNoOrdersFile orders ⊎ (HasOrderRows orders × IsN
 
 -- these tapes don't keep these orders: they are none; or they are, and the tapes are no whole ones; or there is a
 -- difference
-abbrev pub AreOrdersNotKept : (cell : Cell) (delay : ℕ) (orders tapes : List ℕ) → Type 0
-AreOrdersNotKept cell delay orders tapes = IsNoOrdersFile orders
-    ⊎ ((HasOrderRows orders × IsNoTapes tapes) ⊎ AreOrdersBroken cell delay orders tapes)
+abbrev pub AreOrdersNotKept : (cell : Cell) (terms : VerdictTerms) (orders tapes : List ℕ) → Type 0
+AreOrdersNotKept cell terms orders tapes = IsNoOrdersFile orders
+    ⊎ ((HasOrderRows orders × IsNoTapes tapes) ⊎ AreOrdersBroken cell terms orders tapes)
 
 -- the octets have more than a table of cells may have, or are none
 abbrev pub IsNoTable : (table : List ℕ) → Type 0
@@ -274,15 +291,16 @@ RefusesOne (task.Remark slots start strict) = IsRemarkable slots start strict
 RefusesOne task.Plan = IsNoPlan
 RefusesOne (task.Texts pages) = IsNoRows
 RefusesOne (task.Make run made) = IsNoRunOf run.books run.slots run.sessions.number
+RefusesOne (task.Strict run made) = IsNotAllDone run.origin run.slots run.sessions.number
 RefusesOne (task.Verify from slots pages layout file workers) = λ input. ⊥
-RefusesOne (task.VerifyOrders cell delay file) = λ input. ⊥
+RefusesOne (task.VerifyOrders cell terms file) = λ input. ⊥
 
 -- what a task refuses, of readers whose octets are known
 abbrev pub Refuses : Task → (book input : Option (List ℕ)) → Type 0
 Refuses (task.Verify from slots pages layout file workers) book input =
     IfSome book (λ octets. IfSome input (IsNotVerified from slots pages octets))
-Refuses (task.VerifyOrders cell delay file) book input =
-    IfSome book (λ octets. IfSome input (AreOrdersNotKept cell delay octets))
+Refuses (task.VerifyOrders cell terms file) book input =
+    IfSome book (λ octets. IfSome input (AreOrdersNotKept cell terms octets))
 Refuses (task.Tapes wanted file) book input = IfSome book (λ table. IfSome input (HasNoTapes wanted table))
 Refuses other book input = IfSome input (RefusesOne other)
 
@@ -297,7 +315,7 @@ IsUnremarked slots input = (max_book < length input) ⊎ ((f : RunFault) × IsSt
 abbrev pub RefusesUnseen : Task → (book input : Option (List ℕ)) → Type 0
 RefusesUnseen (task.Verify from slots pages layout file workers) book input =
     IfSome book (λ octets. IfSome input (IsUnverified from slots octets))
-RefusesUnseen (task.VerifyOrders cell delay file) book input = IfSome book (λ octets. IfSome input (AreUnjudged octets))
+RefusesUnseen (task.VerifyOrders cell terms file) book input = IfSome book (λ octets. IfSome input (AreUnjudged octets))
 RefusesUnseen task.Check book input = IfSome input (λ octets. max_book < length octets)
 RefusesUnseen (task.Remark slots start strict) book input = IfSome input (IsUnremarked slots)
 RefusesUnseen other book input = ⊤
@@ -317,8 +335,8 @@ WritesFirstGroups other book input old new = ⊥
 abbrev pub WritesDifferences : Task → (book input old new : Option (List ℕ)) → Type 0
 WritesDifferences (task.Verify from slots pages layout file workers) book input old new =
     WritesOutputOfBoth (HasDifferences from slots pages layout) book input old new
-WritesDifferences (task.VerifyOrders cell delay file) book input old new =
-    WritesOutputOfBoth (HasOrderDifferences cell delay) book input old new
+WritesDifferences (task.VerifyOrders cell terms file) book input old new =
+    WritesOutputOfBoth (HasOrderDifferences cell terms) book input old new
 WritesDifferences task.Check book input old new =
     (count : ℕ) × WritesOutput (HasFaults count) input old new
 WritesDifferences (task.Remark slots start strict) book input old new =

@@ -9,7 +9,7 @@ ghost use Rattle.warnc_cli.specs.CommandLine.{GivesFirstSlot, GivesLanguage, Giv
 ghost use Rattle.warnc_cli.specs.CommandLine.{GivesWanted, IsAddress, IsCell};
 ghost use Rattle.warnc_cli.specs.CommandLine.{columns_given, slots_given, GivesBooks, GivesOrigin, GivesPages};
 ghost use Rattle.warnc_cli.specs.CommandLine.{detail_given, pages_given, GivesProduct, GivesTapeSlots, IsNumber};
-ghost use Rattle.warnc_cli.specs.CommandLine.{GivesTableLayout, GivesVerifiedFile};
+ghost use Rattle.warnc_cli.specs.CommandLine.{GivesTableLayout, GivesTerms, GivesVerifiedFile};
 ghost use Rattle.warnc_cli.specs.Tasks.{IsTaskOf};
 
 use crate::options::warnc;
@@ -27,7 +27,8 @@ use std::alloc::Global;
 use std::convert::AsStr;
 use verification::{Detail, TableLayout};
 use warnc_air::all::AllWanted;
-use warnc_run::{Books, Product, Run, Sessions, Workers};
+use warnc_run::{BookRun, Books, Product, Run, Sessions, Workers};
+use warnc_verdict::VerdictTerms;
 
 /// What the words ask for.
 #[derive(Clone, Copy, Debug, PartialEq, Eq)]
@@ -92,6 +93,13 @@ pub enum Task<'a> {
         /// What is made of the run.
         made: Product,
     },
+    /// `compile`, `live` or `chart` of one book, if every order was done.
+    Strict {
+        /// How the book is run.
+        run: BookRun,
+        /// What is made of the run.
+        made: Product,
+    },
     /// `verify`.
     Verify {
         /// A book, or the group of a network book.
@@ -111,8 +119,8 @@ pub enum Task<'a> {
     VerifyOrders {
         /// The cell whose tape is judged.
         cell: Cell,
-        /// By how many slots what was ordered may come later than its answer.
-        delay: u16,
+        /// How the tape is judged, and what else is told.
+        terms: VerdictTerms,
         /// The name of the orders' file.
         file: &'a str,
     },
@@ -178,9 +186,36 @@ fn run_in<'a, S: AsStr>(words: &'a [S], made: Product, sessions: Sessions) -> Op
     requires { GivesProduct (map S.text words.now) made sessions.number }
     ensures { IfSome result (IsTaskOf (map S.text words.now)) }
 {
+    if is_given(words, "--strict") {
+        return strict_run_in(words, made, sessions);
+    }
     Some(Task::Make {
         run: Run {
             books: books_in(words)?,
+            slots: slots_in(words)?,
+            sessions,
+            workers: workers_in(words)?,
+        },
+        made,
+    })
+}
+
+/// What they ask to be made of the run of one book if every order was done: clap takes no network with that.
+fn strict_run_in<'a, S: AsStr>(
+    words: &'a [S],
+    made: Product,
+    sessions: Sessions,
+) -> Option<Task<'a>>
+    requires given { is_given (map S.text words.now) (codes "--strict") ≡ true }
+    requires made { GivesProduct (map S.text words.now) made sessions.number }
+    ensures { IfSome result (IsTaskOf (map S.text words.now)) }
+{
+    if is_given(words, "--network") {
+        return None;
+    }
+    Some(Task::Strict {
+        run: BookRun {
+            origin: origin_in(words)?,
             slots: slots_in(words)?,
             sessions,
             workers: workers_in(words)?,
@@ -276,7 +311,7 @@ fn verify_orders_in<'a, S: AsStr>(words: &'a [S]) -> Option<Task<'a>>
 {
     Some(Task::VerifyOrders {
         cell: cell_in(words)?,
-        delay: delay_in(words)?,
+        terms: terms_in(words)?,
         file: value_of(words, "--orders")?,
     })
 }
@@ -530,6 +565,18 @@ fn first_slot_in<S: AsStr>(words: &[S]) -> Option<u16>
         return Some(0);
     }
     number_of(words, "--first-slot")
+}
+
+/// How a tape is judged by orders, by the words.
+fn terms_in<S: AsStr>(words: &[S]) -> Option<VerdictTerms>
+    ensures { IfSome result (GivesTerms (map S.text words.now)) }
+{
+    let length = tape_slots_in(words)?;
+    Some(VerdictTerms {
+        delay: delay_in(words)?,
+        slots: length,
+        lags: is_given(words, "--lag"),
+    })
 }
 
 /// By how many slots what was ordered may come later than its answer, by the words: 0 if they give none.

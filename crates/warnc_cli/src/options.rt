@@ -7,7 +7,7 @@ use parallel_compile::MAX_WORKERS;
 use std::alloc::{AllocError, Global};
 
 /// The version of the program, and on a line of its own what `rt version` says of the toolchain that proved it.
-const VERSION: &str = "1.17.0\nrattle-kit-13f logic dac8208d650f15bf";
+const VERSION: &str = "1.18.0\nrattle-kit-13b logic dac8208d650f15bf";
 
 /// The words for the channel that packets name.
 const CHANNEL_TYPES: &[&str] = &["cbch", "sdcch"];
@@ -93,6 +93,7 @@ fn compile<'a>(alloc: Global) -> Result<Command<'a>, AllocError> {
         .arg(slots(alloc))?
         .arg(group(alloc))?
         .arg(network(alloc)?)?
+        .arg(all_done(alloc)?)?
         .arg(workers(alloc))
 }
 
@@ -126,6 +127,7 @@ fn chart<'a>(alloc: Global) -> Result<Command<'a>, AllocError> {
         .arg(charted_to(alloc))?
         .arg(charted_language(alloc))?
         .arg(charted_clock(alloc))?
+        .arg(all_done(alloc)?)?
         .arg(workers(alloc))
 }
 
@@ -167,7 +169,8 @@ fn by_orders<'a>(alloc: Global, command: Command<'a>) -> Result<Command<'a>, All
     command
         .arg(judging_orders(alloc)?)?
         .arg(judged_cell(alloc)?)?
-        .arg(delay(alloc)?)
+        .arg(delay(alloc)?)?
+        .arg(lag(alloc)?)
 }
 
 /// The command line of `check`.
@@ -229,6 +232,7 @@ fn live<'a>(alloc: Global) -> Result<Command<'a>, AllocError> {
         .arg(slots(alloc))?
         .arg(group(alloc))?
         .arg(network(alloc)?)?
+        .arg(all_done(alloc)?)?
         .arg(sessions(alloc))?
         .arg(workers(alloc))
 }
@@ -337,6 +341,16 @@ fn network<'a>(alloc: Global) -> Result<Arg<'a>, AllocError> {
     .conflicts_with("group")
 }
 
+/// The option by which every order is to be done.
+fn all_done<'a>(alloc: Global) -> Result<Arg<'a>, AllocError> {
+    flag(
+        alloc,
+        "strict",
+        "Writes nothing and ends with 1 if a cell refuses an\norder or an order does nothing",
+    )
+    .conflicts_with("network")
+}
+
 /// The option of the number of workers.
 fn workers<'a>(alloc: Global) -> Arg<'a> {
     threads(
@@ -431,7 +445,7 @@ fn verified_slots<'a>(alloc: Global) -> Result<Arg<'a>, AllocError> {
         alloc,
         "slots",
         "SLOTS",
-        "How many slots each cell's run has, 1 to 65535,\neach 1.883 s",
+        "How many slots each cell's run has, or the tape that\nis judged by orders, 1 to 65535, each 1.883 s",
     )
     .value_parser(value_parser!(u16).range(1..=65535))
     .required_unless_present("orders")
@@ -474,12 +488,21 @@ fn delay<'a>(alloc: Global) -> Result<Arg<'a>, AllocError> {
     beside_no_book(delay)
 }
 
+/// The option by which it is told how late messages come.
+fn lag<'a>(alloc: Global) -> Result<Arg<'a>, AllocError> {
+    let lag = flag(
+        alloc,
+        "lag",
+        "Says on standard error by how many slots each\nmessage comes and ends later than its answers,\nby which --delay is chosen",
+    )
+    .requires_arg("orders")?;
+    beside_no_book(lag)
+}
+
 /// An option that stands in place of a book and what goes with it. clap doesn't ask for a required option where one
 /// that it excludes is given: so each option of orders excludes those of a book itself.
 fn beside_no_book<'a>(arg: Arg<'a>) -> Result<Arg<'a>, AllocError> {
-    arg.conflicts_with_all(&[
-        "book", "slots", "short", "explain", "start", "group", "workers",
-    ])
+    arg.conflicts_with_all(&["book", "short", "explain", "start", "group", "workers"])
 }
 
 /// The option of the text's language.

@@ -51,8 +51,8 @@ use warnc_air::tape::tape_stream;
 use warnc_inspect::page::page_stream;
 use warnc_inspect::read::read_stream;
 use warnc_inspect::whole::whole_stream;
-use warnc_run::{Product, Run, Workers, groups_stream, run_product};
-use warnc_verdict::verify_orders_stream;
+use warnc_run::{BookRun, Product, Run, Workers, groups_stream, run_product, run_strictly};
+use warnc_verdict::{VerdictTerms, verify_orders_stream};
 use warnc_verify::verify_stream;
 
 /// Runs the command that the words ask for (the first is the program's name), from a reader to a writer, and returns
@@ -241,6 +241,7 @@ fn run_task<T: AllocGlobal + Threads + Wait + Sync, B: Read, R: Read, W: Write, 
         Task::Plan => run_plan(alloc, source, sink, faults),
         Task::Texts { pages } => run_texts(alloc, pages, source, sink, faults),
         Task::Make { run, made } => run_books(rt, run, made, source, sink, faults),
+        Task::Strict { run, made } => run_strict(rt, run, made, source, sink, faults),
         Task::Verify {
             origin,
             slots,
@@ -251,8 +252,8 @@ fn run_task<T: AllocGlobal + Threads + Wait + Sync, B: Read, R: Read, W: Write, 
         } => run_verify(
             rt, origin, slots, pages, layout, file, workers, book, source, sink, faults,
         ),
-        Task::VerifyOrders { cell, delay, file } => {
-            run_verify_orders(alloc, cell, delay, file, book, source, sink, faults)
+        Task::VerifyOrders { cell, terms, file } => {
+            run_verify_orders(alloc, cell, terms, file, book, source, sink, faults)
         }
     }
 }
@@ -563,6 +564,27 @@ fn run_books<T: AllocGlobal + Threads + Wait + Sync, R: Read, W: Write, F: Write
     }
 }
 
+/// Makes of one book what is asked for if every order was done, and returns the status.
+fn run_strict<T: AllocGlobal + Threads + Wait + Sync, R: Read, W: Write, F: Write>(
+    rt: &T,
+    run: BookRun,
+    made: Product,
+    source: &mut Source<R>,
+    sink: &mut Sink<W>,
+    faults: &mut F,
+) -> u8
+    ensures done { IsDoneBy (Task.Strict run made) result R.remaining W.contents source.old sink.old sink.new }
+    ensures wrote { WroteSomeBy (Task.Strict run made) result W.contents sink.old sink.new }
+    ensures refused { IsRefusedBy (Task.Strict run made) result R.remaining source.old }
+    ensures front { WroteFrontBy (Task.Strict run made) result R.remaining W.contents source.old sink.old sink.new }
+    ensures ends { IsRunBetween (Task.Strict run made) result W.contents source.new sink.old sink.new }
+{
+    match run_strictly(rt, source, sink, &run, made, &Open) {
+        Ok(()) => DONE,
+        Err(fault) => failed(&fault, faults),
+    }
+}
+
 /// Runs `verify` with the book of this file, and returns the status.
 fn run_verify<T: AllocGlobal + Threads + Wait + Sync, B: Read, R: Read, W: Write, F: Write>(
     rt: &T,
@@ -602,17 +624,18 @@ fn run_verify<T: AllocGlobal + Threads + Wait + Sync, B: Read, R: Read, W: Write
 fn run_verify_orders<B: Read, R: Read, W: Write, F: Write>(
     alloc: Global,
     cell: Cell,
-    delay: u16,
+    terms: VerdictTerms,
     file: &str,
     orders: &mut Source<B>,
     tapes: &mut Source<R>,
     sink: &mut Sink<W>,
     faults: &mut F,
 ) -> u8
-    ensures { HasRun (Task.VerifyOrders cell delay file.entry) result B.remaining R.remaining W.contents orders.old
+    ensures { HasRun (Task.VerifyOrders cell terms file.entry) result B.remaining R.remaining W.contents orders.old
         orders.new tapes.old tapes.new sink.old sink.new }
 {
-    match verify_orders_stream(alloc, orders, tapes, sink, cell, delay) {
+    let mut notes = Sink::new(&mut *faults);
+    match verify_orders_stream(alloc, orders, tapes, sink, &mut notes, cell, terms) {
         Ok(()) => DONE,
         Err(fault) => failed_with_orders(&fault, file, faults),
     }

@@ -3,6 +3,7 @@
 ghost use Rattle.std.specs.Prelude.{◌≡◌, ℕ};
 ghost use Rattle.warnc_cli.specs.Status.{status_of_book_fault, status_of_check_fault, status_of_page_fault};
 ghost use Rattle.warnc_cli.specs.Status.{status_of_orders_fault, status_of_pcap_fault, status_of_plan_fault};
+ghost use Rattle.warnc_cli.specs.Status.{status_of_strict_fault};
 ghost use Rattle.warnc_cli.specs.Status.{status_of_product_fault, status_of_read_fault, status_of_remark_fault};
 ghost use Rattle.warnc_cli.specs.Status.{status_of_run_fault};
 ghost use Rattle.warnc_cli.specs.Status.{status_of_tape_fault, status_of_tapes_fault, status_of_texts_fault};
@@ -26,7 +27,7 @@ use warnc_air::pcap::PcapFault;
 use warnc_air::tape::TapeCommandFault;
 use warnc_inspect::page::PageFault;
 use warnc_inspect::read::ReadCommandFault;
-use warnc_run::{ProductFault, RunFault};
+use warnc_run::{ProductFault, RunFault, StrictFault};
 use warnc_verdict::VerifyOrdersFault;
 use warnc_verify::VerifyFault;
 
@@ -279,6 +280,17 @@ impl Fault for ProductFault {
         match *self {
             ProductFault::Run(fault) | ProductFault::Group { fault, .. } => fault.status(),
             ProductFault::WriteFailed => DEVICE,
+        }
+    }
+}
+
+impl Fault for StrictFault {
+    ghost status_of = { status_of_strict_fault };
+
+    fn status(&self) -> u8 {
+        match *self {
+            StrictFault::Product(fault) => fault.status(),
+            StrictFault::Undone { .. } => REFUSED_INPUT,
         }
     }
 }

@@ -23,7 +23,7 @@ out -> <div><p><b>a</b> 1 0010 <i>high</i> <bdi>One</bdi></p>
 out -> <svg viewBox=\"0 0 4 10\" preserveAspectRatio=\"none\"><title>1 0010: slots 0 (0:00:00) to 3 (0:00:05), every slot, \
 broadcasts: 3, first shown after 0 (0:00:01)</title>
 out -> <rect class=\"f5\" x=\"0\" width=\"3\"/>
-out -> <path class=\"whole\" d=\"M1 0v10M2 0v10M3 0v10\"/>
+out -> <path class=\"whole\" d=\"M0 0h1V9h1V0h1V9\"/>
 out -> <path d=\"M1 0v6\"/></svg></div>
 out -> <div><p><b>b</b> 2 0020 <span class=\"cause\">refused: BSC capacity exceeded (06)</span></p>
 out -> <svg viewBox=\"0 0 4 10\" preserveAspectRatio=\"none\"><title>2 0020: refused at slot 1 (0:00:01)</title>
@@ -147,7 +147,7 @@ run -> 0
 past <rect class=\"f5\" x=\"0\" width=\"60\"/> -> yes
 past <i>background</i> <small>not shown:</small> <bdi>Two</bdi></p> -> yes
 past <rect class=\"f1\" x=\"0\" width=\"60\"/> -> yes
-out -> <path class=\"whole\" d=\"\"/>
+out -> <path class=\"whole\" d=\"M0 0\"/>
 out -> <path d=\"\"/></svg></div>
 past </html> -> yes
 
@@ -183,7 +183,7 @@ args chart --slots 320
 run -> 0
 past <i>high</i> <bdi>One</bdi> -> yes
 past <rect class=\"f5\" x=\"0\" width=\"320\"/> -> yes
-past M318 0v10M319 0v10M320 0v10\"/> -> yes
+past h1V0h1V9h1V0\"/> -> yes
 past </html> -> yes
 args chart --slots 321
 run -> 0
@@ -196,7 +196,7 @@ in write,0,a,1,0,1,en,0,3,0,*,One
 args chart --slots 960
 run -> 0
 past <i>high</i> <bdi>One</bdi> -> yes
-past M952 0v10M955 0v10M958 0v10\"/> -> yes
+past h3V0h3V9h3V0\"/> -> yes
 past </html> -> yes
 args chart --slots 961
 run -> 0
@@ -349,7 +349,7 @@ out -> <div><p><b>a</b> 1 0010 <i>normal</i> <bdi>One</bdi></p>
 out -> <svg viewBox=\"10 0 20 10\" preserveAspectRatio=\"none\"><title>1 0010: slots 0 (0:00:00) to 64 (0:02:00), every 8, \
 broadcasts: 8, first shown after 0 (0:00:01)</title>
 out -> <rect class=\"f5\" x=\"10\" width=\"20\"/>
-out -> <path class=\"whole\" d=\"M17 0v10M25 0v10\"/>
+out -> <path class=\"whole\" d=\"M0 0h17V9h8V0\"/>
 out -> <path d=\"\"/></svg></div>
 out -> <div><p><b>c</b> 3 0030 <span class=\"cause\">refused: BSC capacity exceeded (06)</span></p>
 out -> <svg viewBox=\"10 0 20 10\" preserveAspectRatio=\"none\"><title>3 0030: refused at slot 12 (0:00:22)</title>
@@ -371,7 +371,7 @@ args chart --slots 64 --from 40
 run -> 0
 past Drawn from slot 40 (0:01:15) to slot 64 (0:02:00).</p> -> yes
 past <summary><h2>Cell 1-1</h2> messages: 2, refused: 1, fullest: 25 % at 0:01:15</summary> -> yes
-past <path class=\"whole\" d=\"M41 0v10M49 0v10M57 0v10\"/> -> yes
+past <path class=\"whole\" d=\"M0 0h41V9h8V0h8V9\"/> -> yes
 past <rect class=\"f5\" x=\"40\" width=\"24\"/> -> yes
 past <path class=\"refusal\" d=\"M40 0v10\"/></svg></div> -> yes
 past </html> -> yes
@@ -380,9 +380,9 @@ run -> 0
 past Drawn from slot 0 (0:00:00) to slot 1 (0:00:01).</p> -> yes
 past <summary><h2>Cell 1-1</h2> messages: 2, refused: 0, fullest: 25 % at 0:00:00</summary> -> yes
 past <rect class=\"f5\" x=\"0\" width=\"1\"/> -> yes
-out -> <path class=\"whole\" d=\"M1 0v10\"/>
+out -> <path class=\"whole\" d=\"M0 0h1V9\"/>
 out -> <path d=\"M1 0v6\"/></svg></div>
-past <path class=\"whole\" d=\"\"/> -> yes
+past <path class=\"whole\" d=\"M0 0\"/> -> yes
 past </html> -> yes
 args chart --slots 64 --from 11 --to 11
 fails -> 2 warnc: no such cell or part: --cell is as 1-2, --from is before --to, --to at most --slots
@@ -419,7 +419,7 @@ args chart --slots 1000 --from 100 --to 420
 run -> 0
 past <i>high</i> <bdi>One</bdi> -> yes
 past <rect class=\"f5\" x=\"100\" width=\"320\"/> -> yes
-past M418 0v10M419 0v10M420 0v10\"/> -> yes
+past h1V0h1V9h1V0\"/> -> yes
 past </html> -> yes
 
 # a page in German, of a part, with a strip for each of two sections: a message that phones show, one that none shows,

@@ -29,6 +29,8 @@ mod rows;
 #[cfg(test)]
 mod scarce;
 #[cfg(test)]
+mod strict;
+#[cfg(test)]
 mod verify;
 #[cfg(test)]
 mod verify_orders;

@@ -101,6 +101,8 @@ args compile --slots 2
 scarce 18 2600 -> worked
 args compile --slots 2 --group 0
 scarce 19 2600 -> worked
+args compile --slots 2 --strict
+scarce 19 2600 -> worked
 args compile --slots 2 --network
 scarce 20 2600 -> worked
 ";
@@ -287,7 +289,7 @@ fn captures_without_memory_are_status_4(rt: HostRuntime) -> Result<(), Fail> {
 
 #[test]
 fn tapes_without_memory_are_status_4(rt: HostRuntime) -> Result<(), Fail> {
-    expect_rows(&rt, TAPES, 17)
+    expect_rows(&rt, TAPES, 19)
 }
 
 #[test]
