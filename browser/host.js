@@ -64,19 +64,22 @@ function run(words, input = "") {
     return { status, out: joined(written[1]), says: decode(joined(written[2])).trim().replace(/^warnc: /, "") };
 }
 
-// The octets of a text in base 85: four octets are five signs, as Python's base64.b85encode writes them.
-const SIGNS = "0123456789ABCDEFGHIJKLMNOPQRSTUVWXYZabcdefghijklmnopqrstuvwxyz!#$%&()*+-;<=>?@^_`{|}~";
-
-function octetsOf(text) {
-    const values = new Uint8Array(128), missing = (5 - (text.length % 5)) % 5, whole = text + "~".repeat(missing);
-    [...SIGNS].forEach((sign, value) => { values[sign.charCodeAt(0)] = value; });
-    const octets = new DataView(new ArrayBuffer((whole.length / 5) * 4));
-    for (let at = 0; at < whole.length; at += 5) {
-        let four = 0;
-        for (let next = at; next < at + 5; next += 1) four = four * 85 + values[whole.charCodeAt(next)];
-        octets.setUint32((at / 5) * 4, four);
+// The octets of signs of seven bits each: `=` and a sign that is 64 higher stand for one that a page can't have.
+function octetsOf(signs) {
+    const octets = new Uint8Array(signs.length);
+    let held = 0, bits = 0, count = 0;
+    for (let at = 0; at < signs.length; at += 1) {
+        const escapes = signs.charCodeAt(at) === 61;
+        if (escapes) at += 1;
+        held = ((held << 7) | (signs.charCodeAt(at) - (escapes ? 64 : 0))) & 0x7fff;
+        bits += 7;
+        if (bits >= 8) {
+            bits -= 8;
+            octets[count] = held >> bits;
+            count += 1;
+        }
     }
-    return new Uint8Array(octets.buffer, 0, octets.byteLength - missing);
+    return octets.subarray(0, count);
 }
 
 async function compiled(packed) {

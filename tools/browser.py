@@ -54,6 +54,9 @@ PROCESSOR = "lime1"
 STACK = 1 << 20
 # -O3 makes the program a quarter larger, which a browser takes longer to compile, and runs are no faster
 LEVEL = "-O2"
+# the signs of seven bits that a script in a page can't have, or that could end it, and that which stands for them
+ESCAPE = ord("=")
+NO_SIGNS = (0, ord("\r"), ord("<"), ESCAPE)
 # What is changed in the module: a pattern, what stands there then, and whether it has to be there.
 RETARGETED = (
     (r'^target datalayout = .*$',
@@ -203,15 +206,56 @@ def hash_of(text):
     return f"'sha256-{base64.b64encode(hashlib.sha256(text.encode()).digest()).decode()}'"
 
 
+def signs_of(octets):
+    """Returns octets as signs of seven bits each, in the order of their bits: `=` and a sign that is 64 higher stand
+    for each of those that a script in a page can't have, or that could end it.
+    """
+    bits, held, signs = 0, 0, bytearray()
+    for octet in octets + b"\0":
+        held, bits = (held << 8 | octet) & 0x7fff, bits + 8
+        while bits >= 7:
+            bits -= 7
+            signs.append(held >> bits & 0x7f)
+    signs = signs[:-(-len(octets) * 8 // 7)]
+    return b"".join(b"=%c" % (it + 64) if it in NO_SIGNS else b"%c" % it for it in signs).decode("ascii")
+
+
+def octets_of(signs):
+    """Returns the octets of such signs."""
+    bits, held, octets, after = 0, 0, bytearray(), 0
+    for sign in signs.encode("ascii"):
+        if sign == ESCAPE and not after:
+            after = 64
+            continue
+        held, bits, after = (held << 7 | sign - after) & 0x7fff, bits + 7, 0
+        if bits >= 8:
+            bits -= 8
+            octets.append(held >> bits & 0xff)
+    return bytes(octets)
+
+
 def packed(wasm):
-    """Returns the program as it stands in a page: packed, in signs that end no script, since none of them is `/`."""
-    return base64.b85encode(gzip.compress(wasm, 9, mtime=0)).decode()
+    """Returns the program as it stands in a page: packed, by zopfli if it is here, and in signs that end no script."""
+    if shutil.which("zopfli") is None:
+        print("browser: zopfli isn't here: the page is larger by a twentieth", file=sys.stderr)
+        return signs_of(gzip.compress(wasm, 9, mtime=0))
+    with tempfile.NamedTemporaryFile(suffix=".wasm") as file:
+        file.write(wasm)
+        file.flush()
+        return signs_of(subprocess.run(["zopfli", "-c", file.name], stdout=subprocess.PIPE, check=True).stdout)
+
+
+def shortened(text):
+    """Returns scripts or a style without comments and indentation. No text in them has more than a line."""
+    lines = (line.strip() for line in re.sub(r"^ */\*.*?\*/$", "", text, flags=re.M | re.S).split("\n"))
+    return "".join(f"{it}\n" for it in lines if it and not it.startswith("//"))
 
 
 def made_page(text):
     """Makes the page of the program as it stands in it."""
-    parts = {"start": part("start.js"), "style": part("style.css"), "packed": text, "flood": read(EXAMPLE).decode()}
-    parts["script"], parts["worker"] = ("".join(map(part, it)) for it in (SCRIPT, WORKER))
+    parts = {"start": part("start.js"), "style": shortened(part("style.css")), "packed": text,
+             "flood": read(EXAMPLE).decode()}
+    parts["script"], parts["worker"] = (shortened("".join(map(part, it))) for it in (SCRIPT, WORKER))
     for name in ("start", "script", "style"):
         parts[f"{name}_hash"] = hash_of(parts[name])
     ending = [name for name, it in parts.items() if re.search(r"</(script|style)|<!--", it, re.I)]
@@ -222,7 +266,7 @@ def made_page(text):
 
 def packed_in(page):
     """Returns the program as it stands in a page."""
-    found = re.search(r'<script type="text/plain" id="packed">([^/]*)</script>', page.decode())
+    found = re.search(r'<script type="text/plain" id="packed">([^<]*)</script>', page.decode())
     return found[1] if found else ""
 
 
@@ -282,7 +326,7 @@ def check(top=TOP):
         return False
     wasm, page = release.read(WASM), release.read(PAGE)
     text = packed_in(page)
-    are_equal = {"page": gzip.decompress(base64.b85decode(text)) == wasm and made_page(text) == page}
+    are_equal = {"page": gzip.decompress(octets_of(text)) == wasm and made_page(text) == page}
     try:
         are_equal["program"] = made_wasm(top) == wasm
     except Unmade as why:
