@@ -99,7 +99,7 @@ all -> worked
 args live --slots 6 --strict --group 0 --sessions 2 --workers 2
 run -> 0
 all -> worked
-reads 0 80 -> 3 warnc: read failed
+reads 0 60 -> 3 warnc: read failed
 args compile --slots 6 --strict
 writer 10 60
 run -> 3
@@ -114,11 +114,11 @@ all -> worked
 args chart --slots 6 --strict --group 0
 run -> 0
 all -> worked
-reads 0 80 -> 3 warnc: read failed
-writer 10 60
+reads 0 60 -> 3 warnc: read failed
+writer 16 1
 run -> 3
 err -> warnc: write failed
-starts <!DOCTYPE html> -> yes
+out -> <!DOCTYPE html>
 
 # no orders are all done
 in-none
