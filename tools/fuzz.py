@@ -133,7 +133,7 @@ FAULTS = {"page": TEXT_FAULT + "|text is not UTF-8|text is too long", "read": TA
 DIFFERENCE = re.compile(
     rb"\d+,\d+,(?:,,,(?:no tape|other slots|second tape|unknown cell)"
     rb"|\d+,[0-9a-f]{4},\d+,(?:page (?:[1-9]|1[0-5]) reads otherwise"
-    rb"|before its start|after its stop|after its last broadcast|broadcast \d+ not whole|not ordered))")
+    rb"|before its start|after its stop|after its last broadcast|broadcast \d+ (?:not whole|again)|not ordered))")
 CHECK_NAMES = ["row", "line", "column", "field", "value", "says"]
 REMARK_NAMES = ["row", "name", "cell", "says"]
 TEXTS_NAMES = ["row", "name", "lang", "coding", "characters", "pages", "room", "first_ucs2", "place"]

@@ -101,6 +101,21 @@ def differences_of_message(one, sent, slots):
         whole = {number for slot, number, right in sent if right and begin <= slot < due}
         if not set(range(1, len(one.pages) + 1)) <= whole:
             yield due, one.ident, one.serial, 4, turn
+    yield from ((slot, one.ident, one.serial, 6, turn) for turn, slot in pages_again(one, sent, slots))
+
+
+def pages_again(one, sent, slots):
+    """Yields the broadcasts in whose time a right page comes again before the stop, and the slot of the first one."""
+    if one.category == 1:
+        return
+    for turn in range(one.broadcasts or slots):
+        begin, came = one.start + turn * one.period, set()
+        for slot, number, right in sent:
+            if right and begin <= slot < begin + one.period:
+                if number in came and (one.stop is None or slot < one.stop):
+                    yield turn, slot
+                    break
+                came.add(number)
 
 
 def differences_of_cell(asked, sent, slots):
@@ -131,7 +146,7 @@ def shift_of_cell(asked, sent, slots):
     moved = [(slot + shift, *page) for slot, *page in sent if slot + shift >= 0]
     for due, ident, serial, kind, _ in differences_of_cell(asked, moved, slots):
         period = by_name[ident, serial].period if kind == 4 else 0
-        if kind != 4 or first <= due - period and due <= end:
+        if kind not in (4, 6) or kind == 4 and first <= due - period and due <= end:
             return 0
     return shift
 
@@ -141,7 +156,7 @@ def name_of_shift(shift):
 
 
 WORDS = ("page {} reads otherwise", "before its start", "after its stop", "after its last broadcast",
-         "broadcast {} not whole", "not ordered")
+         "broadcast {} not whole", "not ordered", "broadcast {} again")
 
 
 def table_of(cells, asked, tapes, slots):

@@ -1,10 +1,7 @@
--- How many broadcasts of a message came, and which came again in the time of one. Own.
-use Rattle.std.specs.Prelude.{ℕ, ◌-◌, ◌==◌, ◌&&◌, not, nat_le, nat_lt, min, Bool, if◌then◌else◌}
-use Rattle.std.specs.Prelude.{Option, Some, None, List, [], ◌∷◌, ◌++◌, length, count_by, filter, find, fold}
-use Rattle.std.specs.Prelude.{option_map}
-use Rattle.std.specs.List.{list_any, range_with_len}
-use Rattle.verification.specs.Asked.{AskedMessage}
-use Rattle.verification.specs.Difference.{is_in_time, is_past_stop}
+-- How many broadcasts of a message came. Own.
+use Rattle.std.specs.Prelude.{ℕ, ◌-◌, ◌==◌, ◌&&◌, nat_le, nat_lt, min, Bool, if◌then◌else◌}
+use Rattle.std.specs.Prelude.{Option, List, length, count_by, find, fold, option_map}
+use Rattle.std.specs.List.{range_with_len}
 use Rattle.verification.specs.declared.judged.JudgedPage.{JudgedPage}
 
 -- a right page of this number that was sent by a slot
@@ -31,20 +28,3 @@ is_more total broadcasts pages page = nat_lt broadcasts (whole_by total pages pa
 abbrev pub first_more : (total broadcasts : ℕ) → List JudgedPage → Option ℕ
 first_more total broadcasts pages =
     option_map (λ (page : JudgedPage). page.slot) (find (is_more total broadcasts pages) pages)
-
--- a page comes again among these: it is right and not past the stop, and so is an earlier one of its number
-abbrev pub is_same_right : (number : ℕ) → JudgedPage → Bool
-is_same_right number page = (page.number == number) && page.right
-
-abbrev pub comes_again : (stop : Option ℕ) → (before : List JudgedPage) → JudgedPage → Bool
-comes_again stop before page =
-    page.right && (not (is_past_stop stop page.slot) && list_any (is_same_right page.number) before)
-
-abbrev pub again_after : (stop : Option ℕ) → (before pages : List JudgedPage) → Option ℕ
-again_after stop before [] = None
-again_after stop before (page ∷ rest) =
-    if comes_again stop before page then Some page.slot else again_after stop (before ++ page ∷ []) rest
-
--- the slot of the first page that comes again in the time of broadcast j
-abbrev pub again_in : AskedMessage → List JudgedPage → (j : ℕ) → Option ℕ
-again_in a pages j = again_after a.stop [] (filter (is_in_time a j) pages)

@@ -11,7 +11,6 @@ use Rattle.order_verdict.specs.declared.difference.OrderDifference.{OrderDiffere
 -- what a kind of difference is called; a name with a comma stands in quotation marks
 abbrev pub order_kind_text : OrderKind → List ℕ
 order_kind_text (order_kinds.Air kind) = kind_text kind
-order_kind_text (order_kinds.Again broadcast) = codes "broadcast " ++ (decimal broadcast ++ codes " again")
 order_kind_text order_kinds.MoreThanOrdered = codes "more than ordered"
 order_kind_text (order_kinds.Answer told air) =
     codes "\"answer " ++ (decimal told ++ (codes ", air " ++ (decimal air ++ codes "\"")))

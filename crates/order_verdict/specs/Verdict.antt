@@ -1,7 +1,7 @@
 -- What a cell's channel has otherwise than the cell was ordered and answered. Own.
-use Rattle.std.specs.Prelude.{ℕ, ◌+◌, ◌==◌, ◌&&◌, ◌||◌, not, nat_le, nat_lt, Bool, if◌then◌else◌}
+use Rattle.std.specs.Prelude.{ℕ, ◌+◌, ◌==◌, ◌&&◌, ◌||◌, nat_le, Bool, if◌then◌else◌}
 use Rattle.std.specs.Prelude.{Option, Some, None, List, [], ◌∷◌, ◌++◌, length, map, is_none}
-use Rattle.std.specs.List.{flat_map, list_any, range_with_len}
+use Rattle.std.specs.List.{flat_map, list_any}
 use Rattle.std.specs.List.Sorted.{IsPermutation, IsSortedByKey}
 use Rattle.std.specs.Option.{option_to_list}
 use Rattle.cell_orders.specs.declared.row.CellAnswer.{CellAnswer}
@@ -9,8 +9,8 @@ use Rattle.cell_orders.specs.declared.row.CellOrder.{CellOrder}
 use Rattle.cell_orders.specs.declared.row.CellOrder.TheVariants as rows
 use Rattle.cell_orders.specs.declared.row.OrderRow.{OrderRow}
 use Rattle.verification.specs.Asked.{AskedMessage}
-use Rattle.verification.specs.Difference.{SortKey, broadcast_differences, first_difference, key_order, kind_number}
-use Rattle.verification.specs.Difference.{kind_place, page_numbers}
+use Rattle.verification.specs.Difference.{SortKey, again_differences, broadcast_differences, first_difference}
+use Rattle.verification.specs.Difference.{key_order, kind_number, kind_place, page_numbers}
 use Rattle.verification.specs.declared.difference.Difference.{Difference}
 use Rattle.verification.specs.declared.difference.Kind.TheVariants as kinds
 use Rattle.verification.specs.declared.judged.JudgedPage.{JudgedPage}
@@ -18,7 +18,7 @@ use Rattle.order_verdict.specs.declared.difference.OrderKind.{OrderKind}
 use Rattle.order_verdict.specs.declared.difference.OrderKind.TheVariants as order_kinds
 use Rattle.order_verdict.specs.declared.difference.OrderDifference.{OrderDifference}
 use Rattle.order_verdict.specs.Air.{AirOctets, id_in, pages_on_air, serial_in}
-use Rattle.order_verdict.specs.Counts.{again_in, first_more, whole_before}
+use Rattle.order_verdict.specs.Counts.{first_more, whole_before}
 use Rattle.order_verdict.specs.Judged.{is_as_named, own_pages_in}
 use Rattle.order_verdict.specs.Ordered.{OrderedMessage, ordered_in, row_slot}
 
@@ -37,22 +37,12 @@ air_differences slots m pages =
     ++ first_difference m.late pages kinds.AfterStop
     ++ first_difference m.late pages kinds.AfterLast
     ++ broadcast_differences slots m.late pages
+    ++ again_differences slots m.late pages
 
--- a page of a broadcast that was requested comes again in its time
-abbrev pub is_requested : AskedMessage → (j : ℕ) → Bool
-is_requested a j = not a.background && ((a.broadcasts == 0) || nat_lt j a.broadcasts)
-
+-- more broadcasts come than were requested
 abbrev pub at_slot : AskedMessage → OrderKind → (slot : ℕ) → OrderDifference
 at_slot a kind slot = difference_at slot a.id a.serial kind
 
-abbrev pub again_difference : AskedMessage → List JudgedPage → (j : ℕ) → List OrderDifference
-again_difference a pages j =
-    if is_requested a j then map (at_slot a (order_kinds.Again j)) (option_to_list (again_in a pages j)) else []
-
-abbrev pub again_differences : (slots : ℕ) → AskedMessage → List JudgedPage → List OrderDifference
-again_differences slots a pages = flat_map (again_difference a pages) (range_with_len 0 slots)
-
--- more broadcasts come than were requested
 abbrev pub more_differences : AskedMessage → List JudgedPage → List OrderDifference
 more_differences a pages =
     if a.broadcasts == 0 then []
@@ -80,7 +70,6 @@ told_differences slots delay m pages = told_differences_by slots delay m.late pa
 abbrev pub ordered_differences : (slots delay : ℕ) → OrderedMessage → List JudgedPage → List OrderDifference
 ordered_differences slots delay m pages =
     map of_air (air_differences slots m pages)
-    ++ again_differences slots m.late pages
     ++ more_differences m.late pages
     ++ told_differences slots delay m pages
 
@@ -126,14 +115,12 @@ all_order_differences slots delay rows air =
 -- their order: by slot, identifier, serial number and kind, and by the number of the page, broadcast or answer
 abbrev pub order_place : OrderKind → ℕ
 order_place (order_kinds.Air kind) = kind_place kind
-order_place (order_kinds.Again broadcast) = 6
 order_place order_kinds.MoreThanOrdered = 7
 order_place (order_kinds.Answer told air) = 8
 order_place order_kinds.NoAnswer = 9
 
 abbrev pub order_number : OrderKind → ℕ
 order_number (order_kinds.Air kind) = kind_number kind
-order_number (order_kinds.Again broadcast) = broadcast
 order_number order_kinds.MoreThanOrdered = 0
 order_number (order_kinds.Answer told air) = told
 order_number order_kinds.NoAnswer = 0

@@ -9,14 +9,9 @@ use verification::{Difference, Kind};
 /// What isn't as it was ordered or answered.
 #[derive(Clone, Copy, Debug, PartialEq, Eq)]
 pub enum OrderKind {
-    /// A page or a broadcast isn't as the order asks: it comes as another, too early, too late, not at all, or without
-    /// an order.
+    /// A page or a broadcast isn't as the order asks: it comes as another, too early, too late, again, not at all, or
+    /// without an order.
     Air(Kind),
-    /// A page comes again in the time of this broadcast.
-    Again {
-        /// The broadcast, from 0.
-        broadcast: u16,
-    },
     /// More whole broadcasts come than were requested.
     MoreThanOrdered,
     /// The answer that ended the message says another number of broadcasts than came.
@@ -50,7 +45,6 @@ impl OrderKind {
     {
         match self {
             OrderKind::Air(kind) => kind.place(),
-            OrderKind::Again { broadcast } => (6, broadcast),
             OrderKind::MoreThanOrdered => (7, 0),
             OrderKind::Answer { told, .. } => (8, told),
             OrderKind::NoAnswer => (9, 0),

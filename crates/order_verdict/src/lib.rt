@@ -6,7 +6,6 @@
 //! [`differences_text`] makes a table of them, and [`lags_text`] one of how late each message comes and ends.
 #![tactic(auto)]
 
-mod again;
 mod air;
 mod counts;
 mod difference;

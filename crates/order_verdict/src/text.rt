@@ -18,7 +18,6 @@ fn order_kind_text(alloc: Global, kind: OrderKind) -> Result<String, AllocError>
 {
     match kind {
         OrderKind::Air(kind) => kind_text(alloc, kind),
-        OrderKind::Again { broadcast } => format!(in alloc; "broadcast {broadcast} again"),
         OrderKind::MoreThanOrdered => String::from_str(alloc, "more than ordered"),
         OrderKind::Answer { told, air } => format!(in alloc; "\"answer {told}, air {air}\""),
         OrderKind::NoAnswer => String::from_str(alloc, "no answer"),

@@ -5,23 +5,27 @@ ghost use Rattle.std.specs.List.{flat_map};
 ghost use Rattle.std.specs.List.Sorted.{IsPermutation, IsSortedByKey};
 ghost use Rattle.order_verdict.specs.Judged.{own_pages_in};
 ghost use Rattle.order_verdict.specs.Kept.{air_kept, ordered_kept};
-ghost use Rattle.order_verdict.specs.Verdict.{air_differences, all_order_differences, more_differences, of_air};
+ghost use Rattle.order_verdict.specs.Verdict.{air_differences, all_order_differences, at_slot, more_differences};
+ghost use Rattle.order_verdict.specs.Verdict.{of_air};
 ghost use Rattle.order_verdict.specs.Verdict.{ordered_differences, told_differences, told_differences_by};
 ghost use Rattle.order_verdict.specs.Verdict.{AreOrderDifferences};
 ghost use Rattle.verification.specs.Difference.{first_difference, page_numbers};
 ghost use Rattle.verification.specs.Kept.{asked_kept};
 ghost use Rattle.verification.specs.declared.difference.Kind.TheVariants as kinds;
 
-use crate::again::{at_slot, push_again_differences};
 use crate::air::{AirPage, pages_on_air};
 use crate::counts::{first_more, whole_before};
 use crate::difference::{OrderDifference, OrderKind};
 use crate::judged::own_pages;
 use crate::ordered::{Ordered, ordered_messages};
 use crate::unordered::{push_all_unanswered, push_all_unordered};
+use cbs_page::Serial;
 use cell_orders::OrderRow;
 use std::alloc::{AllocError, Global};
-use verification::{Asked, Difference, JudgedPage, Kind, push_broadcast_differences, push_first};
+use verification::{
+    Asked, Difference, JudgedPage, Kind, push_again_differences, push_broadcast_differences,
+    push_first,
+};
 
 /// The most pages of a message.
 const MAX_PAGES: u8 = cbs_page::MAX_PAGES as u8;
@@ -57,7 +61,8 @@ fn push_air_differences(
     push_first(found, &ordered.early, pages, Kind::BeforeStart)?;
     push_first(found, &ordered.late, pages, Kind::AfterStop)?;
     push_first(found, &ordered.late, pages, Kind::AfterLast)?;
-    push_broadcast_differences(found, slots, &ordered.late, pages)
+    push_broadcast_differences(found, slots, &ordered.late, pages)?;
+    push_again_differences(found, slots, &ordered.late, pages)
 }
 
 /// Appends differences of pages and broadcasts. The only error is out of memory.
@@ -71,6 +76,18 @@ fn push_all_of_air(
         found.push(OrderDifference::of_air(difference))?;
     }
     Ok(())
+}
+
+/// A difference of a message at a slot.
+fn at_slot(asked: &Asked, kind: OrderKind, slot: usize) -> OrderDifference
+    ensures { result ≡ at_slot (asked_kept asked.now) kind slot }
+{
+    OrderDifference {
+        slot,
+        id: asked.id,
+        serial: Serial::of(asked.serial),
+        kind,
+    }
 }
 
 /// Appends the difference of a message of which more broadcasts come than were requested. The only error is out of
@@ -152,7 +169,6 @@ fn push_message(
     let mut differences = Vec::new(alloc);
     push_air_differences(&mut differences, slots, ordered, pages)?;
     push_all_of_air(found, &differences)?;
-    push_again_differences(found, slots, &ordered.late, pages)?;
     push_more(found, &ordered.late, pages)?;
     push_told(found, slots, delay, ordered, pages)
 }

@@ -1,5 +1,6 @@
 pub mod ListLaws
 pub mod OwedLaws
+pub mod AgainLaws
 pub mod NameLaws
 pub mod SentLaws
 pub mod TimeLaws

@@ -61,6 +61,13 @@ flat_map-dropped see f xs i x within is =
     ap (λ ys. flat_map f (map see ys)) (dropped xs i x within is)
     ∙ flat_map-cons f (see x) (map see (drop (i + 1) xs))
 
+-- three lists that were added one after another
+pub three-joined : {X : Type 0} (start a b c one two three : List X) → one ≡ start ++ a → two ≡ one ++ b →
+    three ≡ two ++ c → three ≡ start ++ ((a ++ b) ++ c)
+three-joined start a b c one two three is_one is_two is_three =
+    is_three ∙ ap (λ xs. xs ++ c) (is_two ∙ ap (λ xs. xs ++ b) is_one)
+    ∙ ap (λ xs. xs ++ c) (append_assoc start a b) ∙ append_assoc start (a ++ b) c
+
 -- four lists that were added one after another
 pub four-joined : {X : Type 0} (start a b c d one two three four : List X) → one ≡ start ++ a → two ≡ one ++ b →
     three ≡ two ++ c → four ≡ three ++ d → four ≡ start ++ (((a ++ b) ++ c) ++ d)

@@ -14,6 +14,7 @@ use Rattle.cbs_page.specs.declared.octets.PageView.{PageView}
 use Rattle.handset.specs.Reception.{page_in_front}
 use Rattle.verification.specs.declared.judged.JudgedPage.{JudgedPage}
 use Rattle.verification.specs.declared.sent.SentPage.{SentPage}
+use Rattle.verification.specs.AgainSteps.{is_from}
 use Rattle.verification.specs.Asked.{AskedMessage, is_page_of}
 use Rattle.verification.specs.Difference.{due_slot, has_page, is_in_time, release_slot}
 use Rattle.verification.specs.Judged.{judged, judged_in}
@@ -116,6 +117,36 @@ between-points a j first count pages within also early begun inside late =
     just-in-time (release_slot a j) (due_slot a j) (get_or (drop first pages) k d).slot began (inside k d low high))
     (λ k d low high. too-late (release_slot a j) (due_slot a j) (get_or (drop first pages) k d).slot
     (late k d low high))
+
+-- all are kept of what passes the test throughout
+filter-whole : {X : Type 0} (p : X → Bool) (xs : List X) → AllWithin (λ x. p x ≡ true) xs 0 (length xs) →
+    filter p xs ≡ xs
+filter-whole p [] passes = refl
+filter-whole p (x ∷ xs) passes =
+    ap (λ here. cond here (x ∷ filter p xs) (filter p xs)) (passes 0 x (omega arith) (omega arith))
+    ∙ ap (λ ys. x ∷ ys) (filter-whole p xs (λ k d low high. passes (suc k) d (omega arith) (omega arith)))
+
+-- which pages come from a broadcast on, by where their slots stand
+comes-before : (release_slot slot : ℕ) → nat_lt slot release_slot ≡ true → nat_le release_slot slot ≡ false
+comes-before release_slot slot early = grind (arith, nat_tests)
+
+comes-from : (release_slot slot : ℕ) → nat_lt slot release_slot ≡ false → nat_le release_slot slot ≡ true
+comes-from release_slot slot begun = grind (arith, nat_tests)
+
+-- the pages from a broadcast on stand from a place on
+pub from-point : (a : AskedMessage) (j first : ℕ) (pages : List JudgedPage) → first ≤ length pages →
+    AllWithin (λ (p : JudgedPage). nat_lt p.slot (release_slot a j) ≡ true) pages 0 first →
+    AllWithin (λ (p : JudgedPage). nat_lt p.slot (release_slot a j) ≡ false) pages first (length pages) →
+    drop first pages ≡ filter (is_from a j) pages
+from-point a j first pages within early begun =
+    sym (filter-fails (is_from a j) first pages
+    (λ k d low high. comes-before (release_slot a j) (get_or pages k d).slot (early k d low high))
+    ∙ filter-whole (is_from a j) (drop first pages)
+    (λ k d low high.
+    let at : get_or (drop first pages) k d ≡ get_or pages (first + k) d = get_or-drop first pages k d in
+    let began : nat_lt (get_or (drop first pages) k d).slot (release_slot a j) ≡ false =
+    rw at (begun (first + k) d (omega arith) (omega (arith, length-drop first pages))) in
+    comes-from (release_slot a j) (get_or (drop first pages) k d).slot began))
 
 -- the slots of the pages that a tape sends never fall
 front-from : (place : ℕ) (pages : List PageView) → All (λ (s : SentPage). place / 4 ≤ s.slot)

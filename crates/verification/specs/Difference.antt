@@ -1,6 +1,6 @@
 -- The differences between what a cell was asked to broadcast and what its tape sends (own).
 use Rattle.std.specs.Prelude.{ℕ, ◌+◌, ◌*◌, Bool, true, false, not, ◌==◌, ◌&&◌, ◌||◌, nat_lt, nat_le}
-use Rattle.std.specs.Prelude.{if◌then◌else◌, Option, Some, None, List, [], ◌∷◌, ◌++◌, length, map, find}
+use Rattle.std.specs.Prelude.{if◌then◌else◌, Option, Some, None, List, [], ◌∷◌, ◌++◌, length, map, filter, find}
 use Rattle.std.specs.List.{flat_map, list_all, list_any, range_with_len}
 use Rattle.std.specs.List.Sorted.{IsPermutation, IsSortedByKey}
 use Rattle.std.specs.Option.{option_map, option_to_list}
@@ -35,6 +35,7 @@ differs a kinds.AfterStop page = is_past_stop a.stop page.slot
 differs a kinds.AfterLast page = is_over a page.slot && not (is_past_stop a.stop page.slot)
 differs a (kinds.NotWhole broadcast) page = false
 differs a kinds.NotOrdered page = false
+differs a (kinds.Again broadcast) page = false
 
 abbrev pub difference_of : AskedMessage → Kind → (slot : ℕ) → Difference
 difference_of a kind slot = record { slot = slot; id = a.id; serial = a.serial; kind = kind }
@@ -93,9 +94,39 @@ abbrev pub broadcast_differences : (slots : ℕ) → AskedMessage → List Judge
 broadcast_differences slots a pages =
     if a.background then [] else flat_map (broadcast_difference slots a pages) (range_with_len 0 slots)
 
+-- a page comes again after some: it is right and not past the stop, and so is one of them with its number
+abbrev pub is_same_right : (number : ℕ) → JudgedPage → Bool
+is_same_right number page = (page.number == number) && page.right
+
+abbrev pub comes_again : (stop : Option ℕ) → (before : List JudgedPage) → JudgedPage → Bool
+comes_again stop before page =
+    page.right && (not (is_past_stop stop page.slot) && list_any (is_same_right page.number) before)
+
+-- the slot of the first of some pages that comes again, after those that came before
+abbrev pub again_after : (stop : Option ℕ) → (before pages : List JudgedPage) → Option ℕ
+again_after stop before [] = None
+again_after stop before (page ∷ rest) =
+    if comes_again stop before page then Some page.slot else again_after stop (before ++ page ∷ []) rest
+
+-- that of the first page that comes again in the time of broadcast j, in which each page is sent once
+abbrev pub again_in : AskedMessage → List JudgedPage → (j : ℕ) → Option ℕ
+again_in a pages j = again_after a.stop [] (filter (is_in_time a j) pages)
+
+-- a broadcast was requested, and may claim its time: a background message has none of its own
+abbrev pub is_requested : AskedMessage → (j : ℕ) → Bool
+is_requested a j = not a.background && ((a.broadcasts == 0) || nat_lt j a.broadcasts)
+
+abbrev pub again_difference : AskedMessage → List JudgedPage → (j : ℕ) → List Difference
+again_difference a pages j =
+    if is_requested a j then map (difference_of a (kinds.Again j)) (option_to_list (again_in a pages j)) else []
+
+abbrev pub again_differences : (slots : ℕ) → AskedMessage → List JudgedPage → List Difference
+again_differences slots a pages = flat_map (again_difference a pages) (range_with_len 0 slots)
+
 -- the differences of a message of which these pages were sent
 abbrev pub message_differences : (slots : ℕ) → AskedMessage → List JudgedPage → List Difference
-message_differences slots a pages = page_differences a pages ++ broadcast_differences slots a pages
+message_differences slots a pages =
+    page_differences a pages ++ broadcast_differences slots a pages ++ again_differences slots a pages
 
 -- two pages have one identifier and serial number
 abbrev pub is_named_as : PageView → SentPage → Bool
@@ -126,6 +157,7 @@ kind_place kinds.AfterStop = 2
 kind_place kinds.AfterLast = 3
 kind_place (kinds.NotWhole broadcast) = 4
 kind_place kinds.NotOrdered = 5
+kind_place (kinds.Again broadcast) = 6
 
 abbrev pub kind_number : Kind → ℕ
 kind_number (kinds.Otherwise number) = number
@@ -134,6 +166,7 @@ kind_number kinds.AfterStop = 0
 kind_number kinds.AfterLast = 0
 kind_number (kinds.NotWhole broadcast) = broadcast
 kind_number kinds.NotOrdered = 0
+kind_number (kinds.Again broadcast) = broadcast
 
 abbrev pub SortKey : Type 0
 SortKey = ℕ × ℕ × ℕ × ℕ × ℕ

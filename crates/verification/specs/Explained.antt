@@ -96,11 +96,14 @@ arrived_text [] total = codes "nothing"
 arrived_text (number ∷ more) total =
     codes "pages" ++ (flat_map (λ n. codes " " ++ decimal n) (number ∷ more) ++ (codes " of " ++ decimal total))
 
--- a broadcast that isn't whole: the slots from its release to the last before it is due, and which pages came in them
+-- the slots of a broadcast: from its release to the last before it is due
+abbrev pub slots_text : AskedMessage → (j : ℕ) → List ℕ
+slots_text a j = codes "slots " ++ (decimal (release_slot a j) ++ (codes " to " ++ decimal (due_slot a j - 1)))
+
+-- a broadcast that isn't whole: its slots, and which pages came in them
 abbrev pub explained_broadcast : AskedMessage → List JudgedPage → (j : ℕ) → Explanation
 explained_broadcast a pages j =
-    explanation (kind_text (kinds.NotWhole j))
-    (codes "slots " ++ (decimal (release_slot a j) ++ (codes " to " ++ decimal (due_slot a j - 1))))
+    explanation (kind_text (kinds.NotWhole j)) (slots_text a j)
     (arrived_text (pages_arrived a pages j) (length a.contents))
 
 -- a broadcast is lost: it is owed, it isn't whole, and none of its pages came right
@@ -134,11 +137,13 @@ explained_broadcasts slots a pages j =
     else explained_loss a pages j (next_kept slots a pages j) ∷ [])
     else explained_broadcast a pages j ∷ []
 
--- from which slot a message's pages are allowed, or the first from which they aren't any more
+-- from which slot a message's pages are allowed, or the first from which they aren't any more, or in which slots a
+-- page is to come once
 abbrev pub limit_text : AskedMessage → Kind → List ℕ
 limit_text a kinds.BeforeStart = from_text a.start
 limit_text a kinds.AfterStop = option_map_or up_to_text a.stop []
 limit_text a kinds.AfterLast = up_to_text (end_slot a)
+limit_text a (kinds.Again j) = codes "once in " ++ slots_text a j
 limit_text a kind = []
 
 -- what is told of a difference of a message, of which these pages were sent; `sent` is the page that came

@@ -2,6 +2,7 @@ pub mod Asked
 pub mod Sent
 pub mod Judged
 pub mod Difference
+pub mod AgainSteps
 pub mod Kept
 pub mod Came
 pub mod ByName

@@ -25,6 +25,7 @@ kind_text kinds.AfterStop = codes "after its stop"
 kind_text kinds.AfterLast = codes "after its last broadcast"
 kind_text (kinds.NotWhole broadcast) = codes "broadcast " ++ (decimal broadcast ++ codes " not whole")
 kind_text kinds.NotOrdered = codes "not ordered"
+kind_text (kinds.Again broadcast) = codes "broadcast " ++ (decimal broadcast ++ codes " again")
 
 -- the identifier, the serial number, the slot and the difference; a finding of a whole cell has only the last
 abbrev pub difference_text : Difference → List ℕ

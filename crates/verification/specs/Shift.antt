@@ -77,20 +77,22 @@ abbrev pub has_slots : (slots : ℕ) → Shift → (first end : ℕ) → Bool
 has_slots slots (shifts.Early early) first end = nat_le early first
 has_slots slots (shifts.Late late) first end = nat_le end (slots - late)
 
--- a difference isn't only that the tape has no whole period of a broadcast
+-- a difference isn't only that the tape has no whole period of a broadcast, or that a page comes again: a sender that
+-- sends too often may be late, too
 abbrev pub has_period : (slots : ℕ) → Shift → Option AskedMessage → (j : ℕ) → Bool
 has_period slots shift None j = true
 has_period slots shift (Some a) j = has_slots slots shift (release_slot a j) (due_slot a j)
 
 abbrev pub is_left_of : (slots : ℕ) → Shift → Option AskedMessage → Kind → Bool
 is_left_of slots shift message (kinds.NotWhole j) = has_period slots shift message j
+is_left_of slots shift message (kinds.Again j) = false
 is_left_of slots shift message kind = true
 
 abbrev pub is_left : (slots : ℕ) → List AskedMessage → Shift → Difference → Bool
 is_left slots asked shift d = is_left_of slots shift (find (is_message_of d) asked) d.kind
 
 -- all pages of a tape are shifted: without the shift no difference is left, but of broadcasts of which the tape has no
--- whole period
+-- whole period, and of pages that come again
 abbrev pub are_shifted : (slots : ℕ) → List AskedMessage → List SentPage → Shift → Bool
 are_shifted slots asked sent shift =
     not (list_any (is_left slots asked shift) (all_differences slots asked (unshifted shift sent)))

@@ -9,6 +9,7 @@ ghost use Rattle.verification.specs.Difference.{sort_key};
 ghost use Rattle.verification.specs.Judged.{judged_in};
 ghost use Rattle.verification.specs.Kept.{asked_kept};
 
+use crate::again::push_again_differences;
 use crate::asked::{Asked, asked_messages};
 use crate::broadcasts::push_broadcast_differences;
 use crate::difference::Difference;
@@ -35,6 +36,7 @@ fn push_messages(
         let pages = judged_pages(alloc, asked, sent)?;
         push_page_differences(found, asked, &pages)?;
         push_broadcast_differences(found, slots, asked, &pages)?;
+        push_again_differences(found, slots, asked, &pages)?;
     }
     Ok(())
 }

@@ -27,6 +27,11 @@ pub enum Kind {
     },
     /// A page is sent whose identifier and serial number are those of no message that the cell accepted.
     NotOrdered,
+    /// A page of the message is sent twice, as it was asked, in the time of this broadcast.
+    Again {
+        /// The broadcast, from 0.
+        broadcast: u16,
+    },
 }
 
 /// A difference, at the slot at which it shows.
@@ -54,6 +59,7 @@ impl Kind {
             Kind::AfterLast => (3, 0),
             Kind::NotWhole { broadcast } => (4, broadcast),
             Kind::NotOrdered => (5, 0),
+            Kind::Again { broadcast } => (6, broadcast),
         }
     }
 }

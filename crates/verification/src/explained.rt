@@ -17,7 +17,7 @@ use crate::asked::{Asked, asked_messages};
 use crate::came::{Came, message_of, messages_with_pages};
 use crate::difference::{Difference, Kind};
 use crate::lines::{shift_line, told_line};
-use crate::lost::explained_broadcasts;
+use crate::lost::{explained_broadcasts, slots_text};
 use crate::page_fields::{explained_page, field_of, octets_sent};
 use crate::sent::{sent_pages, sort_by_name};
 use crate::shift::{any_is_untimely, shift_of};
@@ -77,7 +77,7 @@ fn explained_sent(
 }
 
 /// From which slot a message's pages are allowed, or up to which: that of its start, its stop or its end, as the kind
-/// of the difference is. The only error is out of memory.
+/// of the difference is; or in which slots a page is to come once. The only error is out of memory.
 fn limit_text(alloc: Global, asked: &Asked, kind: Kind) -> Result<String, AllocError>
     ensures { IfOk result (λ text. string_bytes text ≡ limit_text (asked_kept asked.now) kind) }
 {
@@ -97,6 +97,10 @@ fn limit_text(alloc: Global, asked: &Asked, kind: Kind) -> Result<String, AllocE
         Kind::Otherwise { .. } => Ok(String::new(alloc)),
         Kind::NotWhole { .. } => Ok(String::new(alloc)),
         Kind::NotOrdered => Ok(String::new(alloc)),
+        Kind::Again { broadcast } => {
+            let slots = slots_text(alloc, asked, broadcast)?;
+            format!(in alloc; "once in {slots}")
+        }
     }
 }
 

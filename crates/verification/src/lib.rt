@@ -4,6 +4,7 @@
 //! lists what isn't as it was asked. `specs/Difference.antt` says which differences these are.
 #![tactic(auto)]
 
+mod again;
 mod asked;
 mod broadcasts;
 mod came;
@@ -25,6 +26,7 @@ mod shift;
 mod text;
 mod timed;
 
+pub use again::push_again_differences;
 pub use asked::Asked;
 pub use broadcasts::push_broadcast_differences;
 pub use cell::differences;

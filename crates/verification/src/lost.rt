@@ -6,6 +6,7 @@ ghost use Rattle.std.specs.List.{flat_map};
 ghost use Rattle.std.specs.Option.{option_to_list};
 ghost use Rattle.verification.specs.Explained.{arrived_text, explained_broadcast, explained_broadcasts};
 ghost use Rattle.verification.specs.Explained.{explained_loss, has_some, is_lost, next_kept, pages_arrived};
+ghost use Rattle.verification.specs.Explained.{slots_text};
 ghost use Rattle.verification.specs.Kept.{asked_kept};
 
 use crate::asked::Asked;
@@ -98,6 +99,15 @@ fn arrived_text(alloc: Global, numbers: &[usize], total: usize) -> Result<String
     format!(in alloc; "pages{came} of {total}")
 }
 
+/// The slots of a broadcast. The only error is out of memory.
+pub(crate) fn slots_text(alloc: Global, asked: &Asked, broadcast: u16) -> Result<String, AllocError>
+    ensures { IfOk result (λ text. string_bytes text ≡ slots_text (asked_kept asked.now) broadcast) }
+{
+    let release = asked.release(broadcast);
+    let last = asked.due(broadcast).saturating_sub(1);
+    format!(in alloc; "slots {release} to {last}")
+}
+
 /// What is told of a broadcast that isn't whole. The only error is out of memory.
 fn explained_broadcast(
     alloc: Global,
@@ -109,11 +119,9 @@ fn explained_broadcast(
     ensures { IfOk result (λ told. told ≡ explained_broadcast (asked_kept asked.now) pages.now broadcast) }
 {
     let numbers = asked.pages_arrived(alloc, pages, broadcast)?;
-    let release = asked.release(broadcast);
-    let last = asked.due(broadcast).saturating_sub(1);
     Ok(Explanation {
         difference: kind_text(alloc, Kind::NotWhole { broadcast })?,
-        expected: format!(in alloc; "slots {release} to {last}")?,
+        expected: slots_text(alloc, asked, broadcast)?,
         got: arrived_text(alloc, &numbers, asked.pages())?,
     })
 }

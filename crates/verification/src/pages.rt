@@ -38,6 +38,7 @@ impl<'a> Asked<'a> {
             Kind::AfterLast => self.is_over(page.slot) && !self.is_stopped(page.slot),
             Kind::NotWhole { .. } => false,
             Kind::NotOrdered => false,
+            Kind::Again { .. } => false,
         }
     }
 

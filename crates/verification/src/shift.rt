@@ -129,7 +129,8 @@ impl Shift {
         }
     }
 
-    /// Whether a difference is another one than that the tape has no whole period of a broadcast.
+    /// Whether a difference is another one than that the tape has no whole period of a broadcast, or that a page comes
+    /// again.
     fn is_left(self, slots: u16, came: &[Came], difference: &Difference) -> bool
         ensures { result ≡ is_left slots (map came_asked came.now) self difference.now }
     {
@@ -137,6 +138,7 @@ impl Shift {
             Kind::NotWhole { broadcast } => {
                 self.has_period(slots, message_of(came, difference), broadcast)
             }
+            Kind::Again { .. } => false,
             _ => true,
         }
     }
@@ -256,7 +258,7 @@ impl Kind {
             Kind::AfterLast => true,
             Kind::Otherwise { .. } => false,
             Kind::NotWhole { .. } => false,
-            Kind::NotOrdered => false,
+            Kind::NotOrdered | Kind::Again { .. } => false,
         }
     }
 }

@@ -26,6 +26,7 @@ pub fn kind_text(alloc: Global, kind: Kind) -> Result<String, AllocError>
         Kind::AfterLast => String::from_str(alloc, "after its last broadcast"),
         Kind::NotWhole { broadcast } => format!(in alloc; "broadcast {broadcast} not whole"),
         Kind::NotOrdered => String::from_str(alloc, "not ordered"),
+        Kind::Again { broadcast } => format!(in alloc; "broadcast {broadcast} again"),
     }
 }
 

@@ -4,6 +4,7 @@ pub mod RightPages
 pub mod Lists
 pub mod OwnMessage
 pub mod OwedPages
+pub mod OwnAgain
 pub mod OwnTapes
 pub mod OwnRuns
 pub mod NoOthers

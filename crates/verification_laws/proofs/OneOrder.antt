@@ -31,7 +31,8 @@ kind_from place number =
     (cond (place == 1) kinds.BeforeStart
     (cond (place == 2) kinds.AfterStop
     (cond (place == 3) kinds.AfterLast
-    (cond (place == 4) (kinds.NotWhole number) kinds.NotOrdered))))
+    (cond (place == 4) (kinds.NotWhole number)
+    (cond (place == 5) kinds.NotOrdered (kinds.Again number))))))
 
 kind_again : (kind : Kind) → kind_from (kind_place kind) (kind_number kind) ≡ kind
 kind_again (kinds.Otherwise number) = refl
@@ -40,6 +41,7 @@ kind_again kinds.AfterStop = refl
 kind_again kinds.AfterLast = refl
 kind_again (kinds.NotWhole broadcast) = refl
 kind_again kinds.NotOrdered = refl
+kind_again (kinds.Again broadcast) = refl
 
 abbrev made : (slot id serial place number : ℕ) → Difference
 made slot id serial place number = record { slot = slot; id = id; serial = serial; kind = kind_from place number }

@@ -7,7 +7,6 @@ use Rattle.slot_times.specs.declared.start.Start.{Start}
 use Rattle.bsc_table.specs.Record.{Record}
 use Rattle.verification.specs.declared.detail.Detail.{Detail}
 use Rattle.verification.specs.declared.detail.Detail.TheVariants as detail
-use Rattle.verification.specs.declared.detail.TableLayout.{TableLayout}
 use Rattle.verification.specs.declared.row.Row.{Row}
 use Rattle.verification.specs.Rows.{AreRows, AreRowsOfCells, is_tape_of, other_rows}
 use Rattle.verification.specs.Table.{AreLinesOfCells, IsExplained, IsTextWith, explained_header}

@@ -37,12 +37,12 @@ abbrev pub sent_by_air : Record → List SentPage
 sent_by_air r = in_slots 0 (map (page_aired r.log) r.air)
 
 -- the slots of a broadcast are the same by both
-release-is : (log : List _) (a : AskedMessage) (b : Accepted) (j : ℕ) → IsComing log [] a b →
+pub release-is : (log : List _) (a : AskedMessage) (b : Accepted) (j : ℕ) → IsComing log [] a b →
     wanted.release_slot a j ≡ release b.message j
 release-is log a b j same =
     ap (λ start. start + j * a.period) same.start_is ∙ ap (λ period. b.message.start + j * period) same.period_is
 
-due-is : (log : List _) (a : AskedMessage) (b : Accepted) (j : ℕ) → IsComing log [] a b →
+pub due-is : (log : List _) (a : AskedMessage) (b : Accepted) (j : ℕ) → IsComing log [] a b →
     wanted.due_slot a j ≡ due b.message j
 due-is log a b j same =
     ap (λ start. start + (j + 1) * a.period) same.start_is

@@ -1,6 +1,6 @@
 -- Of blocks without a difference a handset shows each message that was owed a broadcast, with its text.
 use Rattle.std.proofs.Common.{◌≡◌, ℕ, ◌+◌, ◌*◌, ◌<◌, ◌≤◌, Bool, true, false, not}
-use Rattle.std.proofs.Common.{List, [], ◌∷◌, length, refl, sym, ap, subst}
+use Rattle.std.proofs.Common.{List, [], ◌∷◌, ◌++◌, length, refl, sym, ap, subst}
 use Rattle.std.proofs.Common.{◌∙◌}
 use Rattle.std.proofs.Common.{arith, leb-true}
 use Rattle.std.specs.Prelude.{◌&&◌, ◌||◌, ◌==◌, nat_le, nat_lt, if◌then◌else◌}
@@ -15,8 +15,8 @@ use Rattle.verification.specs.declared.difference.Difference.{Difference}
 use Rattle.verification.specs.declared.difference.Kind.TheVariants as kinds
 use Rattle.verification.specs.declared.judged.JudgedPage.{JudgedPage}
 use Rattle.verification.specs.Asked.{AskedMessage, asked_of_log}
-use Rattle.verification.specs.Difference.{broadcast_difference, broadcast_differences, difference_of, due_slot}
-use Rattle.verification.specs.Difference.{has_page, is_by, is_owed, is_whole, message_differences}
+use Rattle.verification.specs.Difference.{again_differences, broadcast_difference, broadcast_differences, difference_of}
+use Rattle.verification.specs.Difference.{due_slot, has_page, is_by, is_owed, is_whole, message_differences}
 use Rattle.verification.specs.Difference.{page_differences}
 use Rattle.verification.specs.Judged.{judged_in}
 use Rattle.verification.specs.Sent.{sent_in}
@@ -48,8 +48,11 @@ was-read : (laws : Laws) (r : Record) (blocks : List (List ℕ)) → IsLegal r �
     message_differences r.slots a (judged_in a (sent_in blocks)) ≡ [] → a.background ≡ false →
     is_owed r.slots a 0 ≡ true → IsRead a (pages_named (name_asked a) (readable_pages blocks))
 was-read laws r blocks legal a asked none front owed =
+    let all = none-joined (page_differences a (judged_in a (sent_in blocks))
+    ++ broadcast_differences r.slots a (judged_in a (sent_in blocks)))
+    (again_differences r.slots a (judged_in a (sent_in blocks))) none in
     let both = none-joined (page_differences a (judged_in a (sent_in blocks)))
-    (broadcast_differences r.slots a (judged_in a (sent_in blocks))) none in
+    (broadcast_differences r.slots a (judged_in a (sent_in blocks))) all.0 in
     let load = All-contains HasLoad (accepted_in r.log) asked.accepted (laws.accepted_have_loads r legal) asked.there in
     let long = asked.same.long in
     let period = asked.same.period_is in

@@ -21,13 +21,14 @@ use Rattle.verification.specs.declared.difference.Difference.{Difference}
 use Rattle.verification.specs.declared.difference.Kind.TheVariants as kinds
 use Rattle.verification.specs.declared.sent.SentPage.{SentPage}
 use Rattle.verification.specs.Asked.{AskedMessage, asked_of_log, is_page_of_any, is_page_of}
-use Rattle.verification.specs.Difference.{all_differences, broadcast_differences, is_named_as}
+use Rattle.verification.specs.Difference.{again_differences, all_differences, broadcast_differences, is_named_as}
 use Rattle.verification.specs.Difference.{message_differences, not_ordered_after}
 use Rattle.verification.specs.Judged.{judged_in}
 use Rattle.verification.specs.Sent.{sent_in}
 use Rattle.verification_laws.specs.OwnTapes.{NothingIsFound, OwnTapesDifferNowhere}
 use Rattle.verification_laws.proofs.AskedOf.{IsAsked, all_asked, asked_are_accepted, some_asked}
 use Rattle.verification_laws.proofs.OwedPages.{broadcasts-keep, sent_by_air}
+use Rattle.verification_laws.proofs.OwnAgain.{again-keeps}
 use Rattle.verification_laws.proofs.OwnMessage.{own-kept}
 use Rattle.verification_laws.proofs.RightPages.{all-judged, pages-keep}
 use Rattle.verification_laws.proofs.Slots.{IsOwn, all_own, sent_of_slots}
@@ -55,11 +56,14 @@ message-keeps : (laws : Laws) (once : LegalPagesAreAiredOnce) (r : Record) → I
     AreSound r.log → (a : AskedMessage) → IsAsked r.log (accepted_in r.log) a →
     message_differences r.slots a (judged_in a (sent_by_air r)) ≡ []
 message-keeps laws once r legal ended sound a asked =
-    ap (λ ds. ds ++ broadcast_differences r.slots a (judged_in a (sent_by_air r)))
+    ap (λ ds. (ds ++ broadcast_differences r.slots a (judged_in a (sent_by_air r)))
+    ++ again_differences r.slots a (judged_in a (sent_by_air r)))
     (pages-keep a (judged_in a (sent_by_air r))
     (all-judged a (IsOwn r.log r.air) (sent_by_air r)
     (own-kept laws r legal sound a asked.accepted asked.there asked.same) (own-all r sound legal)))
-    ∙ broadcasts-keep once r legal ended sound a asked.accepted asked.there asked.same
+    ∙ ap (λ ds. ds ++ again_differences r.slots a (judged_in a (sent_by_air r)))
+    (broadcasts-keep once r legal ended sound a asked.accepted asked.there asked.same)
+    ∙ again-keeps laws r legal sound (own-all r sound legal) a asked.accepted asked.there asked.same
 
 -- all that were asked
 none-of-all : {X Y : Type 0} (P : X → Type 0) (f : X → List Y) (xs : List X) → AllByRecursion P xs →

@@ -163,6 +163,7 @@ differs-nowhere a p kept kinds.AfterLast =
     ap (λ (x : Bool). x && not (is_past_stop a.stop p.slot)) kept.going
 differs-nowhere a p kept (kinds.NotWhole broadcast) = refl
 differs-nowhere a p kept kinds.NotOrdered = refl
+differs-nowhere a p kept (kinds.Again broadcast) = refl
 
 none-found : (a : AskedMessage) (kind : Kind) (pages : List JudgedPage) → AllByRecursion (IsKept a) pages →
     find (differs a kind) pages ≡ None

@@ -1,5 +1,5 @@
 -- Of blocks without a difference a handset shows only messages that were asked, with their texts.
-use Rattle.std.proofs.Common.{◌≡◌, ℕ, ◌<◌, true, List, [], map, get_or, sym, ap, subst, ◌∙◌}
+use Rattle.std.proofs.Common.{◌≡◌, ℕ, ◌<◌, ◌++◌, true, List, [], map, get_or, sym, ap, subst, ◌∙◌}
 use Rattle.std.specs.Prelude.{◌&&◌, ◌==◌}
 use Rattle.std.specs.List.{Contains}
 use Rattle.std.proofs.lemmas.Bool.{and_parts, eqb-true}
@@ -11,7 +11,8 @@ use Rattle.handset.specs.Laws.{ShownAreTheComplete}
 use Rattle.handset.specs.Reception.{Name, ShownMessage, is_complete, readable_pages, shown_in, shown_message}
 use Rattle.handset.specs.Showing.{name_shown}
 use Rattle.verification.specs.Asked.{AskedMessage, asked_of_log}
-use Rattle.verification.specs.Difference.{broadcast_differences, message_differences, page_differences}
+use Rattle.verification.specs.Difference.{again_differences, broadcast_differences, message_differences}
+use Rattle.verification.specs.Difference.{page_differences}
 use Rattle.verification.specs.Judged.{judged_in}
 use Rattle.verification.specs.Sent.{sent_in}
 use Rattle.verification_laws.specs.Shown.{AllShownAreAsked, message_asked}
@@ -24,8 +25,11 @@ shown-as-asked : (r : Record) (blocks : List (List ℕ)) (a : AskedMessage) →
     is_complete (name_asked a) (readable_pages blocks) ≡ true →
     shown_message (name_asked a) (readable_pages blocks) ≡ message_asked a
 shown-as-asked r blocks a none whole =
+    let all = none-joined (page_differences a (judged_in a (sent_in blocks))
+    ++ broadcast_differences r.slots a (judged_in a (sent_in blocks)))
+    (again_differences r.slots a (judged_in a (sent_in blocks))) none in
     let pages = none-joined (page_differences a (judged_in a (sent_in blocks)))
-    (broadcast_differences r.slots a (judged_in a (sent_in blocks))) none in
+    (broadcast_differences r.slots a (judged_in a (sent_in blocks))) all.0 in
     ap (λ (text : List ℕ). record { id = a.id; serial = a.serial; text = text })
     (text-is a (readable_pages blocks)
     (read-if a (readable_pages blocks) (right-read a blocks pages.0) whole))

@@ -1,5 +1,5 @@
 -- Each difference is at a slot of the run, or of the tape.
-use Rattle.std.proofs.Common.{◌≡◌, ℕ, ◌+◌, ◌<◌, ◌≤◌, Bool, true, false, cond, Option, Some, None, List, [], ◌∷◌, ◌++◌}
+use Rattle.std.proofs.Common.{◌≡◌, ℕ, ◌+◌, ◌<◌, ◌≤◌, Bool, true, false, cond, Option, Some, List, [], ◌∷◌, ◌++◌}
 use Rattle.std.proofs.Common.{length, map, filter, find, refl, sym, subst, arith, leb-true}
 use Rattle.std.specs.Prelude.{◌*◌, ◌&&◌, ◌||◌, not, ◌==◌, nat_le, nat_lt, if◌then◌else◌}
 use Rattle.std.specs.List.{AllByRecursion, flat_map, list_any, range_with_len}
@@ -7,11 +7,12 @@ use Rattle.std.specs.Option.{option_map, option_to_list}
 use Rattle.std.proofs.lemmas.List.Concat.{flat_map-cons}
 use Rattle.std.proofs.lemmas.List.Elements.{All-from_recursion}
 use Rattle.std.proofs.lemmas.List.Sorted.{All-permutation}
-use Rattle.bsc_table.specs.Record.{Record}
 use Rattle.cbs_page.specs.declared.octets.PageView.{PageView}
 use Rattle.handset.specs.Reception.{page_in_front}
 use Rattle.verification.specs.Asked.{AskedMessage, asked_of_log, is_page_of, is_page_of_any}
-use Rattle.verification.specs.Difference.{AreDifferences, all_differences, broadcast_difference, broadcast_differences}
+use Rattle.verification.specs.Difference.{again_after, again_difference, again_differences, again_in}
+use Rattle.verification.specs.Difference.{all_differences, broadcast_difference, broadcast_differences, comes_again}
+use Rattle.verification.specs.Difference.{is_in_time, is_requested}
 use Rattle.verification.specs.Difference.{difference_of, differs, due_slot, first_difference, is_by, is_named_as}
 use Rattle.verification.specs.Difference.{is_whole, message_differences, not_ordered, not_ordered_after}
 use Rattle.verification.specs.Difference.{page_differences, page_numbers}
@@ -110,6 +111,47 @@ pages-within slots a pages all =
     (first-within slots a kinds.AfterStop pages all))
     (first-within slots a kinds.AfterLast pages all)
 
+-- a page that comes again is at its own slot
+abbrev at_slot : AskedMessage → Kind → Option ℕ → List Difference
+at_slot a kind slot = map (difference_of a kind) (option_to_list slot)
+
+filter-within : (slots : ℕ) (test : JudgedPage → Bool) (pages : List JudgedPage) →
+    AllByRecursion (Judged slots) pages → AllByRecursion (Judged slots) (filter test pages)
+filter-within slots test [] all = tt
+filter-within slots test (page ∷ pages) all = here (test page) (filter-within slots test pages all.1)
+  where
+    here : (passes : Bool) → AllByRecursion (Judged slots) (filter test pages) →
+        AllByRecursion (Judged slots) (cond passes (page ∷ filter test pages) (filter test pages))
+    here true rest = (all.0, rest)
+    here false rest = rest
+
+again-here : (slots : ℕ) (a : AskedMessage) (kind : Kind) (again : Bool) (slot : ℕ) (later : Option ℕ) →
+    slot < slots → AllByRecursion (Within slots) (at_slot a kind later) →
+    AllByRecursion (Within slots) (at_slot a kind (cond again (Some slot) later))
+again-here slots a kind true slot later here more = (omega (arith, here), tt)
+again-here slots a kind false slot later here more = more
+
+first-again-within : (slots : ℕ) (a : AskedMessage) (kind : Kind) (stop : Option ℕ) (before pages : List JudgedPage) →
+    AllByRecursion (Judged slots) pages →
+    AllByRecursion (Within slots) (at_slot a kind (again_after stop before pages))
+first-again-within slots a kind stop before [] all = tt
+first-again-within slots a kind stop before (page ∷ pages) all =
+    again-here slots a kind (comes_again stop before page) page.slot
+    (again_after stop (before ++ page ∷ []) pages) all.0
+    (first-again-within slots a kind stop (before ++ page ∷ []) pages all.1)
+
+if-requested : (slots : ℕ) (requested : Bool) (ds : List Difference) → AllByRecursion (Within slots) ds →
+    AllByRecursion (Within slots) (if requested then ds else [])
+if-requested slots true ds all = all
+if-requested slots false ds all = tt
+
+again-within : (slots : ℕ) (a : AskedMessage) (j : ℕ) (pages : List JudgedPage) →
+    AllByRecursion (Judged slots) pages → AllByRecursion (Within slots) (again_difference a pages j)
+again-within slots a j pages all =
+    if-requested slots (is_requested a j) (at_slot a (kinds.Again j) (again_in a pages j))
+    (first-again-within slots a (kinds.Again j) a.stop [] (filter (is_in_time a j) pages)
+    (filter-within slots (is_in_time a j) pages all))
+
 -- a broadcast that is owed is due by the end of the run
 due-here : (slots : ℕ) (d : Difference) (by more missed : Bool) → (by ≡ true → d.slot ≤ slots) →
     AllByRecursion (Within slots) (if (by && more) && missed then d ∷ [] else [])
@@ -134,11 +176,16 @@ message-within : (run slots : ℕ) (a : AskedMessage) (sent : List SentPage) →
     AllByRecursion (Sent slots) sent →
     AllByRecursion (Within slots) (message_differences run a (judged_in a sent))
 message-within run slots a sent few all =
-    both (Within slots) (page_differences a (judged_in a sent)) (broadcast_differences run a (judged_in a sent))
+    both (Within slots)
+    (page_differences a (judged_in a sent) ++ broadcast_differences run a (judged_in a sent))
+    (again_differences run a (judged_in a sent))
+    (both (Within slots) (page_differences a (judged_in a sent)) (broadcast_differences run a (judged_in a sent))
     (pages-within slots a (judged_in a sent) (judged-within slots a sent all))
     (unless slots a.background (flat_map (broadcast_difference run a (judged_in a sent)) (range_with_len 0 run))
     (each (Within slots) (broadcast_difference run a (judged_in a sent))
-    (λ j. broadcast-within run slots a (judged_in a sent) j few) (range_with_len 0 run)))
+    (λ j. broadcast-within run slots a (judged_in a sent) j few) (range_with_len 0 run))))
+    (each (Within slots) (again_difference a (judged_in a sent))
+    (λ j. again-within slots a j (judged_in a sent) (judged-within slots a sent all)) (range_with_len 0 run))
 
 -- and a page that nobody ordered is at its own slot
 others-within : (slots : ℕ) (asked : List AskedMessage) (before sent : List SentPage) →

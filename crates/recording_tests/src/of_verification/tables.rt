@@ -36,6 +36,90 @@ next -> 1,7,4370,0010,9,after its last broadcast
 next -> none
 ";
 
+/// Pages that come again: each is to come once in the period of a broadcast, and counts where the first one does that
+/// comes again.
+const AGAIN: &str = "
+cell 7 12
+write 4370 0010 - normal 4 2 AB/CD -> Started { slot: 0 }
+end
+blank
+send 4370 0010 en 1 2 AB
+send 4370 0010 en 2 2 CD
+send 4370 0010 en 1 2 AB
+idle 1
+send 4370 0010 en 1 2 AB
+send 4370 0010 en 2 2 CD
+send 4370 0010 en 2 2 CD
+send 4370 0010 en 1 2 AB
+idle 4
+found -> 1,7,4370,0010,2,broadcast 0 again
+next -> 1,7,4370,0010,6,broadcast 1 again
+next -> none
+
+# a page that reads otherwise is none that comes again, before or after the right one; and after the last broadcast
+# none comes again
+blank
+send 4370 0010 en 1 2 AX
+send 4370 0010 en 1 2 AB
+send 4370 0010 en 1 2 AX
+send 4370 0010 en 2 2 CD
+send 4370 0010 en 1 2 AB
+send 4370 0010 en 2 2 CD
+idle 2
+send 4370 0010 en 1 2 AB
+send 4370 0010 en 1 2 AB
+idle 2
+found -> 1,7,4370,0010,0,page 1 reads otherwise
+next -> 1,7,4370,0010,8,after its last broadcast
+next -> none
+
+# twice as often as it was asked, without an end: in each period, and in that which the run cuts, too
+cell 8 7
+write 4371 0020 - normal 4 0 X -> Started { slot: 0 }
+end
+blank
+send 4371 0020 en 1 1 X
+idle 1
+send 4371 0020 en 1 1 X
+idle 1
+send 4371 0020 en 1 1 X
+idle 1
+send 4371 0020 en 1 1 X
+found -> 1,8,4371,0020,2,broadcast 0 again
+next -> 1,8,4371,0020,6,broadcast 1 again
+next -> none
+
+# a page at the stop is after it, and comes not again; before the start no broadcast has its period
+cell 9 8
+play 2
+write 4371 0021 - high 2 0 X -> Started { slot: 2 }
+play 3
+kill 4371 0021 -> Stopped { completed: 2 }
+end
+blank
+send 4371 0021 en 1 1 X
+send 4371 0021 en 1 1 X
+send 4371 0021 en 1 1 X
+idle 1
+send 4371 0021 en 1 1 X
+send 4371 0021 en 1 1 X
+idle 2
+found -> 1,9,4371,0021,0,before its start
+next -> 1,9,4371,0021,5,after its stop
+next -> none
+
+# background has no periods of its own, and comes as often as there is room
+cell 10 4
+write 4372 0030 - background 4 1 B -> Started { slot: 0 }
+end
+blank
+send 4372 0030 en 1 1 B
+send 4372 0030 en 1 1 B
+send 4372 0030 en 1 1 B
+idle 1
+found -> none
+";
+
 /// A message that is killed at slot 5, one that starts at slot 6, and names that the cell doesn't know.
 const STARTS_AND_STOPS: &str = "
 cell 8 12
@@ -392,6 +476,24 @@ rows -> 1,7,,,,no tape,,
 take 7
 rows -> 1,7,4370,0010,1,page 2 reads otherwise,CD,@D
 next -> 1,7,4370,0010,4,broadcast 0 not whole,slots 0 to 3,pages 1 of 2
+next -> none
+
+# a page again in the time of the second broadcast
+cell 7 10
+write 4370 0010 - normal 4 2 AB/CD -> Started { slot: 0 }
+end
+blank
+send 4370 0010 en 1 2 AB
+send 4370 0010 en 2 2 CD
+idle 2
+send 4370 0010 en 1 2 AB
+send 4370 0010 en 2 2 CD
+idle 1
+send 4370 0010 en 2 2 CD
+idle 2
+explain
+take 7
+rows -> 1,7,4370,0010,7,broadcast 1 again,once in slots 4 to 7,CD
 next -> none
 
 # silence in slot 5, and a page too late in slot 9
@@ -847,6 +949,13 @@ fn owed(rt: HostRuntime) -> Result<(), Fail> {
 }
 
 #[test]
+fn again(rt: HostRuntime) -> Result<(), Fail> {
+    let cells = expect_lines(&rt, rt.alloc(), AGAIN, 70)?;
+    drop(cells);
+    Ok(())
+}
+
+#[test]
 fn runs(rt: HostRuntime) -> Result<(), Fail> {
     let cells = expect_lines(&rt, rt.alloc(), RUNS, 44)?;
     drop(cells);
@@ -862,7 +971,7 @@ fn times(rt: HostRuntime) -> Result<(), Fail> {
 
 #[test]
 fn explained(rt: HostRuntime) -> Result<(), Fail> {
-    let cells = expect_lines(&rt, rt.alloc(), EXPLAINED, 58)?;
+    let cells = expect_lines(&rt, rt.alloc(), EXPLAINED, 74)?;
     drop(cells);
     Ok(())
 }

@@ -1,8 +1,8 @@
 use Rattle.std.proofs.Common.{◌≡◌, ◌-◌, ◌++◌}
 use Rattle.std.specs.List.{flat_map, range_with_len}
-use Rattle.order_verdict.specs.Verdict.{again_difference}
+use Rattle.verification.specs.Difference.{again_difference}
 use Rattle.verification.specs.Kept.{asked_kept}
-use Rattle.order_verdict.proofs.again.push_again_differences.Given as goal
+use Rattle.verification.proofs.again.push_again_differences.Given as goal
 
 abbrev pub invariant-loop-broadcast : goal.invariant-loop-broadcast
 invariant-loop-broadcast l =
