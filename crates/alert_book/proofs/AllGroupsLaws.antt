@@ -672,7 +672,8 @@ head_is xs ys x y is = cc
 tail_is : (xs ys : List Order) (x y : Order) → x ∷ xs ≡ y ∷ ys → xs ≡ ys
 tail_is xs ys x y is = cc
 
-wrong_by : (orders before after : List Order) (x : Order) (sending : Sending) (why : TextFault) (f : BookFault)
+-- where those of bare orders can't, the same of these can't
+pub wrong_by : (orders before after : List Order) (x : Order) (sending : Sending) (why : TextFault) (f : BookFault)
     (pages : List (Option Paged)) → map bare orders ≡ before ++ x ∷ after → HavePages before pages →
     sending_of x.action ≡ Some sending → IsTextFault sending.language (chars sending.text) why → why ≢ text.Refused →
     f ≡ fault_at x.row (kinds.Text why) → HasWrongText orders f

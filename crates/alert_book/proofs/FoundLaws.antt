@@ -1,8 +1,7 @@
 -- A row's fault is that of the first column whose judge refuses it, or one of the whole row.
 use Rattle.std.proofs.Common.{◌≡◌, ℕ, Bool, true, false, cond, Option, Some, None, List, length, Result, Ok, Err, refl}
-use Rattle.std.proofs.Common.{count_by, ap, ◌+◌, ◌<◌, arith, inl, inr}
-use Rattle.std.specs.Prelude.{option_map, nat_le, nat_lt, not, ◌==◌, IsErr}
-use Rattle.std.proofs.lemmas.Bool.{cases_Bool, leb-true}
+use Rattle.std.proofs.Common.{count_by, ap, ◌+◌}
+use Rattle.std.specs.Prelude.{option_map, nat_le, not, ◌==◌, IsErr}
 use Rattle.std.specs.Result.{result_err}
 use Rattle.cbsp_wire.specs.declared.message.Cell.{Cell}
 use Rattle.alert_book.specs.declared.book.order.Order.{Order}
@@ -12,16 +11,16 @@ use Rattle.alert_book.specs.declared.book.row.Verb.TheVariants as verbs
 use Rattle.alert_book.specs.declared.fault.RowFault.{RowFault}
 use Rattle.alert_book.specs.declared.fault.RowFault.TheVariants as fault
 use Rattle.alert_book.specs.declared.judging.columns.Found.{Found}
-use Rattle.alert_book.specs.Cells.{cell_with, cells_of_field}
+use Rattle.alert_book.specs.Cells.{cell_with}
 use Rattle.alert_book.specs.Fields.{alert_with, are_texts, column, if_right, known_name, new_name, number}
 use Rattle.alert_book.specs.Fields.{sending_with}
-use Rattle.alert_book.specs.Judging.{ci_fault, found_after_verb, found_at, found_of_verb, found_or}
+use Rattle.alert_book.specs.declared.judging.bounds.Bounds.{Bounds}
+use Rattle.alert_book.specs.Judging.{ci_fault, field_judged, found_after_verb, found_at, found_of_verb, found_or}
 use Rattle.alert_book.specs.Judging.{no_text_column, counted_after, counted_with, known_after_row, name_written}
-use Rattle.alert_book.specs.Judging.{next_meant}
+use Rattle.alert_book.specs.Judging.{is_over, is_past, most_cells, next_meant}
 use Rattle.alert_book.specs.Judging.{with_name, Counted, FoundIsFault}
-use Rattle.alert_book.specs.Row.{cell_row, columns_of, is_update_of, max_cells, max_rows, max_updates}
-use Rattle.alert_book.specs.Row.{new_cell, row_after_verb, row_of_verb_by}
-use Rattle.alert_book.specs.Row.{verb_of}
+use Rattle.alert_book.specs.Row.{cell_row_within, columns_of, is_update_of, max_updates, new_cell}
+use Rattle.alert_book.specs.Row.{row_after_verb_by, row_of_verb_by, verb_of}
 
 -- what was found is the fault of a result
 abbrev pub Tells : {B : Type 0} → Option Found → Result B RowFault → Type 0
@@ -86,44 +85,51 @@ last_tells true row = refl
 last_tells false row = refl
 
 -- the rows of each verb
-tells : (verb : Verb) (row : ℕ) (declared : List Cell) (orders : List Order) (fields : List (List ℕ))
-    → Tells (found_of_verb verb declared orders fields)
-    (row_of_verb_by verb (cell_row declared fields) row (cells_of_field declared) orders fields)
-tells verbs.Cell row declared orders fields = cell_tells (nat_le max_cells (length declared)) declared fields
-tells verbs.Write row declared orders fields =
+tells : (bound : Bounds) (verb : Verb) (row : ℕ) (declared : List Cell) (orders : List Order) (fields : List (List ℕ))
+    → Tells (found_of_verb bound verb declared orders fields)
+    (row_of_verb_by verb (cell_row_within (most_cells bound) declared fields) row (field_judged bound declared) orders
+    fields)
+tells bound verbs.Cell row declared orders fields = cell_tells (nat_le (most_cells bound) (length declared)) declared
+    fields
+tells bound verbs.Write row declared orders fields =
     one 2 (number 0 65535 (column fields 1)) _ _ (λ at.
     one 3 (new_name orders (column fields 2)) _ _ (λ name.
     three 4 5 6 (number 0 65535 (column fields 3)) (number 0 3 (column fields 4)) (number 0 1023 (column fields 5))
     alert_with _ _ (λ alert.
     four 8 9 10 11 (number 0 2 (column fields 7)) (number 1 1024 (column fields 8)) (number 0 65535 (column fields 9))
-    (cells_of_field declared (column fields 10))
+    (field_judged bound declared (column fields 10))
     (λ category period broadcasts cells. sending_with (column fields 6) category period broadcasts cells
     (column fields 11)) _ None (λ sending. refl))))
-tells verbs.Update row declared orders fields =
+tells bound verbs.Update row declared orders fields =
     one 2 (number 0 65535 (column fields 1)) _ _ (λ at.
     one 3 (known_name orders (column fields 2)) _ _ (λ first.
     four 5 6 7 8 (number 0 2 (column fields 4)) (number 1 1024 (column fields 5)) (number 0 65535 (column fields 6))
-    (cells_of_field declared (column fields 7))
+    (field_judged bound declared (column fields 7))
     (λ category period broadcasts cells. sending_with (column fields 3) category period broadcasts cells
     (column fields 8)) _ _ (λ sending.
     last_tells (nat_le max_updates (count_by (is_update_of (column fields 2)) orders)) _)))
-tells verbs.Stop row declared orders fields =
+tells bound verbs.Stop row declared orders fields =
     one 2 (number 0 65535 (column fields 1)) _ _ (λ at.
     one 3 (known_name orders (column fields 2)) _ _ (λ first.
-    one 4 (cells_of_field declared (column fields 3)) _ _ (λ cells. refl)))
+    one 4 (field_judged bound declared (column fields 3)) _ _ (λ cells. refl)))
 
 by_columns : (right : Bool) (found : Option Found) (meant : Result Row RowFault) → Tells found meant
     → Tells (cond right found (Some (found_at 1 fault.Columns))) (cond right meant (Err fault.Columns))
 by_columns true found meant is = is
 by_columns false found meant is = refl
 
-after_verb : (verb : Option Verb) (row : ℕ) (declared : List Cell) (orders : List Order) (fields : List (List ℕ))
-    → Tells (found_after_verb verb declared orders fields) (row_after_verb verb row declared orders fields)
-after_verb None row declared orders fields = refl
-after_verb (Some verb) row declared orders fields =
-    by_columns (length fields == columns_of verb) (found_of_verb verb declared orders fields)
-    (row_of_verb_by verb (cell_row declared fields) row (cells_of_field declared) orders fields)
-    (tells verb row declared orders fields)
+after_verb : (bound : Bounds) (verb : Option Verb) (row : ℕ) (declared : List Cell) (orders : List Order)
+    (fields : List (List ℕ))
+    → Tells (found_after_verb bound verb declared orders fields)
+    (row_after_verb_by verb (cell_row_within (most_cells bound) declared fields) row (field_judged bound declared)
+        orders
+    fields)
+after_verb bound None row declared orders fields = refl
+after_verb bound (Some verb) row declared orders fields =
+    by_columns (length fields == columns_of verb) (found_of_verb bound verb declared orders fields)
+    (row_of_verb_by verb (cell_row_within (most_cells bound) declared fields) row (field_judged bound declared) orders
+    fields)
+    (tells bound verb row declared orders fields)
 
 by_texts : (texts : Bool) (place : ℕ) (found : Option Found) (meant : Result Row RowFault) → Tells found meant
     → Tells (cond (not texts) (Some (found_at place fault.Columns)) found) (cond (not texts) (Err fault.Columns) meant)
@@ -137,9 +143,9 @@ by_rows false found meant is = is
 
 -- what is found in a row is the fault that it has
 pub found_is_fault : FoundIsFault
-found_is_fault row declared orders fields =
-    by_rows (nat_lt max_rows row) _ _ (by_texts (are_texts fields) (no_text_column fields) _ _
-    (after_verb (verb_of (column fields 0)) row declared orders fields))
+found_is_fault bound row declared orders fields =
+    by_rows (is_over bound row orders fields) _ _ (by_texts (are_texts fields) (no_text_column fields) _ _
+    (after_verb bound (verb_of (column fields 0)) row declared orders fields))
 
 -- a row whose fault isn't found is right
 pub none_found : (found : Option Found) (meant : Result Row RowFault) → Tells found meant → IsErr meant
@@ -159,17 +165,13 @@ some_found (Some other) (Err kind) it same is =
     rw (← one, told) refl
 
 -- what counts after a row that is wrong
-pub wrong_counts : (before : Counted) (fields : List (List ℕ)) → before.rows < 4096
+pub wrong_counts : (before : Counted) (fields : List (List ℕ)) → is_past before fields ≡ false
     → IsErr (next_meant before fields)
-    → counted_with (before.rows + 1) (with_name (before.rows + 1) before.known
+    → counted_with before.bounds (before.rows + 1) (with_name (before.rows + 1) before.known
     (name_written before.known.orders fields))
     ≡ counted_after before fields
-wrong_counts before fields few wrong =
-    let room : nat_le 4096 before.rows ≡ false = elim (cases_Bool (nat_le 4096 before.rows)) [
-      | inl full ↦ absurd (omega (arith, leb-true 4096 before.rows full, few))
-      | inr room ↦ room
-    ] in
-    rw room (ap (counted_with (before.rows + 1)) (by_meant (next_meant before fields) wrong))
+wrong_counts before fields room wrong =
+    rw room (ap (counted_with before.bounds (before.rows + 1)) (by_meant (next_meant before fields) wrong))
   where
     by_meant : (meant : Result Row RowFault) → IsErr meant
         → with_name (before.rows + 1) before.known (name_written before.known.orders fields)

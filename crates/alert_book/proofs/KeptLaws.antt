@@ -169,13 +169,13 @@ declares_new group row cells orders fields =
     (verb_new 65536 (verb_of (column fields 0)) row cells (cells_in_group group cells) orders fields))
 
 -- and gives an order where there is room for one
-abbrev NeverGives : Result Row RowFault → Type 0
+abbrev pub NeverGives : Result Row RowFault → Type 0
 NeverGives r = (order : Order) → r ≡ Ok (rows.Give order) → ⊥
 
-no_gift : (kind : RowFault) → NeverGives (Err kind)
+pub no_gift : (kind : RowFault) → NeverGives (Err kind)
 no_gift kind order is = cc
 
-either_gives : (test : Bool) (a b : Result Row RowFault) → NeverGives a → NeverGives b → NeverGives (cond test a b)
+pub either_gives : (test : Bool) (a b : Result Row RowFault) → NeverGives a → NeverGives b → NeverGives (cond test a b)
 either_gives true a b first second = first
 either_gives false a b first second = second
 
@@ -187,15 +187,16 @@ right_gives_none {A} (Err kind) next never order is = cc
 declared_gives : (cell : Cell) → NeverGives (Ok (rows.Declare cell))
 declared_gives cell order is = cc
 
-cell_row_gives : (cells : List Cell) (fields : List (List ℕ)) → NeverGives (cell_row_within 65536 cells fields)
-cell_row_gives cells fields =
-    either_gives (nat_le 65536 (length cells)) _ _ (no_gift fault.TooManyRows)
+pub cell_row_gives : (most : ℕ) (cells : List Cell) (fields : List (List ℕ)) →
+    NeverGives (cell_row_within most cells fields)
+cell_row_gives most cells fields =
+    either_gives (nat_le most (length cells)) _ _ (no_gift fault.TooManyRows)
     (right_gives_none (number 0 65535 (column fields 1)) _ (λ lac.
     right_gives_none (number 0 65535 (column fields 2)) _ (λ ci.
     either_gives (is_among cells (cell_with lac ci)) _ _ (no_gift fault.TwiceNamed)
     (declared_gives (cell_with lac ci)))))
 
-cell_verb : (word : List ℕ) → bytes_eq word (codes "cell") ≡ true → verb_of word ≡ Some verbs.Cell
+pub cell_verb : (word : List ℕ) → bytes_eq word (codes "cell") ≡ true → verb_of word ≡ Some verbs.Cell
 unfolding verb_of
 cell_verb word is = rw is refl
 
@@ -204,7 +205,7 @@ pub gives_few : (group row : ℕ) (cells : List Cell) (orders : List Order) (fie
     row_in_group group row cells orders fields ≡ Ok (rows.Give order) → length orders < 4096
 gives_few group row cells orders fields order is = elim (cases_Bool (declares_cell fields)) [
   | inl cell ↦ absurd (either_gives (not (are_texts fields)) _ _ (no_gift fault.Columns)
-      (either_gives (eqb (length fields) 3) _ _ (cell_row_gives cells fields) (no_gift fault.Columns)) order
+      (either_gives (eqb (length fields) 3) _ _ (cell_row_gives 65536 cells fields) (no_gift fault.Columns)) order
       (rw (cell, cell_verb (column fields 0) cell) at is))
   | inr other ↦ elim (cases_Bool (nat_le 4096 (length orders))) [
     | inl many ↦ absurd (no_gift fault.TooManyRows order (rw (other, many) at is))

@@ -33,3 +33,5 @@ pub mod Origins
 pub mod FoundLaws
 pub mod RowNumbers
 pub mod ColumnLaws
+pub mod JudgedLaws
+pub mod JudgedNetworks

@@ -29,12 +29,12 @@ network_faults_are_one group other input f others one two =
     one_fault bare_meaning input f others (fault_bare group input f one.1) (fault_bare other input others two.1)
 
 -- a result is rows, of which these are the bare ones
-record HasBare (r : Result Rows BookFault) (bares : Rows) : Type 0 where
+pub record HasBare (r : Result Rows BookFault) (bares : Rows) : Type 0 where
   pub rows : Rows
   pub comes : r ≡ Ok rows
   pub same : bare_rows rows ≡ bares
 
-has_bare : (r : Result Rows BookFault) (bares : Rows) → bare_result r ≡ Ok bares → HasBare r bares
+pub has_bare : (r : Result Rows BookFault) (bares : Rows) → bare_result r ≡ Ok bares → HasBare r bares
 has_bare (Ok rows) bares is =
     record { rows = rows; comes = refl; same = one_ok (Ok (bare_rows rows)) (bare_rows rows) bares refl is }
 has_bare (Err f) bares is = absurd (cc is)

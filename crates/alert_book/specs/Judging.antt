@@ -1,5 +1,7 @@
--- What each row of a book with faults comes to, beside the rows that have none, and in which column its fault is. Own.
-use Rattle.std.specs.Prelude.{◌≡◌, ◌≢◌, ⊤, ℕ, ◌+◌, ◌-◌, ◌==◌, not, nat_le, nat_lt, Bool, false, if◌then◌else◌}
+-- What each row of a book or a network book with faults comes to, beside the rows that have none, and in which column
+-- its fault is. Own.
+use Rattle.std.specs.Prelude.{◌≡◌, ◌≢◌, ⊤, ℕ, ◌+◌, ◌-◌, ◌==◌, ◌&&◌, ◌||◌, not, nat_le, nat_lt, Bool, false}
+use Rattle.std.specs.Prelude.{if◌then◌else◌}
 use Rattle.std.specs.Prelude.{Option, Some, None, List, [], ◌∷◌, ◌++◌, length, count_by, find}
 use Rattle.std.specs.Prelude.{option_map, Result, Ok, Err}
 use Rattle.std.specs.Option.{option_and_then}
@@ -19,17 +21,55 @@ use Rattle.alert_book.specs.declared.book.row.Verb.{Verb}
 use Rattle.alert_book.specs.declared.book.row.Verb.TheVariants as verbs
 use Rattle.alert_book.specs.declared.fault.RowFault.{RowFault}
 use Rattle.alert_book.specs.declared.fault.RowFault.TheVariants as fault
+use Rattle.alert_book.specs.declared.judging.bounds.Bounds.{Bounds}
+use Rattle.alert_book.specs.declared.judging.bounds.Bounds.TheVariants as bounds
 use Rattle.alert_book.specs.declared.judging.Verdict.{Verdict}
 use Rattle.alert_book.specs.declared.judging.Verdict.TheVariants as verdict
 use Rattle.alert_book.specs.declared.judging.columns.Column.{Column}
 use Rattle.alert_book.specs.declared.judging.columns.Column.TheVariants as columns
 use Rattle.alert_book.specs.declared.judging.columns.Found.{Found}
-use Rattle.alert_book.specs.Book.{ArePagesOf, Rows, rows_with, sending_of, with_row}
+use Rattle.alert_book.specs.Book.{ArePagesOf, RowMeaning, Rows, rows_with, sending_of, with_row}
 use Rattle.alert_book.specs.Cells.{cell_with, cells_listed, cells_of_field, is_among}
 use Rattle.alert_book.specs.Fields.{alert_with, are_texts, column, first_order, if_right, known_name, new_name, number}
 use Rattle.alert_book.specs.Fields.{sending_with}
-use Rattle.alert_book.specs.Row.{columns_of, is_update_of, max_cells, max_rows, max_updates, new_cell, order_with}
-use Rattle.alert_book.specs.Row.{row_of, verb_of}
+use Rattle.alert_book.specs.Network.{declares_cell, max_network_cells, max_orders}
+use Rattle.alert_book.specs.Row.{cell_row_within, columns_of, is_update_of, max_cells, max_rows, max_updates, new_cell}
+use Rattle.alert_book.specs.Row.{order_with, row_after_verb_by, verb_of, FieldCells}
+
+-- the most rows of a network book that are judged: one more than it may have
+abbrev pub max_judged : ℕ
+max_judged = 69633
+
+-- how many cells rows may declare
+abbrev pub most_cells : Bounds → ℕ
+most_cells bounds.Book = max_cells
+most_cells bounds.Network = max_network_cells
+
+-- whether the row of this number is one too many, whatever else it is
+abbrev pub is_over : Bounds → (row : ℕ) → List Order → List (List ℕ) → Bool
+is_over bounds.Book row orders fields = nat_lt max_rows row
+is_over bounds.Network row orders fields =
+    nat_lt max_judged row || (not (declares_cell fields) && nat_le max_orders (length orders))
+
+-- the cells of an order that count. No later row is judged by them, and those of a network's orders are many: none do
+abbrev pub kept_of : Bounds → List Cell → List Cell
+kept_of bounds.Book cells = cells
+kept_of bounds.Network cells = []
+
+-- what a row's field of cells comes to
+abbrev pub field_judged : Bounds → List Cell → FieldCells
+field_judged bounds.Book declared field = cells_of_field declared field
+field_judged bounds.Network declared field = if_right (cells_of_field declared field) (λ cells. Ok [])
+
+-- what the row of this number comes to, where the rows before it declare these cells and give these orders: of a book
+-- what it means, and of a network book what it means for each group, but for the cells of an order
+abbrev pub row_judged : Bounds → RowMeaning
+row_judged bound row declared orders fields =
+    if is_over bound row orders fields then Err fault.TooManyRows
+    else if not (are_texts fields) then Err fault.Columns
+    else
+    row_after_verb_by (verb_of (column fields 0)) (cell_row_within (most_cells bound) declared fields) row
+    (field_judged bound declared) orders fields
 
 -- the columns after a verb, in their order
 abbrev pub columns_after : Verb → List Column
@@ -56,20 +96,21 @@ ci_fault declared lac ci =
     (if_right (number 0 65535 lac) (λ l. if_right (number 0 65535 ci) (λ c. new_cell declared (cell_with l c))))
 
 -- the judge of each column; `before` is the field before it. Languages and texts are judged last, by others
-abbrev pub column_fault : Verb → List Cell → List Order → Column → (before field : List ℕ) → Option RowFault
-column_fault verb declared orders columns.Lac before field = result_err (number 0 65535 field)
-column_fault verb declared orders columns.Ci before field = ci_fault declared before field
-column_fault verb declared orders columns.At before field = result_err (number 0 65535 field)
-column_fault verb declared orders columns.Name before field = name_fault verb orders field
-column_fault verb declared orders columns.Id before field = result_err (number 0 65535 field)
-column_fault verb declared orders columns.Scope before field = result_err (number 0 3 field)
-column_fault verb declared orders columns.Code before field = result_err (number 0 1023 field)
-column_fault verb declared orders columns.Language before field = None
-column_fault verb declared orders columns.Category before field = result_err (number 0 2 field)
-column_fault verb declared orders columns.Period before field = result_err (number 1 1024 field)
-column_fault verb declared orders columns.Broadcasts before field = result_err (number 0 65535 field)
-column_fault verb declared orders columns.Cells before field = result_err (cells_of_field declared field)
-column_fault verb declared orders columns.Text before field = None
+abbrev pub column_fault : Bounds → Verb → List Cell → List Order → Column → (before field : List ℕ) → Option RowFault
+column_fault bound verb declared orders columns.Lac before field = result_err (number 0 65535 field)
+column_fault bound verb declared orders columns.Ci before field = ci_fault declared before field
+column_fault bound verb declared orders columns.At before field = result_err (number 0 65535 field)
+column_fault bound verb declared orders columns.Name before field = name_fault verb orders field
+column_fault bound verb declared orders columns.Id before field = result_err (number 0 65535 field)
+column_fault bound verb declared orders columns.Scope before field = result_err (number 0 3 field)
+column_fault bound verb declared orders columns.Code before field = result_err (number 0 1023 field)
+column_fault bound verb declared orders columns.Language before field = None
+column_fault bound verb declared orders columns.Category before field = result_err (number 0 2 field)
+column_fault bound verb declared orders columns.Period before field = result_err (number 1 1024 field)
+column_fault bound verb declared orders columns.Broadcasts before field = result_err (number 0 65535 field)
+column_fault bound verb declared orders columns.Cells before field =
+    result_err (field_judged bound declared field)
+column_fault bound verb declared orders columns.Text before field = None
 
 -- a fault, and its column, counted from 1
 abbrev pub found_at : (column : ℕ) → RowFault → Found
@@ -82,12 +123,13 @@ found_or place (Some kind) later = Some (found_at place kind)
 
 -- the first of a row's columns whose judge refuses it, where these are the columns from a place on, counted from 0; if
 -- none does, what comes last
-abbrev pub first_found : Verb → List Cell → List Order → List (List ℕ) → (last : Option Found) → ℕ → List Column
-    → Option Found
-first_found verb declared orders fields last place [] = last
-first_found verb declared orders fields last place (kind ∷ kinds) =
-    found_or (place + 1) (column_fault verb declared orders kind (column fields (place - 1)) (column fields place))
-    (first_found verb declared orders fields last (place + 1) kinds)
+abbrev pub first_found : Bounds → Verb → List Cell → List Order → List (List ℕ) → (last : Option Found) → ℕ
+    → List Column → Option Found
+first_found bound verb declared orders fields last place [] = last
+first_found bound verb declared orders fields last place (kind ∷ kinds) =
+    found_or (place + 1) (column_fault bound verb declared orders kind (column fields (place - 1))
+        (column fields place))
+    (first_found bound verb declared orders fields last (place + 1) kinds)
 
 -- an update too many of a name, which stands in column 3
 abbrev pub update_found : Verb → List Order → (name : List ℕ) → Option Found
@@ -98,22 +140,23 @@ update_found verbs.Update orders name =
 update_found verbs.Stop orders name = None
 
 -- whether a row of this verb is a cell too many
-abbrev pub is_full : Verb → List Cell → Bool
-is_full verbs.Cell declared = nat_le max_cells (length declared)
-is_full verbs.Write declared = false
-is_full verbs.Update declared = false
-is_full verbs.Stop declared = false
+abbrev pub is_full : Bounds → Verb → List Cell → Bool
+is_full bound verbs.Cell declared = nat_le (most_cells bound) (length declared)
+is_full bound verbs.Write declared = false
+is_full bound verbs.Update declared = false
+is_full bound verbs.Stop declared = false
 
 -- the fault of a row of a verb that has the right number of columns
-abbrev pub found_of_verb : Verb → List Cell → List Order → List (List ℕ) → Option Found
-found_of_verb verb declared orders fields =
-    if is_full verb declared then Some (found_at 1 fault.TooManyRows)
-    else first_found verb declared orders fields (update_found verb orders (column fields 2)) 1 (columns_after verb)
+abbrev pub found_of_verb : Bounds → Verb → List Cell → List Order → List (List ℕ) → Option Found
+found_of_verb bound verb declared orders fields =
+    if is_full bound verb declared then Some (found_at 1 fault.TooManyRows)
+    else
+    first_found bound verb declared orders fields (update_found verb orders (column fields 2)) 1 (columns_after verb)
 
-abbrev pub found_after_verb : Option Verb → List Cell → List Order → List (List ℕ) → Option Found
-found_after_verb None declared orders fields = Some (found_at 1 fault.Verb)
-found_after_verb (Some verb) declared orders fields =
-    if length fields == columns_of verb then found_of_verb verb declared orders fields
+abbrev pub found_after_verb : Bounds → Option Verb → List Cell → List Order → List (List ℕ) → Option Found
+found_after_verb bound None declared orders fields = Some (found_at 1 fault.Verb)
+found_after_verb bound (Some verb) declared orders fields =
+    if length fields == columns_of verb then found_of_verb bound verb declared orders fields
     else Some (found_at 1 fault.Columns)
 
 -- the first column that isn't UTF-8, counted from 1, where the first of these fields has this place; 1 if there is none
@@ -125,22 +168,28 @@ abbrev pub no_text_column : List (List ℕ) → ℕ
 no_text_column fields = no_text_from 1 fields
 
 -- the fault of a row of this number, if it has one, and its column: faults of a whole row stand in column 1
-abbrev pub found_in : (row : ℕ) → List Cell → List Order → List (List ℕ) → Option Found
-found_in row declared orders fields =
-    if nat_lt max_rows row then Some (found_at 1 fault.TooManyRows)
+abbrev pub found_in : Bounds → (row : ℕ) → List Cell → List Order → List (List ℕ) → Option Found
+found_in bound row declared orders fields =
+    if is_over bound row orders fields then Some (found_at 1 fault.TooManyRows)
     else if not (are_texts fields) then Some (found_at (no_text_column fields) fault.Columns)
-    else found_after_verb (verb_of (column fields 0)) declared orders fields
+    else found_after_verb bound (verb_of (column fields 0)) declared orders fields
 
--- what counts of the rows so far: their number, and the cells and orders by which later rows are judged
+-- what counts of the rows so far: what bounds them, their number, and the cells and orders by which later rows are
+-- judged
 pub record Counted : Type 0 where
+  pub bounds : Bounds
   pub rows : ℕ
   pub known : Rows
 
-abbrev pub counted_with : (rows : ℕ) → Rows → Counted
-counted_with rows known = record { rows = rows; known = known }
+abbrev pub counted_with : Bounds → (rows : ℕ) → Rows → Counted
+counted_with bound rows known = record { bounds = bound; rows = rows; known = known }
 
+abbrev pub none_within : Bounds → Counted
+none_within bound = counted_with bound 0 (rows_with [] [])
+
+-- of a book
 abbrev pub none_counted : Counted
-none_counted = counted_with 0 (rows_with [] [])
+none_counted = none_within bounds.Book
 
 -- a field, where it is text
 abbrev pub text_or_none : List ℕ → Option (List ℕ)
@@ -180,16 +229,27 @@ known_after_row row before fields (Err kind) = with_name row before (name_writte
 
 -- what the next row comes to
 abbrev pub next_meant : Counted → List (List ℕ) → Result Row RowFault
-next_meant before fields = row_of (before.rows + 1) before.known.cells before.known.orders fields
+next_meant before fields =
+    row_judged before.bounds (before.rows + 1) before.known.cells before.known.orders fields
 
 abbrev pub next_found : Counted → List (List ℕ) → Option Found
-next_found before fields = found_in (before.rows + 1) before.known.cells before.known.orders fields
+next_found before fields = found_in before.bounds (before.rows + 1) before.known.cells before.known.orders fields
+
+-- whether the next row is one too many: of a book after 4,096 rows, and of a network book after as many that may order
+-- something, or after more rows than it may have. No row after it needs to be judged
+abbrev pub is_past_by : Bounds → (rows : ℕ) → List Order → List (List ℕ) → Bool
+is_past_by bounds.Book rows orders fields = nat_le max_rows rows
+is_past_by bounds.Network rows orders fields =
+    nat_le max_judged rows || (not (declares_cell fields) && nat_le max_orders (length orders))
+
+abbrev pub is_past : Counted → List (List ℕ) → Bool
+is_past before fields = is_past_by before.bounds before.rows before.known.orders fields
 
 -- what counts after the next row; a row too many doesn't count, and the next one after it has its number
 abbrev pub counted_after : Counted → List (List ℕ) → Counted
 counted_after before fields =
-    if nat_le max_rows before.rows then before
-    else counted_with (before.rows + 1)
+    if is_past before fields then before
+    else counted_with before.bounds (before.rows + 1)
     (known_after_row (before.rows + 1) before.known fields (next_meant before fields))
 
 -- the text of an order, if it has one, can be sent
@@ -212,8 +272,8 @@ IsVerdictOfRow (rows.Give order) verdict.Right = CanBeSent order
 IsVerdictOfRow (rows.Give order) (verdict.Wrong found) = ⊥
 IsVerdictOfRow (rows.Give order) (verdict.Unsendable why) = HasTextFault order why
 
--- the next row has no fault, or this one: its own by `row_of`, in the first column whose judge refuses it, or if it has
--- none, its text's
+-- the next row has no fault, or this one: its own by `row_judged`, in the first column whose judge refuses it, or if it
+-- has none, its text's
 pub record IsRightRow (before : Counted) (fields : List (List ℕ)) (told : Verdict) : Type 0 where
   pub meant : Row
   pub right : next_meant before fields ≡ Ok meant
@@ -241,6 +301,6 @@ undeclared_in declared field = option_and_then (find (is_undeclared declared)) (
 
 -- the fault of a row, and that of its columns, is one: a row has one exactly if a column has, or the whole row
 abbrev pub FoundIsFault : Type 0
-FoundIsFault = (row : ℕ) (declared : List Cell) (orders : List Order) (fields : List (List ℕ))
-    → option_map (λ (found : Found). found.fault) (found_in row declared orders fields)
-    ≡ result_err (row_of row declared orders fields)
+FoundIsFault = (bound : Bounds) (row : ℕ) (declared : List Cell) (orders : List Order) (fields : List (List ℕ))
+    → option_map (λ (found : Found). found.fault) (found_in bound row declared orders fields)
+    ≡ result_err (row_judged bound row declared orders fields)

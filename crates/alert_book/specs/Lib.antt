@@ -25,3 +25,5 @@ pub mod VersionSteps
 pub mod Stands
 pub mod AdvancingSteps
 pub mod Judging
+pub mod JudgingSteps
+pub mod Extent

@@ -177,3 +177,28 @@ IsNoNetworkBook group input f =
 abbrev pub HasNoBookIn : (group : ℕ) → List ℕ → GroupFault → Type 0
 HasNoBookIn group input (group_fault.Network f) = IsNoNetworkBook group input f
 HasNoBookIn group input (group_fault.NoGroup groups) = (groups ≤ group) × HasGroups group input groups
+
+-- the octets' rows give these orders, as a group reads them; their texts may be wrong
+pub record AreOrdersIn (group : ℕ) (input : List ℕ) (orders : List Order) : Type 0 where
+  pub rows : Rows
+  pub meant : AreRowsBy (row_in_group group) input rows
+  pub given : orders ≡ rows.orders
+
+-- these are the orders of a group that is there: those that are for some of its cells
+pub record AreOrdersOfGroup (group : ℕ) (input : List ℕ) (orders : List Order) : Type 0 where
+  pub rows : Rows
+  pub meant : AreRowsBy (row_in_group group) input rows
+  pub there : group < groups_of (length rows.cells)
+  pub given : orders ≡ filter has_cells rows.orders
+
+-- the octets' rows are right, and declare the cells of this many groups: too few for this one
+pub record HasFewGroups (group : ℕ) (input : List ℕ) (groups : ℕ) : Type 0 where
+  pub rows : Rows
+  pub meant : AreRowsBy (row_in_group group) input rows
+  pub count : groups ≡ groups_of (length rows.cells)
+  pub few : groups ≤ group
+
+-- why octets have no orders of a group: memory ran out, or a row has a fault, or the network has no such group
+abbrev pub HasNoOrders : (group : ℕ) → List ℕ → GroupFault → Type 0
+HasNoOrders group input (group_fault.Network f) = (f ≡ refused) ⊎ IsRowFaultBy (row_in_group group) input f
+HasNoOrders group input (group_fault.NoGroup groups) = HasFewGroups group input groups

@@ -17,12 +17,14 @@ pub use book::order::{Action, Alert, Order, Sending, Text};
 pub use book::row::{Verb, columns_of};
 pub use book::{Book, BookRows, MAX_INPUT, read_book, read_rows};
 pub use fault::{BookFault, BookFaultKind, RowFault};
+pub use judging::bounds::{Bounds, Extent};
 pub use judging::columns::{Column, Found, columns_after};
 pub use judging::{Judge, Verdict, are_texts, judging_laws, octets_at, text_at, verb_in};
 pub use laws::{book_laws, network_laws, session_laws, text_laws};
 pub use network::all_groups::Network;
 pub use network::{
-    GroupFault, MAX_NETWORK, Origin, count_groups, group_in, groups_in, read_book_from, read_group,
+    GroupFault, MAX_NETWORK, Origin, count_groups, group_in, group_orders, groups_in,
+    network_orders, read_book_from, read_group,
 };
 pub use session::Session;
 pub use session::request::{Refused, Request};

@@ -9,8 +9,9 @@ ghost use Rattle.device_ends.specs.Source.{reader_of, source_failed};
 ghost use Rattle.alert_book.specs.Book.{refused, unread, HavePages, IsRowFaultBy};
 ghost use Rattle.alert_book.specs.NameSteps.{AreNames};
 ghost use Rattle.alert_book.specs.Network.{declares_cell, groups_of, has_cells, row_in_group, CountsGroups};
-ghost use Rattle.alert_book.specs.Network.{HasGroups, HasNoBook, HasNoBookIn, IsGroupBook, IsNoNetworkBook};
-ghost use Rattle.alert_book.specs.Network.{IsWrongNetwork, ReadsGroup, RefusesNetwork};
+ghost use Rattle.alert_book.specs.Network.{AreOrdersIn, AreOrdersOfGroup, HasGroups, HasNoBook, HasNoBookIn};
+ghost use Rattle.alert_book.specs.Network.{HasNoOrders, IsGroupBook, IsNoNetworkBook, IsWrongNetwork, ReadsGroup};
+ghost use Rattle.alert_book.specs.Network.{RefusesNetwork};
 ghost use Rattle.alert_book.specs.NetworkSteps.{is_kept_at, kept_row, network_row_by, pages_kept, AreAllKept};
 ghost use Rattle.alert_book.specs.NetworkSteps.{IsKeptMore, ReadsRows};
 ghost use Rattle.alert_book.specs.Origin.{HasNoBookFrom, ReadsFrom};
@@ -48,7 +49,7 @@ pub(crate) mod some_cells;
 pub const MAX_NETWORK: usize = 0x400_0000;
 
 /// The most rows of a network book that declare no cell.
-const MAX_ORDERS: usize = 4096;
+pub(crate) const MAX_ORDERS: usize = 4096;
 
 /// Why a group has no book.
 #[derive(Clone, Copy, Debug, PartialEq, Eq, Error)]
@@ -93,7 +94,7 @@ impl Model for RowsInGroup {
 }
 
 /// Whether a row declares a cell.
-fn declares_cell(fields: &ByteRecord) -> bool
+pub(crate) fn declares_cell(fields: &ByteRecord) -> bool
     ensures { result ≡ declares_cell (fields_of fields.now) }
 {
     match fields.get(0) {
@@ -199,6 +200,45 @@ fn rows_in_group(alloc: Global, octets: &[u8], group: u16) -> Result<RowsInGroup
         }
     }
     Ok(known)
+}
+
+/// The orders that the rows of a network book's octets give, each for its cells of the first group. No text of them is
+/// judged.
+///
+/// # Errors
+///
+/// The first fault of a row, or out of memory.
+pub fn network_orders(alloc: Global, octets: &[u8]) -> Result<Vec<Order>, BookFault>
+    ensures ok { IfOk result (λ orders. AreOrdersIn 0 octets.now orders.items) }
+    ensures err { IfErr result (λ fault. (fault ≡ refused) ⊎ IsRowFaultBy (row_in_group 0) octets.now fault) }
+{
+    let RowsInGroup { orders, .. } = rows_in_group(alloc, octets, 0)?;
+    Ok(orders)
+}
+
+/// The orders that the rows of a network book's octets give for some cells of a group. No text of them is judged.
+///
+/// # Errors
+///
+/// `Network` with the first fault of a row, or out of memory, and `NoGroup` with the number of groups if this one isn't
+/// among them.
+pub fn group_orders(alloc: Global, octets: &[u8], group: u16) -> Result<Vec<Order>, GroupFault>
+    ensures ok { IfOk result (λ orders. AreOrdersOfGroup group octets.now orders.items) }
+    ensures err { IfErr result (HasNoOrders group octets.now) }
+{
+    let rows = match rows_in_group(alloc, octets, group) {
+        Ok(rows) => rows,
+        Err(fault) => return Err(GroupFault::Network(fault)),
+    };
+    let groups = groups_of(rows.declared.count);
+    if groups <= group {
+        return Err(GroupFault::NoGroup(groups));
+    }
+    let RowsInGroup { orders, .. } = rows;
+    match orders_kept(alloc, orders) {
+        Ok(orders) => Ok(orders),
+        Err(_) => Err(GroupFault::Network(fault_of_book(BookFaultKind::Refused))),
+    }
 }
 
 /// Whether an order is for some cells.

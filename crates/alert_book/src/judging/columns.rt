@@ -3,19 +3,19 @@
 ghost use Rattle.std.specs.Prelude.{◌≡◌, ◌≤◌, IfOk, length};
 ghost use Rattle.std.specs.Result.{result_err};
 ghost use Rattle.csv.specs.Records.{fields_of};
-ghost use Rattle.alert_book.specs.Cells.{cells_of_field};
 ghost use Rattle.alert_book.specs.Fields.{column, number};
-ghost use Rattle.alert_book.specs.Judging.{ci_fault, column_fault, columns_after, first_found, found_after_verb};
-ghost use Rattle.alert_book.specs.Judging.{found_of_verb, is_full, name_fault, update_found};
+ghost use Rattle.alert_book.specs.Judging.{ci_fault, column_fault, columns_after, field_judged, first_found};
+ghost use Rattle.alert_book.specs.Judging.{found_after_verb, found_of_verb, is_full, name_fault, update_found};
 ghost use Rattle.alert_book.specs.NameSteps.{AreNames};
 ghost use Rattle.alert_book.specs.Row.{verb_of};
 
-use crate::book::cells::{cells_of_field, is_among};
+use crate::book::declared::Declared;
 use crate::book::fields::{check_new_name, column, known_name, number};
 use crate::book::names::Names;
 use crate::book::order::Order;
-use crate::book::row::{MAX_CELLS, MAX_UPDATES, Verb, columns_of, count_of_updates, verb_of};
+use crate::book::row::{MAX_UPDATES, Verb, columns_of, count_of_updates, verb_of};
 use crate::fault::RowFault;
+use crate::judging::cells::JudgedCells;
 use cbsp_wire::Cell;
 use csv::StringRecord;
 use std::alloc::{AllocError, Global};
@@ -102,19 +102,19 @@ fn number_fault(field: &str, least: u16, most: u16) -> Option<RowFault>
 }
 
 /// The fault of a CI after this LAC, if they don't name a cell that isn't declared.
-fn ci_fault(declared: &[Cell], lac: &str, ci: &str) -> Option<RowFault>
-    ensures { result ≡ ci_fault declared.now lac.now ci.now }
+fn ci_fault(declared: &JudgedCells, lac: &str, ci: &str) -> Option<RowFault>
+    ensures { result ≡ ci_fault declared.now.cells lac.now ci.now }
 {
     check_new_cell(declared, lac, ci).err()
 }
 
 /// Whether a row may declare a cell of this LAC and CI.
-fn check_new_cell(declared: &[Cell], lac: &str, ci: &str) -> Result<(), RowFault>
-    ensures { result_err result ≡ ci_fault declared.now lac.now ci.now }
+fn check_new_cell(declared: &JudgedCells, lac: &str, ci: &str) -> Result<(), RowFault>
+    ensures { result_err result ≡ ci_fault declared.now.cells lac.now ci.now }
 {
     let lac = number(lac, 0, u16::MAX)?;
     let ci = number(ci, 0, u16::MAX)?;
-    if is_among(declared, Cell { lac, ci }) {
+    if declared.has(Cell { lac, ci }) {
         return Err(RowFault::TwiceNamed);
     }
     Ok(())
@@ -138,12 +138,13 @@ fn name_fault(verb: Verb, orders: &[Order], names: &Names, name: &str) -> Option
 /// The fault of a field of cells.
 fn cells_fault(
     alloc: Global,
-    declared: &[Cell],
+    declared: &JudgedCells,
     field: &str,
 ) -> Result<Option<RowFault>, AllocError>
-    ensures { IfOk result (λ fault. fault ≡ result_err (cells_of_field declared.now field.now)) }
+    ensures { IfOk result (λ fault.
+        fault ≡ result_err (field_judged declared.now.bounds declared.now.cells field.now)) }
 {
-    match cells_of_field(alloc, declared, field) {
+    match declared.cells_of_field(alloc, field) {
         Ok(_) => Ok(None),
         Err(RowFault::Refused) => Err(AllocError),
         Err(fault) => Ok(Some(fault)),
@@ -154,7 +155,7 @@ fn cells_fault(
 fn column_fault(
     alloc: Global,
     verb: Verb,
-    declared: &[Cell],
+    declared: &JudgedCells,
     orders: &[Order],
     names: &Names,
     column: Column,
@@ -163,7 +164,7 @@ fn column_fault(
 ) -> Result<Option<RowFault>, AllocError>
     requires { AreNames names.now orders.now }
     ensures { IfOk result (λ fault.
-        fault ≡ column_fault verb declared.now orders.now column before.now field.now) }
+        fault ≡ column_fault declared.now.bounds verb declared.now.cells orders.now column before.now field.now) }
 {
     match column {
         Column::Language | Column::Text => Ok(None),
@@ -196,11 +197,11 @@ fn update_found(verb: Verb, orders: &[Order], names: &Names, name: &str) -> Opti
 }
 
 /// Whether a row of this verb is a cell too many.
-fn is_full(verb: Verb, declared: &[Cell]) -> bool
-    ensures { result ≡ is_full verb declared.now }
+fn is_full(verb: Verb, declared: &JudgedCells) -> bool
+    ensures { result ≡ is_full declared.now.bounds verb declared.now.cells }
 {
     match verb {
-        Verb::Cell => declared.len() >= MAX_CELLS,
+        Verb::Cell => declared.list().len() >= declared.most(),
         Verb::Write | Verb::Update | Verb::Stop => false,
     }
 }
@@ -210,14 +211,15 @@ fn is_full(verb: Verb, declared: &[Cell]) -> bool
 fn first_found(
     alloc: Global,
     verb: Verb,
-    declared: &[Cell],
+    declared: &JudgedCells,
     orders: &[Order],
     names: &Names,
     fields: &StringRecord,
 ) -> Result<Option<Found>, AllocError>
     requires { AreNames names.now orders.now }
-    ensures { IfOk result (λ found. found ≡ first_found verb declared.now orders.now (fields_of fields.now)
-        (update_found verb orders.now (column (fields_of fields.now) 2)) 1 (columns_after verb)) }
+    ensures { IfOk result (λ found. found ≡ first_found declared.now.bounds verb declared.now.cells orders.now
+        (fields_of fields.now) (update_found verb orders.now (column (fields_of fields.now) 2)) 1
+        (columns_after verb)) }
 {
     let columns = columns_after(verb);
     for (index, kind) in columns.iter().enumerate() {
@@ -239,14 +241,14 @@ fn first_found(
 fn found_of_verb(
     alloc: Global,
     verb: Verb,
-    declared: &[Cell],
+    declared: &JudgedCells,
     orders: &[Order],
     names: &Names,
     fields: &StringRecord,
 ) -> Result<Option<Found>, AllocError>
     requires { AreNames names.now orders.now }
     ensures { IfOk result (λ found.
-        found ≡ found_of_verb verb declared.now orders.now (fields_of fields.now)) }
+        found ≡ found_of_verb declared.now.bounds verb declared.now.cells orders.now (fields_of fields.now)) }
 {
     if is_full(verb, declared) {
         return Ok(Some(Found {
@@ -260,14 +262,15 @@ fn found_of_verb(
 /// The fault of a row of text.
 pub(crate) fn found_after_verb(
     alloc: Global,
-    declared: &[Cell],
+    declared: &JudgedCells,
     orders: &[Order],
     names: &Names,
     fields: &StringRecord,
 ) -> Result<Option<Found>, AllocError>
     requires { AreNames names.now orders.now }
-    ensures { IfOk result (λ found. found ≡ found_after_verb (verb_of (column (fields_of fields.now) 0)) declared.now
-        orders.now (fields_of fields.now)) }
+    ensures { IfOk result (λ found. found ≡ found_after_verb declared.now.bounds
+        (verb_of (column (fields_of fields.now) 0))
+        declared.now.cells orders.now (fields_of fields.now)) }
 {
     let Some(verb) = verb_of(column(fields, 0)) else {
         return Ok(Some(Found {

@@ -1,6 +1,6 @@
 //! Cells, so that no look-up goes over all of them.
 
-ghost use Rattle.std.specs.Prelude.{◌≡◌, ◌||◌, [], OnOk};
+ghost use Rattle.std.specs.Prelude.{◌≡◌, ◌||◌, [], OnErr, OnOk};
 ghost use Rattle.cbsp_wire.specs.Range.{is_cell};
 ghost use Rattle.cbsp_wire.specs.declared.message.Cell.{Cell};
 ghost use Rattle.alert_book.specs.CellPairs.{has_cell};
@@ -46,10 +46,11 @@ impl CellSet {
     ///
     /// # Errors
     ///
-    /// Out of memory.
+    /// Out of memory. The cells are the same then.
     pub(crate) fn add(&mut self, cell: Cell) -> Result<(), AllocError>
-        ensures { OnOk result ((other : Cell) →
+        ensures added { OnOk result ((other : Cell) →
             has_cell self.new other ≡ (has_cell self.old other || is_cell cell other)) }
+        ensures refused { OnErr result ((other : Cell) → has_cell self.new other ≡ has_cell self.old other) }
     {
         self.cells.insert((cell.lac, cell.ci))?;
         Ok(())

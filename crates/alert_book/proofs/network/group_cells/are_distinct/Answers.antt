@@ -11,4 +11,4 @@ pub loop-cell-preserved : goal.loop-cell-preserved
 loop-cell-preserved c =
     seen_more c.loop-cell.seen c.add.new.self c.args.cells.now c.loop-cell.cell-index _
     (omega (arith, c.loop-cell-test.true)) c.loop-cell.invariant (sym c.has.ensures ∙ c.if-has.false)
-    c.in_ok-add.ensures
+    c.in_ok-add.ensures.added
