@@ -122,7 +122,7 @@ after_verb : (bound : Bounds) (verb : Option Verb) (row : ℕ) (declared : List 
     (fields : List (List ℕ))
     → Tells (found_after_verb bound verb declared orders fields)
     (row_after_verb_by verb (cell_row_within (most_cells bound) declared fields) row (field_judged bound declared)
-        orders
+    orders
     fields)
 after_verb bound None row declared orders fields = refl
 after_verb bound (Some verb) row declared orders fields =

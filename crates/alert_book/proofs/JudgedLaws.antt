@@ -149,7 +149,7 @@ name_has_room before fields name within past is = elim (cases_Bool (declares_cel
 pub next_is : (before : Counted) (fields : List (List ℕ)) → is_past before fields ≡ false → are_texts fields ≡ true
     → next_meant before fields
     ≡ row_after_verb_by (verb_of (column fields 0)) (cell_row_within (most_cells before.bounds) before.known.cells
-        fields)
+    fields)
     (before.rows + 1) (field_judged before.bounds before.known.cells) before.known.orders fields
 next_is before fields past texts =
     rw (over_is_past before.bounds before.rows before.known.orders fields, past, texts) refl

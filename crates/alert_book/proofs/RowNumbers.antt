@@ -71,7 +71,7 @@ has_row bound row declared orders fields =
     unless row (is_over bound row orders fields) fault.TooManyRows _
     (unless row (not (are_texts fields)) fault.Columns _
     (after_verb (verb_of (column fields 0)) row (most_cells bound) (field_judged bound declared) declared orders
-        fields))
+    fields))
 
 -- an order has the number of its row
 pub order_has_row : (bound : Bounds) (row : ℕ) (declared : List Cell) (orders : List Order) (fields : List (List ℕ))

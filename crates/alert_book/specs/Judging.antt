@@ -128,7 +128,7 @@ abbrev pub first_found : Bounds → Verb → List Cell → List Order → List (
 first_found bound verb declared orders fields last place [] = last
 first_found bound verb declared orders fields last place (kind ∷ kinds) =
     found_or (place + 1) (column_fault bound verb declared orders kind (column fields (place - 1))
-        (column fields place))
+    (column fields place))
     (first_found bound verb declared orders fields last (place + 1) kinds)
 
 -- an update too many of a name, which stands in column 3
