@@ -1,18 +1,24 @@
 -- Octets have one table of texts at most.
-use Rattle.std.proofs.Common.{◌≡◌, ◌∙◌, ◌⊎◌, ℕ, ◌<◌, List, [], ◌∷◌, ◌++◌, length, take, ap, arith, inl, inr, refl}
+use Rattle.std.proofs.Common.{◌≡◌, ◌∙◌, ◌⊎◌, ℕ, ◌<◌, List, [], ◌∷◌, ◌++◌, length, filter, ap, arith, inl, inr}
+use Rattle.std.proofs.Common.{refl}
 use Rattle.std.proofs.Common.{subst}
 use Rattle.std.proofs.Common.{sym, true, Option, Some, None}
 use Rattle.std.proofs.lemmas.Bool.{cases_lt}
 use Rattle.std.specs.Str.{chars}
 use Rattle.alert_book.proofs.OneAnswer.{one_meaning, right_or_wrong}
 use Rattle.alert_book.specs.Book.{sending_of, Rows}
+use Rattle.alert_book.specs.Extent.{AreOrdersFor, IsRowFaultFor}
+use Rattle.alert_book.specs.Network.{has_cells, row_in_group}
 use Rattle.alert_book.specs.Row.{row_of}
+use Rattle.alert_book.specs.declared.fault.BookFault.{BookFault}
+use Rattle.alert_book.specs.declared.judging.bounds.Extent.{Extent}
+use Rattle.alert_book.specs.declared.judging.bounds.Extent.TheVariants as extent
 use Rattle.alert_book.specs.declared.book.order.Order.{Order}
 use Rattle.alert_book.specs.declared.book.order.Sending.{Sending}
 use Rattle.cbs_page.proofs.PagingLaws.{one_paging}
 use Rattle.cbs_page.specs.Text.{alphabet_for, capacity, cost_of}
 use Rattle.book_texts.specs.Cost.{room_after, IsCostOf}
-use Rattle.book_texts.specs.Fit.{ends_word, FitsIn, IsCut, IsWhole, NoneFits, NoneIsWhole}
+use Rattle.book_texts.specs.Fit.{ends_word, IsCut, NoneFits, NoneIsWhole}
 use Rattle.book_texts.specs.Laws.{TablesAreOne, TablesHaveRightRows}
 use Rattle.book_texts.specs.TextsOutput.{header_line, text_line, AreLinesOf, IsCutFor, IsLineOf}
 use Rattle.book_texts.specs.declared.cost.TextCost.{TextCost}
@@ -84,14 +90,39 @@ one_lines pages (order ∷ orders) lines others one two =
     let rest = one_lines pages orders one.1 two.1 one.3 two.3 in
     one.4 ∙ ap (λ (line : List ℕ). line ++ one.1) first ∙ ap (λ (more : List ℕ). two.0 ++ more) rest ∙ sym two.4
 
+-- the orders of octets are one list
+one_list : (what : Extent) (input : List ℕ) (orders others : List Order) → AreOrdersFor what input orders
+    → AreOrdersFor what input others → orders ≡ others
+one_list extent.Book input orders others one two =
+    one.given ∙ ap (λ (r : Rows). r.orders) (one_meaning row_of input one.rows two.rows one.meant two.meant)
+    ∙ sym two.given
+one_list extent.Network input orders others one two =
+    one.given
+    ∙ ap (λ (r : Rows). r.orders) (one_meaning (row_in_group 0) input one.rows two.rows one.meant two.meant)
+    ∙ sym two.given
+one_list (extent.Group group) input orders others one two =
+    one.given
+    ∙ ap (λ (r : Rows). filter has_cells r.orders)
+    (one_meaning (row_in_group group) input one.rows two.rows one.meant two.meant)
+    ∙ sym two.given
+
 -- so octets have one table
 pub tables_are_one : TablesAreOne
-tables_are_one pages input output another one two =
-    let rows = one_meaning row_of input one.rows two.rows one.read two.read in
-    let lines = one_lines pages two.rows.orders one.lines two.lines
-    (subst (λ (r : Rows). AreLinesOf pages r.orders one.lines) rows one.lines_are) two.lines_are in
+tables_are_one what pages input output another one two =
+    let orders = one_list what input one.orders two.orders one.read two.read in
+    let lines = one_lines pages two.orders one.lines two.lines
+    (subst (λ (os : List Order). AreLinesOf pages os one.lines) orders one.lines_are) two.lines_are in
     one.written ∙ ap (λ (l : List ℕ). header_line pages ++ l) lines ∙ sym two.written
+
+-- octets with orders have no row with a fault
+no_fault : (what : Extent) (input : List ℕ) (orders : List Order) (f : BookFault) → AreOrdersFor what input orders
+    → IsRowFaultFor what input f → ⊥
+no_fault extent.Book input orders f read wrong = right_or_wrong row_of input read.rows f read.meant wrong
+no_fault extent.Network input orders f read wrong =
+    right_or_wrong (row_in_group 0) input read.rows f read.meant wrong
+no_fault (extent.Group group) input orders f read wrong =
+    right_or_wrong (row_in_group group) input read.rows f read.meant wrong
 
 -- and none where a row has a fault
 pub tables_have_right_rows : TablesHaveRightRows
-tables_have_right_rows pages input output f table wrong = right_or_wrong row_of input table.rows f table.read wrong
+tables_have_right_rows what pages input output f table wrong = no_fault what input table.orders f table.read wrong

@@ -1,4 +1,5 @@
--- What `warnc texts` makes of a book: a table of what the texts of its orders cost, as CSV. Own.
+-- What `warnc texts` makes of a book, of a network book or of a group of one: a table of what the texts of its orders
+-- cost, as CSV. Own.
 use Rattle.std.specs.Prelude.{◌≡◌, ⊤, ℕ, ◌<◌, ◌≤◌, List, [], ◌∷◌, ◌++◌, length, Option, None, Some, codes, encode_utf8}
 use Rattle.std.specs.Prelude.{is_some}
 use Rattle.std.specs.Prelude.{if◌then◌else◌, position, Bool}
@@ -10,7 +11,9 @@ use Rattle.device_ends.specs.Moves.{AppendsFront}
 use Rattle.cbs_page.specs.Text.{is_bad}
 use Rattle.cbs_page.specs.declared.coding.Alphabet.{Alphabet}
 use Rattle.cbs_page.specs.declared.coding.Alphabet.TheVariants.{Gsm, Ucs2}
-use Rattle.alert_book.specs.Book.{max_book, sending_of, AreRowsOf, IsRowFault, Rows}
+use Rattle.alert_book.specs.Book.{sending_of}
+use Rattle.alert_book.specs.Extent.{bounds_of, most_octets, AreOrdersFor, IsRowFaultFor, LacksGroupOf}
+use Rattle.alert_book.specs.declared.judging.bounds.Extent.{Extent}
 use Rattle.alert_book.specs.declared.book.order.Order.{Order}
 use Rattle.alert_book.specs.declared.book.order.Sending.{Sending}
 use Rattle.book_texts.specs.Cost.{first_forcing, place_of_forcing, IsCostOf}
@@ -87,28 +90,35 @@ AreLinesOf pages (order ∷ orders) octets =
     (first rest : List ℕ) × IsLineOf pages (sending_of order.action) order first × AreLinesOf pages orders rest
     × (octets ≡ first ++ rest)
 
--- what is written for the octets that were read: the rows of a book, whose texts needn't be such as can be sent
-pub record IsTextsOutput (pages : Option ℕ) (input output : List ℕ) : Type 0 where
-  pub bounded : length input ≤ max_book
-  pub rows : Rows
-  pub read : AreRowsOf input rows
+-- what is written for the octets that were read: their rows are right, but their texts needn't be such as can be sent
+pub record IsTextsOutput (what : Extent) (pages : Option ℕ) (input output : List ℕ) : Type 0 where
+  pub bounded : length input ≤ most_octets (bounds_of what)
+  pub orders : List Order
+  pub read : AreOrdersFor what input orders
   pub lines : List ℕ
-  pub lines_are : AreLinesOf pages rows.orders lines
+  pub lines_are : AreLinesOf pages orders lines
   pub written : output ≡ header_line pages ++ lines
 
--- why no table is written: the input is too long, or a row has a fault, the first of them; or out of memory, or a
--- device failed; after a fault of the writer a front of the table was written, and after any other fault nothing
-abbrev pub IsTextsFault : (pages : Option ℕ) (input : List ℕ) (old new : Option (List ℕ)) → TextsFault → Type 0
-IsTextsFault pages input old new fault.TooLong = (max_book < length input) × Keeps old new
-IsTextsFault pages input old new (fault.Row f) = (length input ≤ max_book) × IsRowFault input f × Keeps old new
-IsTextsFault pages input old new fault.ReadFailed = Keeps old new
-IsTextsFault pages input old new fault.Refused = Keeps old new
-IsTextsFault pages input old new fault.WriteFailed =
-    (output : List ℕ) × IsTextsOutput pages input output × AppendsFront old new output
+-- why no table is written: the input is too long, or a row has a fault, the first of them, or there is no such group;
+-- or out of memory, or a device failed; after a fault of the writer a front of the table was written, and after any
+-- other fault nothing
+abbrev pub IsTextsFault : Extent → (pages : Option ℕ) (input : List ℕ) (old new : Option (List ℕ)) → TextsFault
+    → Type 0
+IsTextsFault what pages input old new fault.TooLong =
+    (most_octets (bounds_of what) < length input) × Keeps old new
+IsTextsFault what pages input old new (fault.Row f) =
+    (length input ≤ most_octets (bounds_of what)) × IsRowFaultFor what input f × Keeps old new
+IsTextsFault what pages input old new (fault.NoGroup groups) =
+    (length input ≤ most_octets (bounds_of what)) × LacksGroupOf what input groups × Keeps old new
+IsTextsFault what pages input old new fault.ReadFailed = Keeps old new
+IsTextsFault what pages input old new fault.Refused = Keeps old new
+IsTextsFault what pages input old new fault.WriteFailed =
+    (output : List ℕ) × IsTextsOutput what pages input output × AppendsFront old new output
 
--- the fault of a row
+-- a fault of what was read to its end
 abbrev pub IsOfRow : TextsFault → Type 0
 IsOfRow (fault.Row f) = ⊤
+IsOfRow (fault.NoGroup groups) = ⊤
 IsOfRow other = ⊥
 
 -- the fault of a failed writer
