@@ -218,17 +218,18 @@ function showTextFault(cost, text) {
     }
 }
 function showPages(result) {
-    const isUcs = result.cost.coding === "UCS-2", room = isUcs ? UNITS : SEPTETS, { pages, blocks } = result;
-    const usedOf = (page) => [...page].reduce((sum, letter) => sum + (isUcs ? 1 : letters.get(letter)?.cost ?? 1), 0);
+    const isUcs = result.cost.coding === "UCS-2", room = isUcs ? UNITS : SEPTETS, { pages } = result;
+    const costOf = (letter) => (isUcs ? 1 : letters.get(letter)?.cost ?? 1);
+    const usedOf = ({ text }) => [...text].reduce((sum, letter) => sum + costOf(letter), 0);
     fill($("t-pages"), pages.map((page, k) => node("li.card-phone",
         node("header", node("span", say("page", k + 1, pages.length)), node("span", say("used", usedOf(page), room))),
         node("progress", { max: room, value: usedOf(page), "aria-hidden": "true" }),
-        node("p", { dir: "auto" }, page))));
+        node("p", { dir: "auto" }, page.text))));
     $("t-pages").setAttribute("aria-label", nameOfId(+(currentOrder() || draft).id));
-    $("t-octets").textContent = `${say("blocks", number(blocks.length * 23))} · ${result.serial}`;
-    const title = (k) => `${k ? "\n" : ""}${say("page", k / 4 + 1, pages.length)}\n`;
-    const lines = blocks.map((block, k) => (k % 4 ? "" : title(k)) + block.replace(/(..)/g, "$1 "));
-    $("t-blocks").textContent = lines.join("\n");
+    $("t-octets").textContent = `${say("blocks", number(pages.length * 4 * 23))} · ${pages[0].serial}`;
+    const blocksOf = (page) => [1, 2, 3, 4].map((k) => page[`block_${k}`].replace(/(..)/g, "$1 ")).join("\n");
+    const lines = pages.map((page, k) => `${say("page", k + 1, pages.length)}\n${blocksOf(page)}`);
+    $("t-blocks").textContent = lines.join("\n\n");
 }
 function showText(result, text) {
     const { cost, mendedCost } = result, why = $("t-why"), pages = +cost.pages, fewer = +mendedCost.pages;

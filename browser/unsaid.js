@@ -1,33 +1,6 @@
 // In a worker: what the page shows and the program doesn't say yet. In how many cells an order's message is shown, or
-// never is; texts with spaces at an end, and orders of all cells with cells after them; the load as numbers, the text
-// of each page, and which page is on the channel in a slot. All of it is read of the program's report, chart and tapes
-// (docs/formats.md).
-const SLOT_OCTETS = 92, HEADER_OCTETS = 8, FIRST_BLOCK = 0x20;
-
-// Returns what a phone shows of each page alone: to `read` each goes as page 1 of 1, with a serial number of its own.
-function textsOfPages(blocks) {
-    const pages = blocks.length / 4, octets = blocks.join("").match(/../g).map((digits) => parseInt(digits, 16));
-    for (let page = 0, at = 0; page < pages; page++, at += SLOT_OCTETS) {
-        octets.splice(at + 1, 2, 0, page << 4);
-        octets[at + 6] = 0x11;
-    }
-    const tape = Uint8Array.from([0, 0, 0, 0, 0, 0, 0, pages, ...octets]);
-    return tableBy(["read"], tape).map((row) => row.text);
-}
-
-// Returns of each slot of a cell's tape the identifier and serial number of the page that it sends, 0 if it is idle,
-// and the page's number and the total.
-function channelOf(tapes, slots, cell) {
-    const air = new Uint32Array(slots), page = new Uint8Array(slots);
-    const view = new DataView(tapes.buffer, tapes.byteOffset + cell * (HEADER_OCTETS + slots * SLOT_OCTETS));
-    for (let slot = 0, at = HEADER_OCTETS; slot < slots; slot++, at += SLOT_OCTETS) {
-        if (view.getUint8(at) !== FIRST_BLOCK) continue;
-        air[slot] = ((view.getUint16(at + 3) << 16) | view.getUint16(at + 1)) >>> 0;
-        page[slot] = view.getUint8(at + 6);
-    }
-    return { air, page };
-}
-
+// never is; texts with spaces at an end, and orders of all cells with cells after them; the load as numbers. All of it
+// is read of the program's report and chart (docs/formats.md).
 const REFERENCES = { amp: "&", lt: "<", gt: ">", quot: '"' };
 const plain = (markup) => (
     markup.includes("&") ? markup.replace(/&(#?\w+);/g, (_, name) => REFERENCES[name] ?? "'") : markup);

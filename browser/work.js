@@ -1,6 +1,6 @@
 // The worker: one job at a time, each made of runs of the program.
 let tapes = null;
-const TEXTS_A_RUN = 2000;
+const TEXTS_A_RUN = 2000, HEADER_OCTETS = 8, SLOT_OCTETS = 92;
 const tableBy = (words, input) => tableOf(decode(run(words, input).out));
 
 // Returns what `texts` says of each text: its coding, its pages, the room on the last one, and how much of it fits.
@@ -14,6 +14,18 @@ function costsOf(texts, lang) {
     return costs;
 }
 
+// Returns of each slot of a cell's tape the identifier and serial number of the page that it sends, 0 if it is idle,
+// and the page's number and the total.
+function channelOf(tape, slots) {
+    const air = new Uint32Array(slots), page = new Uint8Array(slots);
+    for (const line of decode(run(["read", "--slots"], tape).out).split("\n").slice(1, -1)) {
+        const [, , slot, id, serial, number, total] = line.split(",");
+        air[slot] = ((id << 16) | parseInt(serial, 16)) >>> 0;
+        page[slot] = (number << 4) | total;
+    }
+    return { air, page };
+}
+
 const jobs = {
     async start({ packed, module }) {
         program = module || await compiled(packed);
@@ -21,15 +33,14 @@ const jobs = {
     },
 
     // One text: what it costs, and the same text once mended; what each letter costs that the page doesn't know yet;
-    // its blocks, and what a phone shows of each page.
+    // and its pages: the blocks of each, and what a phone shows of it.
     text({ text, mended, letters, lang, id, scope, code, update }) {
         const [cost, other, ...each] = costsOf([text, mended, ...letters], lang);
         const result = { cost, mendedCost: other, letters: letters.map((letter, k) => [letter, each[k]]) };
         if (cost.pages === "" || cost.pages === "0" || +cost.pages > MOST_PAGES) return result;
-        const words = ["page", "--lang", lang, "--id", id, "--scope", scope, "--code", code, "--update", update];
-        const said = decode(run(words, `${text}\n`).out); // one LF at the end isn't part of the text
-        const lines = said.split("\n").slice(0, 4 * +cost.pages);
-        return { ...result, blocks: lines, serial: lines[0].slice(2, 6), pages: textsOfPages(lines) };
+        const sent = ["--lang", lang, "--id", id, "--scope", scope, "--code", code, "--update", update];
+        // one LF at the end isn't part of the text
+        return { ...result, pages: tableBy(["page", "--explain", ...sent], `${text}\n`) };
     },
 
     book({ text, slots }, say) {
@@ -56,7 +67,8 @@ const jobs = {
         const made = tapes ? null : run(["compile", "--slots", slots, "--workers", 1], text);
         if (made?.status) return { fault: made.says };
         tapes ??= made.out;
-        return channelOf(tapes, slots, cell);
+        const length = HEADER_OCTETS + slots * SLOT_OCTETS;
+        return channelOf(tapes.subarray(cell * length, (cell + 1) * length), slots);
     },
 
     // Runs of the program, each with what the one before it wrote; the last one's status and output.

@@ -450,8 +450,17 @@ def table_in(out):
     return list(csv.reader(io.StringIO(out.decode(errors="replace"), newline="")))
 
 
-def is_table(out):
+def is_of_slots(out):
+    """Whether an output is that of `read --slots`."""
+    lines = out.split(b"\n")
+    return lines[0] == b"lac,ci,slot,id,serial,page,pages" and lines[-1] == b"" and all(
+        re.fullmatch(rb"\d+,\d+,\d+,\d+,[0-9a-f]{4},\d+,\d+", it) for it in lines[1:-1])
+
+
+def is_table(run, out):
     """Whether an output is that of `read`: rows of five columns, the first that of their names."""
+    if "--slots" in run.words:
+        return is_of_slots(out)
     rows = table_in(out)
     return rows[:1] == [["lac", "ci", "id", "serial", "text"]] and out.endswith(b"\n") and all(
         len(row) == 5 and re.fullmatch(r"\d+,\d+,\d+,[0-9a-f]{4}", ",".join(row[:4])) for row in rows[1:])
@@ -546,6 +555,9 @@ def is_capture(out):
 def is_shown(run, out):
     """Whether an output is that of `page`: 4 to 60 blocks, and the text that was given."""
     text = run.data.removesuffix(b"\n")
+    if "--explain" in run.words:
+        rows = table_in(out)[1:]
+        return 1 <= len(rows) <= 15 and "".join(row[-1] for row in rows).encode() == text
     serial = run.number("--scope", 0) << 14 | run.number("--code", 0) << 4 | run.number("--update", 0)
     last = f"{run.number('--id', 0)} {serial:04x} ".encode() + text + b"\n"
     lines = out.removesuffix(last).split(b"\n")[:-1]
@@ -580,8 +592,9 @@ def is_output(run, out):
     """Whether an output has the form of the command's."""
     if run.wanted == "text":
         return bool(out)
-    forms = {"page": lambda: is_shown(run, out), "read": lambda: is_table(out), "report": lambda: is_report(run, out),
-             "chart": lambda: is_chart(out), "verify": lambda: differences_in(out) == 0,
+    forms = {"page": lambda: is_shown(run, out), "read": lambda: is_table(run, out),
+             "report": lambda: is_report(run, out), "chart": lambda: is_chart(out),
+             "verify": lambda: differences_in(out) == 0,
              "plan": lambda: is_of_plan(run, out),
              "check": lambda: is_of_check(run, out), "texts": lambda: is_of_texts(run, out),
              "pcap": lambda: is_capture(out), "cells": lambda: is_of_cells(out),
@@ -774,7 +787,7 @@ def check_tapes(checked, case):
 def check_round(checked, case):
     """`read` shows what `page` says that it shows, of the same blocks."""
     one = checked.run(case.run)
-    if one.status == 0:
+    if one.status == 0 and "--explain" not in case.run.words:
         lines = re.match(rb"(?:[0-9a-f]{46}\n){4,60}", one.out)[0].decode()
         blocks = [bytes.fromhex(it) for it in lines.split()]
         if len(blocks) % 4:
@@ -1289,8 +1302,9 @@ def words_of(chance, options):
 
 def page_options(chance):
     language = chance.choice(LANGUAGES) if chance.random() < 0.95 else chance.choice(("xx", "EN", "en ", "", "é"))
-    return {"--lang": language, "--id": number_word(chance, 0, 65535), "--scope": number_word(chance, 0, 3),
-            "--code": number_word(chance, 0, 1023), "--update": number_word(chance, 0, 15)}
+    options = {"--lang": language, "--id": number_word(chance, 0, 65535), "--scope": number_word(chance, 0, 3),
+               "--code": number_word(chance, 0, 1023), "--update": number_word(chance, 0, 15)}
+    return options if chance.random() < 0.7 else {**options, "--explain": None}
 
 
 def threads_word(chance):
@@ -1350,6 +1364,8 @@ def tape_options(chance, command):
     options = {}
     if command == "read" and chance.random() < 0.5:
         options["--short"] = None
+    if command == "read" and chance.random() < 0.3:
+        options["--slots"] = None
     if command == "pcap" and chance.random() < 0.5:
         options["--used"] = None
     if command == "pcap" and chance.random() < 0.5:

@@ -1,6 +1,6 @@
 #!/usr/bin/env python3
 """Reads tapes with pages of one to four blocks, as docs/formats.md says: a second program against which `warnc read
---short` is compared, `warnc read` and `warnc whole`.
+--short` is compared, `warnc read`, both with --slots, and `warnc whole`.
 
 Usage: short_reference.py PROGRAM [RUNS]    random tapes, of pages in four blocks and in fewer, pages over the end of a
                                             slot, blocks out of place and idle slots. What both programs write has to be
@@ -54,14 +54,30 @@ def pages_of(blocks, short):
         place += 4 if short and 0 < count < 4 else count if count == 4 else 1
 
 
+def place_of(parameter):
+    """Returns a page's number and the total, by its page parameter."""
+    number, total = divmod(parameter, 16)
+    return (number, total) if number and total else (1, 1)
+
+
+def sent_by(blocks, short):
+    """Yields slot, identifier, serial number, number and total of each page that is sent in a slot of its own."""
+    for slot in range(len(blocks) // 4):
+        count = count_at(blocks, 4 * slot)
+        if count == 4 or short and count:
+            page = b"".join(it[1:] for it in blocks[4 * slot:4 * slot + count])
+            serial, ident, dcs, parameter = gsm.HEAD.unpack_from(page)
+            number, total = place_of(parameter)
+            if gsm.alphabet_of(dcs) is not None and number <= total:
+                yield slot, ident, f"{serial:04x}", number, total
+
+
 def shown_by(blocks, short):
     """Yields identifier, serial number and text of each message that blocks show."""
     messages, shown = {}, set()
     for page in pages_of(blocks, short):
         serial, ident, dcs, parameter = gsm.HEAD.unpack_from(page)
-        number, total = divmod(parameter, 16)
-        if number == 0 or total == 0:
-            number = total = 1
+        number, total = place_of(parameter)
         alphabet = gsm.alphabet_of(dcs)
         if alphabet is None or number > total:
             continue
@@ -147,9 +163,13 @@ def differs(program, seed):
     tables = {short: books.line(("lac", "ci", "id", "serial", "text")) + "".join(
         books.line((lac, ci, ident, f"{serial:04x}", text)) for lac, ci, blocks in tapes
         for ident, serial, text in shown_by(blocks, short)) for short in (True, False)}
+    sent = {short: books.line(("lac", "ci", "slot", "id", "serial", "page", "pages")) + "".join(
+        books.line((lac, ci, *page)) for lac, ci, blocks in tapes for page in sent_by(blocks, short))
+        for short in (True, False)}
     whole = b"".join(gsm.tape_of(lac, ci, whole_slots(blocks)) for lac, ci, blocks in tapes)
     for words, wanted in ((["read", "--short"], tables[True].encode()), (["read"], tables[False].encode()),
-                          (["whole"], whole)):
+                          (["read", "--short", "--slots"], sent[True].encode()),
+                          (["read", "--slots"], sent[False].encode()), (["whole"], whole)):
         done = subprocess.run([program, *words], input=octets, capture_output=True, check=False)
         found = done.returncode, done.stdout, done.stderr
         if found != (0, wanted, b""):

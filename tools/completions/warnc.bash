@@ -38,9 +38,9 @@ _warnc() {
             compile) words="--slots --group --network --strict --workers -h --help" ;;
             report) words="--slots --group --network --full --start --workers -h --help" ;;
             chart) words="--slots --group --network --cell --from --to --lang --start --strict --workers -h --help" ;;
-            read) words="--short -h --help" ;;
+            read) words="--short --slots -h --help" ;;
             verify) words="--book --slots --short --explain --start --group --workers --orders --cell --delay --lag -h --help" ;;
-            page) words="--lang --id --scope --code --update -h --help" ;;
+            page) words="--lang --id --scope --code --update --explain -h --help" ;;
             live) words="--slots --group --network --strict --sessions --workers -h --help" ;;
             pcap) words="--used --channel --start -h --help" ;;
             cells) words="-h --help" ;;

@@ -12,7 +12,7 @@ use std::test::Fail;
 use std::thread::Threads;
 use test_support::{Room, Words};
 use warnc_cli::run::run_with_book;
-use warnc_inspect::page::{PageFault, page_stream};
+use warnc_inspect::page::{PageFault, PageForm, page_stream};
 
 /// How many octets the stack grows before the first attempt. A run needs some 150,000.
 const STACK: usize = 262_144;
@@ -166,7 +166,8 @@ fn page_alone<T: AllocGlobal, R: Read, W: Write, F: Write>(
     let mut source = Source::new(reader);
     let mut sink = Sink::new(output);
     let serial = Serial::of(0x0010);
-    match page_stream(rt.alloc(), &mut source, &mut sink, "en", 4370, serial) {
+    let form = PageForm::Lines;
+    match page_stream(rt.alloc(), &mut source, &mut sink, form, "en", 4370, serial) {
         Ok(()) => 0,
         Err(PageFault::Refused) if !source.failed() && !sink.failed() => {
             let _ = writeln!(faults, "warnc: out of memory");

@@ -21,8 +21,9 @@ writes : (t : Task) (book input old new : Option (List ℕ)) → IsSilent t → 
 writes (task.Verify from slots pages layout file workers) book input old new one wrote = absurd one
 writes (task.VerifyOrders cell terms file) book input old new one wrote = absurd one
 writes (task.Tapes wanted file) book input old new one wrote = absurd one
-writes (task.Page language id serial) book input old new one wrote = wrote
+writes (task.Page language id serial form) book input old new one wrote = wrote
 writes (task.Read wanted) book input old new one wrote = wrote
+writes (task.ReadSlots wanted) book input old new one wrote = wrote
 writes task.Whole book input old new one wrote = wrote
 writes task.Plan book input old new one wrote = wrote
 writes (task.Pcap settings) book input old new one wrote = wrote
@@ -42,8 +43,9 @@ refuses : (t : Task) (book input : Option (List ℕ)) → IsSilent t → IfSome 
 refuses (task.Verify from slots pages layout file workers) book input one refused = absurd one
 refuses (task.VerifyOrders cell terms file) book input one refused = absurd one
 refuses (task.Tapes wanted file) book input one refused = absurd one
-refuses (task.Page language id serial) book input one refused = refused
+refuses (task.Page language id serial form) book input one refused = refused
 refuses (task.Read wanted) book input one refused = refused
+refuses (task.ReadSlots wanted) book input one refused = refused
 refuses task.Whole book input one refused = refused
 refuses task.Plan book input one refused = refused
 refuses (task.Pcap settings) book input one refused = refused
@@ -63,8 +65,9 @@ groups : (t : Task) (book input old new : Option (List ℕ)) → WritesFirstGrou
 groups (task.Verify from slots pages layout file workers) book input old new wrote = wrote
 groups (task.VerifyOrders cell terms file) book input old new wrote = wrote
 groups (task.Tapes wanted file) book input old new wrote = wrote
-groups (task.Page language id serial) book input old new wrote = wrote
+groups (task.Page language id serial form) book input old new wrote = wrote
 groups (task.Read wanted) book input old new wrote = wrote
+groups (task.ReadSlots wanted) book input old new wrote = wrote
 groups task.Whole book input old new wrote = wrote
 groups task.Plan book input old new wrote = wrote
 groups (task.Pcap settings) book input old new wrote = wrote
@@ -91,8 +94,9 @@ unseen : (t : Task) (book input old new : Option (List ℕ)) → IsSilent t → 
 unseen (task.Verify from slots pages layout file workers) book input old new one kept = absurd one
 unseen (task.VerifyOrders cell terms file) book input old new one kept = absurd one
 unseen (task.Tapes wanted file) book input old new one kept = absurd one
-unseen (task.Page language id serial) book input old new one kept = (tt, kept)
+unseen (task.Page language id serial form) book input old new one kept = (tt, kept)
 unseen (task.Read wanted) book input old new one kept = (tt, kept)
+unseen (task.ReadSlots wanted) book input old new one kept = (tt, kept)
 unseen task.Whole book input old new one kept = (tt, kept)
 unseen task.Plan book input old new one kept = (tt, kept)
 unseen (task.Pcap settings) book input old new one kept = (tt, kept)

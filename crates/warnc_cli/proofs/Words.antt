@@ -20,8 +20,9 @@ of_one_input words (task.Tapes wanted file) asked other = absurd (apart (other.1
   where
     apart : is_given words (codes "--cells") ≡ false → ⊥
     apart none = search (rules, asked.given, none)
-of_one_input words (task.Page language id serial) asked other = tt
+of_one_input words (task.Page language id serial form) asked other = tt
 of_one_input words (task.Read wanted) asked other = tt
+of_one_input words (task.ReadSlots wanted) asked other = tt
 of_one_input words task.Whole asked other = tt
 of_one_input words task.Plan asked other = tt
 of_one_input words (task.Pcap settings) asked other = tt
@@ -59,10 +60,12 @@ may_write words (task.Remark slots start strict) status asked (inl done) = inl d
 may_write words (task.Remark slots start strict) status asked (inr (inl device)) = inr (inl device)
 may_write words (task.Remark slots start strict) status asked (inr (inr faults)) =
     inr (inr (inl (faults, inr asked.command)))
-may_write words (task.Page language id serial) status asked (inl done) = inl done
-may_write words (task.Page language id serial) status asked (inr device) = inr (inl device)
+may_write words (task.Page language id serial form) status asked (inl done) = inl done
+may_write words (task.Page language id serial form) status asked (inr device) = inr (inl device)
 may_write words (task.Read wanted) status asked (inl done) = inl done
 may_write words (task.Read wanted) status asked (inr device) = inr (inl device)
+may_write words (task.ReadSlots wanted) status asked (inl done) = inl done
+may_write words (task.ReadSlots wanted) status asked (inr device) = inr (inl device)
 may_write words task.Whole status asked (inl done) = inl done
 may_write words task.Plan status asked (inl done) = inl done
 may_write words task.Whole status asked (inr device) = inr (inl device)
@@ -121,8 +124,9 @@ writes_some words (task.Strict run (product.Report layout)) asked compile live w
 writes_some words (task.Strict run (product.Chart wanted)) asked compile live whole plan orders report = tt
 writes_some words (task.Verify from slots pages layout file workers) asked compile live whole plan orders report = tt
 writes_some words (task.VerifyOrders cell terms file) asked compile live whole plan orders report = tt
-writes_some words (task.Page language id serial) asked compile live whole plan orders report = tt
+writes_some words (task.Page language id serial form) asked compile live whole plan orders report = tt
 writes_some words (task.Read wanted) asked compile live whole plan orders report = tt
+writes_some words (task.ReadSlots wanted) asked compile live whole plan orders report = tt
 writes_some words task.Whole asked compile live whole plan orders report = absurd (whole asked)
 writes_some words task.Plan asked compile live whole plan orders report = absurd (plan asked)
 writes_some words (task.Pcap settings) asked compile live whole plan orders report = tt

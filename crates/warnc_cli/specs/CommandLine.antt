@@ -36,6 +36,8 @@ use Rattle.verification.specs.declared.detail.Detail.{Detail}
 use Rattle.verification.specs.declared.detail.Detail.TheVariants as detail
 use Rattle.verification.specs.declared.detail.TableLayout.{TableLayout}
 use Rattle.warnc_air.specs.declared.all.AllWanted.{AllWanted}
+use Rattle.warnc_inspect.specs.declared.page.PageForm.{PageForm}
+use Rattle.warnc_inspect.specs.declared.page.PageForm.TheVariants.{Lines, Table}
 use Rattle.warnc_run.specs.declared.run.BookRun.{BookRun}
 use Rattle.warnc_run.specs.declared.run.Books.{Books}
 use Rattle.warnc_run.specs.declared.run.Books.TheVariants as books
@@ -64,8 +66,12 @@ pub record GivesNumber (words : List (List ℕ)) (name : List ℕ) (number : ℕ
   pub numeral : IsNumeral 10 (without_leading_plus digits)
   pub value : digits_value 10 (without_leading_plus digits) ≡ number
 
--- the words ask for `page` with a language, a message identifier and a serial number
-pub record AsksForPage (words : List (List ℕ)) (language : List ℕ) (id serial : ℕ) : Type 0 where
+-- what the words want to be written of pages
+abbrev pub form_given : (words : List (List ℕ)) → PageForm
+form_given words = if is_given words (codes "--explain") then Table else Lines
+
+-- the words ask for `page` with a language, a message identifier and a serial number, in this form
+pub record AsksForPage (words : List (List ℕ)) (language : List ℕ) (id serial : ℕ) (form : PageForm) : Type 0 where
   pub command : slice_get words 1 ≡ Some (codes "page")
   pub language_given : GivesValue words (codes "--lang") language
   pub id_given : GivesNumber words (codes "--id") id
@@ -77,14 +83,21 @@ pub record AsksForPage (words : List (List ℕ)) (language : List ℕ) (id seria
   pub update_given : GivesNumber words (codes "--update") update
   pub in_range : AreSerialFields scope code update
   pub numbered : serial ≡ serial_number scope code update
+  pub form_given : form ≡ form_given words
 
 -- which pages the words want to be read
 abbrev pub pages_given : (words : List (List ℕ)) → Pages
 pages_given words = if is_given words (codes "--short") then OfAny else OfFour
 
--- the words ask for `read` of these pages
+-- the words ask for `read` of these pages: for the messages that they show, or for their slots
 pub record AsksForRead (words : List (List ℕ)) (wanted : Pages) : Type 0 where
   pub command : slice_get words 1 ≡ Some (codes "read")
+  pub messages : is_given words (codes "--slots") ≡ false
+  pub wanted_given : wanted ≡ pages_given words
+
+pub record AsksForReadSlots (words : List (List ℕ)) (wanted : Pages) : Type 0 where
+  pub command : slice_get words 1 ≡ Some (codes "read")
+  pub slots : is_given words (codes "--slots") ≡ true
   pub wanted_given : wanted ≡ pages_given words
 
 -- the words ask for `check` of the rows alone

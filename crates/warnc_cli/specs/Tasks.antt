@@ -41,6 +41,7 @@ use Rattle.warnc_air.specs.declared.orders.OrdersCommandFault.{OrdersCommandFaul
 use Rattle.warnc_air.specs.declared.orders.PassedOver.{PassedOver}
 use Rattle.warnc_inspect.specs.PageOutput.{IsPageFault, IsPageOutput}
 use Rattle.warnc_inspect.specs.ReadOutput.{IsReadOutput}
+use Rattle.warnc_inspect.specs.SlotsOutput.{IsSlotsOutput}
 use Rattle.warnc_inspect.specs.WholeOutput.{IsWholeOutput}
 use Rattle.warnc_inspect.specs.declared.page.PageFault.{PageFault}
 use Rattle.warnc_run.specs.declared.fault.RunFault.{RunFault}
@@ -58,6 +59,7 @@ use Rattle.warnc_verdict.specs.declared.terms.VerdictTerms.{VerdictTerms}
 use Rattle.warnc_verify.specs.Verified.{Differs, HasDifferences, HasRun, IsVerified}
 use Rattle.warnc_cli.specs.CommandLine.{AsksForCells, AsksForOrders, AsksForTapes}
 use Rattle.warnc_cli.specs.CommandLine.{AsksForGroups, AsksForPage, AsksForPcap, AsksForRead, AsksForRun, AsksForTape}
+use Rattle.warnc_cli.specs.CommandLine.{AsksForReadSlots}
 use Rattle.warnc_cli.specs.CommandLine.{AsksForCheck, AsksForPlan, AsksForRemarks, AsksForTexts, AsksForVerify}
 use Rattle.warnc_cli.specs.CommandLine.{AsksForStrictRun, AsksForVerifyOrders, AsksForWhole}
 use Rattle.warnc_cli.specs.Status.{status_of_book_fault, status_of_page_fault}
@@ -66,8 +68,9 @@ use Rattle.warnc_cli.specs.declared.command.Task.TheVariants as task
 
 -- the words ask for this task
 abbrev pub IsTaskOf : (words : List (List ℕ)) → Task → Type 0
-IsTaskOf words (task.Page language id serial) = AsksForPage words language.now id serial
+IsTaskOf words (task.Page language id serial form) = AsksForPage words language.now id serial form
 IsTaskOf words (task.Read wanted) = AsksForRead words wanted
+IsTaskOf words (task.ReadSlots wanted) = AsksForReadSlots words wanted
 IsTaskOf words task.Whole = AsksForWhole words
 IsTaskOf words (task.Pcap settings) = AsksForPcap words settings
 IsTaskOf words task.Cells = AsksForCells words
@@ -89,8 +92,9 @@ IsTaskOf words (task.VerifyOrders cell terms file) = AsksForVerifyOrders words c
 
 -- what a command of one input makes of it
 abbrev pub Means : Task → (input output : List ℕ) → Type 0
-Means (task.Page language id serial) = IsPageOutput language.now id serial
+Means (task.Page language id serial form) = IsPageOutput form language.now id serial
 Means (task.Read wanted) = IsReadOutput wanted
+Means (task.ReadSlots wanted) = IsSlotsOutput wanted
 Means task.Whole = IsWholeOutput
 Means (task.Pcap settings) = IsCapture settings
 Means task.Cells = IsCellsOutput
@@ -277,8 +281,9 @@ HasNoTapes wanted table capture =
 
 -- the input that a command of one input refuses
 abbrev pub RefusesOne : Task → (input : List ℕ) → Type 0
-RefusesOne (task.Page language id serial) = IsRefused language.now
+RefusesOne (task.Page language id serial form) = IsRefused language.now
 RefusesOne (task.Read wanted) = IsNoTapes
+RefusesOne (task.ReadSlots wanted) = IsNoTapes
 RefusesOne task.Whole = IsNoTapes
 RefusesOne (task.Pcap settings) = IsNoTapes
 RefusesOne task.Cells = IsNoHeard

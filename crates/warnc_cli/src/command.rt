@@ -8,6 +8,7 @@ ghost use Rattle.warnc_cli.specs.CommandLine.{GivesAddress, GivesArfcn, GivesCel
 ghost use Rattle.warnc_cli.specs.CommandLine.{GivesFirstSlot, GivesLanguage, GivesPart, GivesSlotStart, GivesView};
 ghost use Rattle.warnc_cli.specs.CommandLine.{GivesWanted, IsAddress, IsCell};
 ghost use Rattle.warnc_cli.specs.CommandLine.{columns_given, slots_given, GivesBooks, GivesOrigin, GivesPages};
+ghost use Rattle.warnc_cli.specs.CommandLine.{form_given};
 ghost use Rattle.warnc_cli.specs.CommandLine.{detail_given, pages_given, GivesProduct, GivesTapeSlots, IsNumber};
 ghost use Rattle.warnc_cli.specs.CommandLine.{GivesTableLayout, GivesTerms, GivesVerifiedFile};
 ghost use Rattle.warnc_cli.specs.Tasks.{IsTaskOf};
@@ -27,6 +28,7 @@ use std::alloc::Global;
 use std::convert::AsStr;
 use verification::{Detail, TableLayout};
 use warnc_air::all::AllWanted;
+use warnc_inspect::page::PageForm;
 use warnc_run::{BookRun, Books, Product, Run, Sessions, Workers};
 use warnc_verdict::VerdictTerms;
 
@@ -41,9 +43,13 @@ pub enum Task<'a> {
         id: u16,
         /// The serial number (3GPP TS 23.041, clause 9.4.1.2.1).
         serial: Serial,
+        /// What is written of the pages.
+        form: PageForm,
     },
     /// `read`.
     Read(Pages),
+    /// `read` of slots.
+    ReadSlots(Pages),
     /// `whole`.
     Whole,
     /// `pcap`.
@@ -148,7 +154,7 @@ fn task_in<'a, S: AsStr>(words: &'a [S]) -> Option<Task<'a>>
     let command = words.get(1)?;
     match command.as_str() {
         "page" => page_in(words),
-        "read" => Some(Task::Read(wanted_pages(words))),
+        "read" => Some(read_in(words)),
         "whole" => Some(Task::Whole),
         "pcap" => Some(Task::Pcap(Settings {
             channel: channel_in(words)?,
@@ -342,7 +348,31 @@ fn page_in<'a, S: AsStr>(words: &'a [S]) -> Option<Task<'a>>
         language: value_of(words, "--lang")?,
         id: number_of(words, "--id")?,
         serial: Serial::new(scope, number_of(words, "--code")?, update)?,
+        form: form_in(words),
     })
+}
+
+/// What the words want to be written of pages.
+fn form_in<S: AsStr>(words: &[S]) -> PageForm
+    ensures { result ≡ form_given (map S.text words.now) }
+{
+    if is_given(words, "--explain") {
+        PageForm::Table
+    } else {
+        PageForm::Lines
+    }
+}
+
+/// The `read` that the words ask for: of messages, or of slots.
+fn read_in<'a, S: AsStr>(words: &'a [S]) -> Task<'a>
+    requires { slice_get (map S.text words.now) 1 ≡ Some (codes "read") }
+    ensures { IsTaskOf (map S.text words.now) result }
+{
+    if is_given(words, "--slots") {
+        Task::ReadSlots(wanted_pages(words))
+    } else {
+        Task::Read(wanted_pages(words))
+    }
 }
 
 /// The channel that the words give, that beside SDCCH/4 if they give none.

@@ -136,7 +136,8 @@ fn read<'a>(alloc: Global) -> Result<Command<'a>, AllocError> {
     Command::new(alloc, "read")
         .about("Reads tapes of blocks and writes a table of what a handset shows of\nthem, as CSV")
         .after_help("Example: warnc read --short < tapes")
-        .arg(short(alloc))
+        .arg(short(alloc))?
+        .arg(pages_by_slot(alloc))
 }
 
 /// The command line of `verify`.
@@ -208,7 +209,7 @@ fn texts<'a>(alloc: Global) -> Result<Command<'a>, AllocError> {
 fn page<'a>(alloc: Global) -> Result<Command<'a>, AllocError> {
     Command::new(alloc, "page")
         .about(
-            "Reads a text and writes the blocks of its pages, then what a handset\nshows of them",
+            "Reads a text and writes the blocks of its pages, then what a handset\nshows of them, or a table of the pages",
         )
         .after_help(
             "Example: echo 'Move now' |\n  warnc page --lang en --id 4370 --scope 0 --code 1 --update 0",
@@ -217,7 +218,8 @@ fn page<'a>(alloc: Global) -> Result<Command<'a>, AllocError> {
         .arg(id(alloc))?
         .arg(scope(alloc))?
         .arg(code(alloc))?
-        .arg(update(alloc))
+        .arg(update(alloc))?
+        .arg(page_table(alloc))
 }
 
 /// The command line of `live`.
@@ -558,6 +560,24 @@ fn short<'a>(alloc: Global) -> Arg<'a> {
         alloc,
         "short",
         "Reads pages of one to three blocks, too, as networks\nsend that cut a page after its text",
+    )
+}
+
+/// The option of a table of slots.
+fn pages_by_slot<'a>(alloc: Global) -> Arg<'a> {
+    flag(
+        alloc,
+        "slots",
+        "Writes which page is sent in which slot, in place of\nwhat is shown",
+    )
+}
+
+/// The option of a table of a text's pages.
+fn page_table<'a>(alloc: Global) -> Arg<'a> {
+    flag(
+        alloc,
+        "explain",
+        "Writes a table of the pages, as CSV: what the octets of\neach are, and the text that it shows by itself",
     )
 }
 

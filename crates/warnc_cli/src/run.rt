@@ -48,8 +48,9 @@ use warnc_air::cells::cells_stream;
 use warnc_air::orders::{PassedOver, orders_stream};
 use warnc_air::pcap::pcap_stream;
 use warnc_air::tape::tape_stream;
-use warnc_inspect::page::page_stream;
+use warnc_inspect::page::{PageForm, page_stream};
 use warnc_inspect::read::read_stream;
+use warnc_inspect::slots::slots_stream;
 use warnc_inspect::whole::whole_stream;
 use warnc_run::{BookRun, Product, Run, Workers, groups_stream, run_product, run_strictly};
 use warnc_verdict::{VerdictTerms, verify_orders_stream};
@@ -219,8 +220,10 @@ fn run_task<T: AllocGlobal + Threads + Wait + Sync, B: Read, R: Read, W: Write, 
             language,
             id,
             serial,
-        } => run_page(alloc, language, id, serial, source, sink, faults),
+            form,
+        } => run_page(alloc, language, id, serial, form, source, sink, faults),
         Task::Read(wanted) => run_read(alloc, wanted, source, sink, faults),
+        Task::ReadSlots(wanted) => run_read_slots(alloc, wanted, source, sink, faults),
         Task::Whole => run_whole(alloc, source, sink, faults),
         Task::Pcap(settings) => run_pcap(alloc, settings, source, sink, faults),
         Task::Cells => run_cells(alloc, source, sink, faults),
@@ -264,19 +267,21 @@ fn run_page<R: Read, W: Write, F: Write>(
     language: &str,
     id: u16,
     serial: Serial,
+    form: PageForm,
     source: &mut Source<R>,
     sink: &mut Sink<W>,
     faults: &mut F,
 ) -> u8
-    ensures done { IsDoneBy (Task.Page language.entry id serial) result R.remaining W.contents source.old sink.old
+    ensures done { IsDoneBy (Task.Page language.entry id serial form) result R.remaining W.contents source.old sink.old
         sink.new }
-    ensures wrote { WroteSomeBy (Task.Page language.entry id serial) result W.contents sink.old sink.new }
-    ensures refused { IsRefusedBy (Task.Page language.entry id serial) result R.remaining source.old }
-    ensures front { WroteFrontBy (Task.Page language.entry id serial) result R.remaining W.contents source.old sink.old
+    ensures wrote { WroteSomeBy (Task.Page language.entry id serial form) result W.contents sink.old sink.new }
+    ensures refused { IsRefusedBy (Task.Page language.entry id serial form) result R.remaining source.old }
+    ensures front { WroteFrontBy (Task.Page language.entry id serial form) result R.remaining W.contents source.old
+        sink.old sink.new }
+    ensures ends { IsRunBetween (Task.Page language.entry id serial form) result W.contents source.new sink.old
         sink.new }
-    ensures ends { IsRunBetween (Task.Page language.entry id serial) result W.contents source.new sink.old sink.new }
 {
-    match page_stream(alloc, source, sink, language, id, serial) {
+    match page_stream(alloc, source, sink, form, language, id, serial) {
         Ok(()) => DONE,
         Err(fault) => failed(&fault, faults),
     }
@@ -297,6 +302,26 @@ fn run_read<R: Read, W: Write, F: Write>(
     ensures ends { IsRunBetween (Task.Read wanted) result W.contents source.new sink.old sink.new }
 {
     match read_stream(alloc, source, sink, wanted) {
+        Ok(()) => DONE,
+        Err(fault) => failed(&fault, faults),
+    }
+}
+
+/// Runs `read` of slots, and returns the status.
+fn run_read_slots<R: Read, W: Write, F: Write>(
+    alloc: Global,
+    wanted: Pages,
+    source: &mut Source<R>,
+    sink: &mut Sink<W>,
+    faults: &mut F,
+) -> u8
+    ensures done { IsDoneBy (Task.ReadSlots wanted) result R.remaining W.contents source.old sink.old sink.new }
+    ensures wrote { WroteSomeBy (Task.ReadSlots wanted) result W.contents sink.old sink.new }
+    ensures refused { IsRefusedBy (Task.ReadSlots wanted) result R.remaining source.old }
+    ensures front { WroteFrontBy (Task.ReadSlots wanted) result R.remaining W.contents source.old sink.old sink.new }
+    ensures ends { IsRunBetween (Task.ReadSlots wanted) result W.contents source.new sink.old sink.new }
+{
+    match slots_stream(alloc, source, sink, wanted) {
         Ok(()) => DONE,
         Err(fault) => failed(&fault, faults),
     }

@@ -144,6 +144,81 @@ err -> warnc: write failed
 all -> 180 of 200
 ";
 
+/// A table of the pages: their octets are those of the runs above, the octets that are used those of their septets or
+/// units.
+const EXPLAIN: &str = "
+args page --lang en --id 4370 --scope 0 --code 1 --update 0 --explain
+in @
+run -> 0
+out -> page,pages,serial,identifier,coding,used,block_1,block_2,block_3,block_4,text
+out -> 1,1,0010,1112,01,1,\
+    200010111201118046a3d168341a8d46a3d168341a8d46,\
+    21a3d168341a8d46a3d168341a8d46a3d168341a8d46a3,\
+    22d168341a8d46a3d168341a8d46a3d168341a8d46a3d1,\
+    3368341a8d46a3d168341a8d46a3d168341a8d46a3d100,\
+    @
+
+# two pages, of 92 septets and of two: each shows its own part of the text
+in-hex 61
+repeat 92
+in-hex e282ac
+run -> 0
+out -> page,pages,serial,identifier,coding,used,block_1,block_2,block_3,block_4,text
+out -> 1,2,0010,1112,01,81,\
+    20001011120112e170381c0e87c3e170381c0e87c3e170,\
+    21381c0e87c3e170381c0e87c3e170381c0e87c3e17038,\
+    221c0e87c3e170381c0e87c3e170381c0e87c3e170381c,\
+    330e87c3e170381c0e87c3e170381c0e87c3e17038dc00,\
+    aaaaaaaaaaaaaaaaaaaaaaaaaaaaaaaaaaaaaaaaaaaaaaaaaaaaaaaaaaaaaaaaaaaaaaaaaaaaaaaaaaaaaaaaaaaa
+out -> 2,2,0010,1112,01,2,\
+    200010111201229b72a3d168341a8d46a3d168341a8d46,\
+    21a3d168341a8d46a3d168341a8d46a3d168341a8d46a3,\
+    22d168341a8d46a3d168341a8d46a3d168341a8d46a3d1,\
+    3368341a8d46a3d168341a8d46a3d168341a8d46a3d100,\
+    €
+
+# two lines: the text is quoted
+in a
+in b
+run -> 0
+out -> page,pages,serial,identifier,coding,used,block_1,block_2,block_3,block_4,text
+out -> 1,1,0010,1112,01,3,\
+    200010111201116185b8d168341a8d46a3d168341a8d46,\
+    21a3d168341a8d46a3d168341a8d46a3d168341a8d46a3,\
+    22d168341a8d46a3d168341a8d46a3d168341a8d46a3d1,\
+    3368341a8d46a3d168341a8d46a3d168341a8d46a3d100,\
+    \"a
+out -> b\"
+
+# UCS-2, and a serial number of ones alone
+args page --explain --lang ru --id 4370 --scope 3 --code 1023 --update 15
+in Вода
+run -> 0
+out -> page,pages,serial,identifier,coding,used,block_1,block_2,block_3,block_4,text
+out -> 1,1,ffff,1112,48,8,\
+    20ffff111248110412043e04340430000d000d000d000d,\
+    21000d000d000d000d000d000d000d000d000d000d000d,\
+    22000d000d000d000d000d000d000d000d000d000d000d,\
+    33000d000d000d000d000d000d000d000d000d000d000d,\
+    Вода
+";
+
+const EXPLAIN_REFUSED: &str = "
+args page --explain --lang en --id 4370 --scope 0 --code 1 --update 0
+in-hex 610d
+fails -> 1 warnc: bad character at 1
+in-none
+fails -> 1 warnc: text is empty
+in-hex 61ff
+fails -> 1 warnc: text is not UTF-8
+in @
+reads 0 1 -> 3 warnc: read failed
+writer 90 1
+run -> 3
+err -> warnc: write failed
+all -> 90 of 287
+";
+
 #[test]
 fn texts_go_out_and_come_back(rt: HostRuntime) -> Result<(), Fail> {
     expect_rows(&rt, PAGE, 60)
@@ -152,4 +227,14 @@ fn texts_go_out_and_come_back(rt: HostRuntime) -> Result<(), Fail> {
 #[test]
 fn refused_texts_and_failed_devices_are_named(rt: HostRuntime) -> Result<(), Fail> {
     expect_rows(&rt, REFUSED, 53)
+}
+
+#[test]
+fn pages_are_explained(rt: HostRuntime) -> Result<(), Fail> {
+    expect_rows(&rt, EXPLAIN, 99)
+}
+
+#[test]
+fn refused_texts_are_not_explained(rt: HostRuntime) -> Result<(), Fail> {
+    expect_rows(&rt, EXPLAIN_REFUSED, 99)
 }

@@ -257,6 +257,173 @@ in-hex 00
 fails -> 1 warnc: tape is long
 ";
 
+const SLOTS: &str = "
+args read --slots
+# the worked tape: a slot with the text `@`, and an idle slot
+worked-hex 0001 0001 00000002
+worked-hex 200010111201118046a3d168341a8d46a3d168341a8d46
+worked-hex 21a3d168341a8d46a3d168341a8d46a3d168341a8d46a3
+worked-hex 22d168341a8d46a3d168341a8d46a3d168341a8d46a3d1
+worked-hex 3368341a8d46a3d168341a8d46a3d168341a8d46a3d100
+worked-hex 2f2b2b2b2b2b2b2b2b2b2b2b2b2b2b2b2b2b2b2b2b2b2b
+worked-hex 2f2b2b2b2b2b2b2b2b2b2b2b2b2b2b2b2b2b2b2b2b2b2b
+worked-hex 2f2b2b2b2b2b2b2b2b2b2b2b2b2b2b2b2b2b2b2b2b2b2b
+worked-hex 2f2b2b2b2b2b2b2b2b2b2b2b2b2b2b2b2b2b2b2b2b2b2b
+in-worked
+run -> 0
+out -> lac,ci,slot,id,serial,page,pages
+out -> 1,1,0,4370,0010,1,1
+
+in-none
+run -> 0
+out -> lac,ci,slot,id,serial,page,pages
+
+# a page again, also after another one: each slot has its row; and the next tape
+in-hex 0001 0001 00000004
+in-hex 20 0020 1112 48 12 044f 000d 000d 000d 000d 000d 000d 000d
+in-hex 21 000d 000d 000d 000d 000d 000d 000d 000d 000d 000d 000d
+in-hex 22 000d 000d 000d 000d 000d 000d 000d 000d 000d 000d 000d
+in-hex 33 000d 000d 000d 000d 000d 000d 000d 000d 000d 000d 000d
+in-hex 20 ffff 111f 48 22 0041 000d 000d 000d 000d 000d 000d 000d
+in-hex 21 000d 000d 000d 000d 000d 000d 000d 000d 000d 000d 000d
+in-hex 22 000d 000d 000d 000d 000d 000d 000d 000d 000d 000d 000d
+in-hex 33 000d 000d 000d 000d 000d 000d 000d 000d 000d 000d 000d
+in-hex 2f2b2b2b2b2b2b2b2b2b2b2b2b2b2b2b2b2b2b2b2b2b2b
+in-hex 2f2b2b2b2b2b2b2b2b2b2b2b2b2b2b2b2b2b2b2b2b2b2b
+in-hex 2f2b2b2b2b2b2b2b2b2b2b2b2b2b2b2b2b2b2b2b2b2b2b
+in-hex 2f2b2b2b2b2b2b2b2b2b2b2b2b2b2b2b2b2b2b2b2b2b2b
+in-hex 20 0020 1112 48 12 044f 000d 000d 000d 000d 000d 000d 000d
+in-hex 21 000d 000d 000d 000d 000d 000d 000d 000d 000d 000d 000d
+in-hex 22 000d 000d 000d 000d 000d 000d 000d 000d 000d 000d 000d
+in-hex 33 000d 000d 000d 000d 000d 000d 000d 000d 000d 000d 000d
+in-hex fffe 0102 00000002
+in-hex 2f2b2b2b2b2b2b2b2b2b2b2b2b2b2b2b2b2b2b2b2b2b2b
+in-hex 2f2b2b2b2b2b2b2b2b2b2b2b2b2b2b2b2b2b2b2b2b2b2b
+in-hex 2f2b2b2b2b2b2b2b2b2b2b2b2b2b2b2b2b2b2b2b2b2b2b
+in-hex 2f2b2b2b2b2b2b2b2b2b2b2b2b2b2b2b2b2b2b2b2b2b2b
+in-hex 200010111201118046a3d168341a8d46a3d168341a8d46
+in-hex 21a3d168341a8d46a3d168341a8d46a3d168341a8d46a3
+in-hex 22d168341a8d46a3d168341a8d46a3d168341a8d46a3d1
+in-hex 3368341a8d46a3d168341a8d46a3d168341a8d46a3d100
+run -> 0
+out -> lac,ci,slot,id,serial,page,pages
+out -> 1,1,0,4370,0020,1,2
+out -> 1,1,1,4383,ffff,2,2
+out -> 1,1,3,4370,0020,1,2
+out -> 65534,258,1,4370,0010,1,1
+
+# a page parameter of 0 is page 1 of 1; no handset takes a number over the total, nor a coding without an alphabet
+in-hex 0001 0001 00000003
+in-hex 20 0020 1112 48 00 044f 000d 000d 000d 000d 000d 000d 000d
+in-hex 21 000d 000d 000d 000d 000d 000d 000d 000d 000d 000d 000d
+in-hex 22 000d 000d 000d 000d 000d 000d 000d 000d 000d 000d 000d
+in-hex 33 000d 000d 000d 000d 000d 000d 000d 000d 000d 000d 000d
+in-hex 20 0020 1112 48 32 044f 000d 000d 000d 000d 000d 000d 000d
+in-hex 21 000d 000d 000d 000d 000d 000d 000d 000d 000d 000d 000d
+in-hex 22 000d 000d 000d 000d 000d 000d 000d 000d 000d 000d 000d
+in-hex 33 000d 000d 000d 000d 000d 000d 000d 000d 000d 000d 000d
+in-hex 20 0020 1112 10 11 044f 000d 000d 000d 000d 000d 000d 000d
+in-hex 21 000d 000d 000d 000d 000d 000d 000d 000d 000d 000d 000d
+in-hex 22 000d 000d 000d 000d 000d 000d 000d 000d 000d 000d 000d
+in-hex 33 000d 000d 000d 000d 000d 000d 000d 000d 000d 000d 000d
+run -> 0
+out -> lac,ci,slot,id,serial,page,pages
+out -> 1,1,0,4370,0020,1,1
+
+# blocks that are no page: without the third, in another order, and over the end of a slot
+in-hex 0001 0001 00000005
+in-hex 20 0020 1112 48 11 044f 000d 000d 000d 000d 000d 000d 000d
+in-hex 21 000d 000d 000d 000d 000d 000d 000d 000d 000d 000d 000d
+in-hex 2f2b2b2b2b2b2b2b2b2b2b2b2b2b2b2b2b2b2b2b2b2b2b
+in-hex 33 000d 000d 000d 000d 000d 000d 000d 000d 000d 000d 000d
+in-hex 20 0020 1112 48 11 044f 000d 000d 000d 000d 000d 000d 000d
+in-hex 22 000d 000d 000d 000d 000d 000d 000d 000d 000d 000d 000d
+in-hex 21 000d 000d 000d 000d 000d 000d 000d 000d 000d 000d 000d
+in-hex 33 000d 000d 000d 000d 000d 000d 000d 000d 000d 000d 000d
+in-hex 2f2b2b2b2b2b2b2b2b2b2b2b2b2b2b2b2b2b2b2b2b2b2b
+in-hex 2f2b2b2b2b2b2b2b2b2b2b2b2b2b2b2b2b2b2b2b2b2b2b
+in-hex 20 0020 1112 48 11 044f 000d 000d 000d 000d 000d 000d 000d
+in-hex 21 000d 000d 000d 000d 000d 000d 000d 000d 000d 000d 000d
+in-hex 22 000d 000d 000d 000d 000d 000d 000d 000d 000d 000d 000d
+in-hex 33 000d 000d 000d 000d 000d 000d 000d 000d 000d 000d 000d
+in-hex 2f2b2b2b2b2b2b2b2b2b2b2b2b2b2b2b2b2b2b2b2b2b2b
+in-hex 2f2b2b2b2b2b2b2b2b2b2b2b2b2b2b2b2b2b2b2b2b2b2b
+in-hex 2f2b2b2b2b2b2b2b2b2b2b2b2b2b2b2b2b2b2b2b2b2b2b
+in-hex 2f2b2b2b2b2b2b2b2b2b2b2b2b2b2b2b2b2b2b2b2b2b2b
+in-hex 2f2b2b2b2b2b2b2b2b2b2b2b2b2b2b2b2b2b2b2b2b2b2b
+in-hex 2f2b2b2b2b2b2b2b2b2b2b2b2b2b2b2b2b2b2b2b2b2b2b
+run -> 0
+out -> lac,ci,slot,id,serial,page,pages
+
+# a tape without slots
+in-hex 0001 0001 00000000
+run -> 0
+out -> lac,ci,slot,id,serial,page,pages
+";
+
+const SLOTS_SHORT: &str = "
+# pages in one block, in two and in four, and what follows the last block of one
+args read --slots --short
+worked-hex 0001 0001 00000004
+worked-hex 30 0010 1112 48 11 0041 000d 000d 000d 000d 000d 000d 000d
+worked-hex 20 0020 1112 48 12 0041 000d 000d 000d 000d 000d 000d 000d
+worked-hex 33 000d 000d 000d 000d 000d 000d 000d 000d 000d 000d 000d
+worked-hex 2f2b2b2b2b2b2b2b2b2b2b2b2b2b2b2b2b2b2b2b2b2b2b
+worked-hex 20 0020 1112 48 22 0041 000d 000d 000d 000d 000d 000d 000d
+worked-hex 31 000d 000d 000d 000d 000d 000d 000d 000d 000d 000d 000d
+worked-hex 2f2b2b2b2b2b2b2b2b2b2b2b2b2b2b2b2b2b2b2b2b2b2b
+worked-hex 2f2b2b2b2b2b2b2b2b2b2b2b2b2b2b2b2b2b2b2b2b2b2b
+worked-hex 20 0030 111f 48 11 0042 000d 000d 000d 000d 000d 000d 000d
+worked-hex 21 000d 000d 000d 000d 000d 000d 000d 000d 000d 000d 000d
+worked-hex 22 000d 000d 000d 000d 000d 000d 000d 000d 000d 000d 000d
+worked-hex 33 000d 000d 000d 000d 000d 000d 000d 000d 000d 000d 000d
+worked-hex 30 0010 1112 10 11 0041 000d 000d 000d 000d 000d 000d 000d
+worked-hex 2f2b2b2b2b2b2b2b2b2b2b2b2b2b2b2b2b2b2b2b2b2b2b
+worked-hex 2f2b2b2b2b2b2b2b2b2b2b2b2b2b2b2b2b2b2b2b2b2b2b
+worked-hex 2f2b2b2b2b2b2b2b2b2b2b2b2b2b2b2b2b2b2b2b2b2b2b
+in-worked
+run -> 0
+out -> lac,ci,slot,id,serial,page,pages
+out -> 1,1,0,4370,0010,1,1
+out -> 1,1,1,4370,0020,2,2
+out -> 1,1,2,4383,0030,1,1
+args read --slots
+in-worked
+run -> 0
+out -> lac,ci,slot,id,serial,page,pages
+out -> 1,1,2,4383,0030,1,1
+";
+
+const SLOTS_REFUSED: &str = "
+args read --slots
+worked lac,ci,slot,id,serial,page,pages
+worked 1,1,0,4370,0010,1,1
+in-hex 0001 0001 00000001
+in-hex 200010111201118046a3d168341a8d46a3d168341a8d46
+in-hex 21a3d168341a8d46a3d168341a8d46a3d168341a8d46a3
+in-hex 22d168341a8d46a3d168341a8d46a3d168341a8d46a3d1
+in-hex 3368341a8d46a3d168341a8d46a3d168341a8d46a3d100
+fronts 1 99 -> 1 warnc: tape is short
+reads 0 100 -> 3 warnc: read failed
+# 100 octets and the end are read, and nothing more
+reader 1 101
+run -> 0
+all -> worked
+writer 20 1
+run -> 3
+err -> warnc: write failed
+all -> 20 of 53
+
+# a header that says too many slots decides, and after 64 tapes so does an octet
+in-hex 0001 0001 00010000
+reader 8 1
+fails -> 1 warnc: tape is long
+in-hex 0001 0002 00000000
+repeat 64
+in-hex 00
+fails -> 1 warnc: tape is long
+";
+
 #[test]
 fn tapes_show_their_texts(rt: HostRuntime) -> Result<(), Fail> {
     expect_rows(&rt, READ, 38)
@@ -275,4 +442,19 @@ fn pages_of_fewer_blocks_show_their_texts(rt: HostRuntime) -> Result<(), Fail> {
 #[test]
 fn refused_tapes_with_such_pages_are_named(rt: HostRuntime) -> Result<(), Fail> {
     expect_rows(&rt, SHORT_REFUSED, 24)
+}
+
+#[test]
+fn slots_have_their_pages(rt: HostRuntime) -> Result<(), Fail> {
+    expect_rows(&rt, SLOTS, 99)
+}
+
+#[test]
+fn slots_have_pages_of_fewer_blocks(rt: HostRuntime) -> Result<(), Fail> {
+    expect_rows(&rt, SLOTS_SHORT, 99)
+}
+
+#[test]
+fn refused_tapes_have_no_slots(rt: HostRuntime) -> Result<(), Fail> {
+    expect_rows(&rt, SLOTS_REFUSED, 99)
 }

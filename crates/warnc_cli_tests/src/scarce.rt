@@ -16,12 +16,24 @@ worked 4370 0010 @
 scarce 4 2300 -> worked
 args page-stream
 scarce 3 480 -> worked
+args page --explain --lang en --id 4370 --scope 0 --code 1 --update 0
+worked page,pages,serial,identifier,coding,used,block_1,block_2,block_3,block_4,text
+worked 1,1,0010,1112,01,1,\
+    200010111201118046a3d168341a8d46a3d168341a8d46,\
+    21a3d168341a8d46a3d168341a8d46a3d168341a8d46a3,\
+    22d168341a8d46a3d168341a8d46a3d168341a8d46a3d1,\
+    3368341a8d46a3d168341a8d46a3d168341a8d46a3d100,\
+    @
+scarce 4 2300 -> worked
 
 # a tape without slots
 args read
 in-hex 0001 0001 00000000
 worked lac,ci,id,serial,text
 scarce 4 3800 -> worked
+args read --slots
+worked lac,ci,slot,id,serial,page,pages
+scarce 4 1000 -> worked
 # a tape of one slot, with a page in one block
 args read --short
 in-hex 0001 0001 00000001

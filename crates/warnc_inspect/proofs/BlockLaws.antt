@@ -39,7 +39,8 @@ place_back number total first some few =
     let low : (16 * number + total) % 16 ≡ total = omega arith in
     rw (high, low, ne_eqb number 0 (λ e. omega arith), ne_eqb total 0 (λ e. omega arith)) refl
 
-view_back : (id serial dcs total number : ℕ) (content : List ℕ) → 1 ≤ number → 1 ≤ total → total ≤ 15 →
+-- the octets of a page are read as it
+pub view_back : (id serial dcs total number : ℕ) (content : List ℕ) → 1 ≤ number → 1 ≤ total → total ≤ 15 →
     view_of (octets_of_page id serial dcs number total content) ≡ view id serial dcs total number content
 view_back id serial dcs total number content first some few =
     rw (two_octets serial, two_octets id, place_back number total first some few) refl

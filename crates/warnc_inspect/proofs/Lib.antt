@@ -1,9 +1,12 @@
 pub mod PageLaws
+pub mod PageRows
 pub mod BlockLaws
 pub mod ComesBack
 pub mod MessageLaws
 pub mod OutputLaws
 pub mod TableLaws
 pub mod ShortLaws
+pub mod SlotRows
+pub mod SlotsLaws
 pub mod WholeLaws
 pub mod WholeTapes

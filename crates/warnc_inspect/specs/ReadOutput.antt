@@ -54,15 +54,20 @@ pub record IsReadOutput (wanted : Pages) (input output : List ℕ) : Type 0 wher
   pub tapes : AreReadings wanted input readings
   pub written : output ≡ table_of readings
 
--- why no table is written, out of memory and devices aside; after a fault of the writer a front of the table was
--- written, and after any other fault nothing
+-- why no output of tapes is written, out of memory and devices aside; after a fault of the writer a front of the output
+-- was written, and after any other fault nothing
+abbrev pub IsFaultOf : (IsOutput : (input output : List ℕ) → Type 0) (input : List ℕ) (old new : Option (List ℕ))
+    → ReadCommandFault → Type 0
+IsFaultOf IsOutput input old new fault.Short = IsShort input × Keeps old new
+IsFaultOf IsOutput input old new fault.Long = IsLong input × Keeps old new
+IsFaultOf IsOutput input old new fault.ReadFailed = Keeps old new
+IsFaultOf IsOutput input old new fault.Refused = Keeps old new
+IsFaultOf IsOutput input old new fault.WriteFailed =
+    (output : List ℕ) × IsOutput input output × AppendsFront old new output
+
+-- why no table is written
 abbrev pub IsReadFault : Pages → (input : List ℕ) (old new : Option (List ℕ)) → ReadCommandFault → Type 0
-IsReadFault wanted input old new fault.Short = IsShort input × Keeps old new
-IsReadFault wanted input old new fault.Long = IsLong input × Keeps old new
-IsReadFault wanted input old new fault.ReadFailed = Keeps old new
-IsReadFault wanted input old new fault.Refused = Keeps old new
-IsReadFault wanted input old new fault.WriteFailed =
-    (output : List ℕ) × IsReadOutput wanted input output × AppendsFront old new output
+IsReadFault wanted = IsFaultOf (IsReadOutput wanted)
 
 -- how far the input was read when no table is written, by the fault: as the reading of tapes says, and nothing after it
 abbrev pub IsReadTo : (old new : Option (List ℕ)) → ReadCommandFault → Type 0

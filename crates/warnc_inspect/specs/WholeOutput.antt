@@ -1,13 +1,11 @@
 -- What `warnc whole` makes of the octets that it reads: tapes with four blocks of each page. Own.
 use Rattle.std.specs.Prelude.{◌≡◌, ℕ, List, Option, map}
-use Rattle.std.specs.Io.KnownBytes.{Keeps}
 use Rattle.std.specs.List.{flat_map}
-use Rattle.device_ends.specs.Moves.{AppendsFront}
 use Rattle.handset.specs.Recording.{TapeRecording, AreRecordings}
-use Rattle.handset.specs.Tape.{IsShort, IsLong, TapeReading, AreTapes, tape_octets}
+use Rattle.handset.specs.Tape.{TapeReading, AreTapes, tape_octets}
 use Rattle.short_pages.specs.Slots.{AreReadingsOnAir, completed, completed_recording}
+use Rattle.warnc_inspect.specs.ReadOutput.{IsFaultOf}
 use Rattle.warnc_inspect.specs.declared.read.ReadCommandFault.{ReadCommandFault}
-use Rattle.warnc_inspect.specs.declared.read.ReadCommandFault.TheVariants as fault
 
 -- the tape of the same cell with as many slots, in which each page has four blocks
 abbrev pub whole_tape : TapeRecording → List ℕ
@@ -22,15 +20,9 @@ pub record IsWholeOutput (input output : List ℕ) : Type 0 where
   pub tapes : AreRecordings input recordings
   pub written : output ≡ whole_tapes recordings
 
--- why no tape is written, out of memory and devices aside; after a fault of the writer a front of the tapes was
--- written, and after any other fault nothing
+-- why no tape is written
 abbrev pub IsWholeFault : (input : List ℕ) (old new : Option (List ℕ)) → ReadCommandFault → Type 0
-IsWholeFault input old new fault.Short = IsShort input × Keeps old new
-IsWholeFault input old new fault.Long = IsLong input × Keeps old new
-IsWholeFault input old new fault.ReadFailed = Keeps old new
-IsWholeFault input old new fault.Refused = Keeps old new
-IsWholeFault input old new fault.WriteFailed =
-    (output : List ℕ) × IsWholeOutput input output × AppendsFront old new output
+IsWholeFault = IsFaultOf IsWholeOutput
 
 -- Laws (own).
 

@@ -1,15 +1,18 @@
-//! The command `page`: one text to the blocks of its pages, and what a handset shows of them.
+//! The command `page`: one text to the blocks of its pages, and what a handset shows of them; or to a table of them.
 
-ghost use Rattle.std.specs.Prelude.{◌≡◌, ◌≤◌, ◌+◌, ◌++◌, length, string_bytes, IfErr, IfOk, OnOk};
+ghost use Rattle.std.specs.Prelude.{◌≡◌, ◌≤◌, ◌+◌, ◌++◌, length, string_bytes, IfErr, IfOk, IsSome, OnOk};
 ghost use Rattle.std.specs.List.{flat_map};
+ghost use Rattle.cbs_page.specs.Coding.{alphabet_of};
 ghost use Rattle.cbs_page.specs.Text.{max_pages};
 ghost use Rattle.device_ends.specs.Moves.{ConsumesSome};
 ghost use Rattle.device_ends.specs.Source.{reader_of};
 ghost use Rattle.device_ends.specs.Stream.{FaultOfInput, IsStreamBetween, OutputOfInput};
 ghost use Rattle.handset.specs.Keeping.{HasRead, message_shown, messages_shown};
 ghost use Rattle.warnc_inspect.specs.PageOutput.{without_final_lf, blocks_of_message, block_line, shown_line};
-ghost use Rattle.warnc_inspect.specs.PageOutput.{lines_of, IsPageOutput, IsPageFault, IsStreamFault, IsPageWriteFault};
+ghost use Rattle.warnc_inspect.specs.PageOutput.{lines_of, written_as, IsPageOutput, IsPageFault, IsStreamFault};
+ghost use Rattle.warnc_inspect.specs.PageOutput.{IsPageWriteFault};
 
+use crate::pages::table_of_pages;
 use cbch_blocks::cut;
 use cbs_page::{Paged, Serial, TextFault, page_bytes, paginate};
 use device_ends::{Failed, ReadFault, Sink, Source, read_up_to, write_all};
@@ -21,6 +24,15 @@ use thiserror::Error;
 
 /// The most octets that are read: 16 MiB.
 pub const MAX_INPUT: usize = 0x100_0000;
+
+/// What is written of a text's pages.
+#[derive(Clone, Copy, Debug, PartialEq, Eq)]
+pub enum PageForm {
+    /// A line for each block, and then what a handset shows of them.
+    Lines,
+    /// A table of the pages, as CSV: what the octets of each are, and the text that it shows.
+    Table,
+}
 
 /// Why `page` writes no page. If several of the first four apply, it is the first of them.
 #[derive(Clone, Copy, Debug, PartialEq, Eq, Error)]
@@ -45,8 +57,9 @@ pub enum PageFault {
     WriteFailed,
 }
 
-/// Reads one text, and writes the blocks of its pages, a line each, and then what a handset shows of these blocks. One
-/// LF at the end of the input isn't part of the text. Nothing is written before all of the output is made.
+/// Reads one text, and writes the blocks of its pages, a line each, and then what a handset shows of these blocks; or a
+/// table of its pages. One LF at the end of the input isn't part of the text. Nothing is written before all of the
+/// output is made.
 ///
 /// # Errors
 ///
@@ -55,15 +68,16 @@ pub fn page_stream<R: Read, W: Write>(
     alloc: Global,
     source: &mut Source<R>,
     sink: &mut Sink<W>,
+    form: PageForm,
     language: &str,
     id: u16,
     serial: Serial,
 ) -> Result<(), PageFault>
     // What was written is what the definitions make of the octets that were read, at any reader of some octets.
-    ensures ok { OnOk result (OutputOfInput R.remaining W.contents (IsPageOutput language.now id serial) source.old
-        sink.old sink.new) }
-    ensures err { IfErr result (FaultOfInput R.remaining W.contents (IsStreamFault language.now id serial) source.old
-        sink.old sink.new) }
+    ensures ok { OnOk result (OutputOfInput R.remaining W.contents (IsPageOutput form language.now id serial)
+        source.old sink.old sink.new) }
+    ensures err { IfErr result (FaultOfInput R.remaining W.contents (IsStreamFault form language.now id serial)
+        source.old sink.old sink.new) }
 
     // One octet past the bound is read at most.
     ensures reads { ConsumesSome (R.remaining (reader_of source.old)) (R.remaining (reader_of source.new))
@@ -78,11 +92,11 @@ pub fn page_stream<R: Read, W: Write>(
         Err(ReadFault::Device) => return Err(PageFault::ReadFailed),
         Err(ReadFault::Refused) => return Err(PageFault::Refused),
     };
-    let output = match page_output(alloc, &input, language, id, serial) {
+    let output = match page_output(alloc, &input, form, language, id, serial) {
         Ok(output) => output,
         Err(fault) => return Err(fault),
     };
-    match write_all(sink, output.as_bytes()) {
+    match write_all(sink, &output) {
         Ok(()) => Ok(()),
         Err(Failed) => Err(PageFault::WriteFailed),
     }
@@ -92,11 +106,12 @@ pub fn page_stream<R: Read, W: Write>(
 fn page_output(
     alloc: Global,
     input: &[u8],
+    form: PageForm,
     language: &str,
     id: u16,
     serial: Serial,
-) -> Result<String, PageFault>
-    ensures output { IfOk result (λ output. IsPageOutput language.now id serial input.now (string_bytes output)) }
+) -> Result<Vec<u8>, PageFault>
+    ensures output { IfOk result (λ output. IsPageOutput form language.now id serial input.now output.items) }
     ensures fault { IfErr result (IsPageFault language.now input.now) }
 {
     if input.len() > MAX_INPUT {
@@ -111,14 +126,35 @@ fn page_output(
         Err(TextFault::Refused) => return Err(PageFault::Refused),
         Err(fault) => return Err(PageFault::Text(fault)),
     };
-    match output_of(alloc, id, serial, &paged) {
+    match written_as(alloc, form, id, serial, &paged) {
         Ok(output) => Ok(output),
         Err(_) => Err(PageFault::Refused),
     }
 }
 
+/// A message as it is written in a form.
+fn written_as(
+    alloc: Global,
+    form: PageForm,
+    id: u16,
+    serial: Serial,
+    paged: &Paged,
+) -> Result<Vec<u8>, AllocError>
+    requires few { length paged.now.pages.items ≤ max_pages }
+    requires known { IsSome (alphabet_of paged.now.dcs.0) }
+    ensures { IfOk result (λ output. output.items ≡ written_as form id serial paged.now) }
+{
+    match form {
+        PageForm::Lines => {
+            let lines = lines_of(alloc, id, serial, paged)?;
+            Ok(lines.into_bytes())
+        }
+        PageForm::Table => table_of_pages(alloc, id, serial, paged),
+    }
+}
+
 /// The lines of a message's blocks, and of what they show.
-fn output_of(alloc: Global, id: u16, serial: Serial, paged: &Paged) -> Result<String, AllocError>
+fn lines_of(alloc: Global, id: u16, serial: Serial, paged: &Paged) -> Result<String, AllocError>
     requires { length paged.now.pages.items ≤ max_pages }
     ensures { IfOk result (λ output. string_bytes output ≡ lines_of (blocks_of_message id serial paged.now)) }
 {

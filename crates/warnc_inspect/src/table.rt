@@ -19,7 +19,7 @@ pub struct Table {
 }
 
 /// Four lower hexadecimal digits.
-fn serial_digits(serial: Serial) -> [u8; 4]
+pub(crate) fn serial_digits(serial: Serial) -> [u8; 4]
     ensures { result ≡ encode_lower ((serial / 256) ∷ (serial % 256) ∷ []) }
 {
     let mut digits = [0; 4];
@@ -46,7 +46,7 @@ impl Table {
     }
 
     /// A table with no row.
-    fn empty(alloc: Global) -> Table
+    pub(crate) fn empty(alloc: Global) -> Table
         ensures { IsTable result [] }
     {
         Table {
@@ -92,7 +92,7 @@ impl Table {
     }
 
     /// Appends a row. A writer to memory fails only if out of memory.
-    fn push_row(&mut self, fields: &[&[u8]]) -> Result<(), AllocError>
+    pub(crate) fn push_row(&mut self, fields: &[&[u8]]) -> Result<(), AllocError>
         ensures { OnOk result ((octets : List ℕ) → IsTable self.old octets →
             IsTable self.new (octets ++ csv_row (map (λ f. f.now) fields.now))) }
     {

@@ -8,4 +8,4 @@ returns-in-Err-clause-err g c =
     let told : IsPageFault c.args.language.now c.in-Ok.input.items c.in-Err.fault =
     subst (λ (octets : List ℕ). IsPageFault c.args.language.now octets c.in-Err.fault) c.deref.ensures.value
     c.in-Err.ensures.fault in
-    fault_of_read _ _ _ _ _ _ _ _ c.in-Ok.ensures.value told (search rules)
+    fault_of_read _ _ _ _ _ _ _ _ _ c.in-Ok.ensures.value told (search rules)
