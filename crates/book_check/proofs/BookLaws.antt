@@ -1,55 +1,46 @@
--- What the verdicts of a book's rows say of the book.
-use Rattle.std.proofs.Common.{◌≡◌, ◌≢◌, ℕ, zero, suc, ◌+◌, ◌<◌, ◌≤◌, ◌⊎◌, ◌∙◌, ap, sym, refl, subst, arith, inl, inr}
+-- What the verdicts of the rows of a book, or of a network book, say of it.
+use Rattle.std.proofs.Common.{◌≡◌, ℕ, ◌+◌, ◌⊎◌, ◌∙◌, ap, sym, refl, subst, arith, inl, inr}
 use Rattle.std.proofs.Common.{Bool, true, false, cond, Option, Some, None, List, [], ◌∷◌, ◌++◌, length, count_by}
 use Rattle.std.proofs.Common.{append_assoc, append-nil, Result, Ok, Err}
-use Rattle.std.specs.Prelude.{nat_le, nat_lt}
 use Rattle.std.specs.Option.{option_or}
-use Rattle.std.proofs.lemmas.Bool.{cases_Bool, le-leb, leb-true}
 use Rattle.std.proofs.lemmas.List.Sums.{sum_by-append}
 use Rattle.csv.specs.Reading.{AreRecords, default_config, strip_bom}
 use Rattle.csv.specs.Machine.{next_record}
 use Rattle.csv.specs.declared.parser.State.TheVariants as st
 use Rattle.cbs_page.specs.declared.paging.Paged.{Paged}
 use Rattle.cbs_page.specs.declared.paging.TextFault.{TextFault}
-use Rattle.alert_book.specs.Book.{after_row, fault_at, kind_of, rows_by, rows_read_by, rows_with, with_row}
-use Rattle.alert_book.specs.Book.{sending_of, ArePagesOf, AreRowsOf, Contents, HavePages, HasWrongText, IsBook, IsWrong}
-use Rattle.alert_book.specs.Book.{Rows}
+use Rattle.alert_book.specs.Book.{after_row, fault_at, rows_read_by, with_row}
+use Rattle.alert_book.specs.Book.{sending_of, ArePagesOf, AreRowsBy, HasTextFaultBy, HavePages, HasWrongText}
+use Rattle.alert_book.specs.Book.{IsRowFaultBy, Rows}
 use Rattle.alert_book.specs.Judging.{Counted, counted_after, counted_with, known_after_row, name_written, next_meant}
-use Rattle.alert_book.specs.Judging.{none_counted, with_name, CanBeSent, HasTextFault, IsRightRow, IsVerdict}
-use Rattle.alert_book.specs.Judging.{IsVerdictOfRow, IsWrongRow}
+use Rattle.alert_book.specs.Judging.{is_past, none_counted, none_within, row_judged, with_name}
+use Rattle.alert_book.specs.Judging.{IsRightRow, IsVerdictOfRow}
 use Rattle.alert_book.specs.Laws.{BooksAreRight}
-use Rattle.alert_book.specs.Row.{row_of}
+use Rattle.alert_book.specs.Network.{groups_of, HasGroups, IsNetwork}
+use Rattle.alert_book.specs.NetworkLaws.{NetworksAreRight}
 use Rattle.alert_book.specs.declared.book.order.Order.{Order}
 use Rattle.alert_book.specs.declared.book.row.Row.{Row}
 use Rattle.alert_book.specs.declared.book.row.Row.TheVariants as rows
 use Rattle.alert_book.specs.declared.fault.BookFault.{BookFault}
 use Rattle.alert_book.specs.declared.fault.BookFaultKind.TheVariants as kind
 use Rattle.alert_book.specs.declared.fault.RowFault.{RowFault}
+use Rattle.alert_book.specs.declared.judging.bounds.Bounds.{Bounds}
+use Rattle.alert_book.specs.declared.judging.bounds.Bounds.TheVariants as bounds
 use Rattle.alert_book.specs.declared.judging.Verdict.{Verdict}
 use Rattle.alert_book.specs.declared.judging.Verdict.TheVariants as verdict
-use Rattle.alert_book.proofs.BookLaws.{row_fits}
+use Rattle.alert_book.proofs.JudgedLaws.{right_room}
+use Rattle.alert_book.proofs.JudgedNetworks.{judged_are_network, judged_are_wrong}
 use Rattle.alert_book.proofs.RowNumbers.{order_has_row}
-use Rattle.book_check.specs.Checked.{AreVerdictsOf, IsChecked}
+use Rattle.book_check.specs.Checked.{counted_of, AreVerdictsBy, EndsPast, IsCheckedBy}
 use Rattle.book_check.specs.Laws.{first_fault, first_unsendable, first_wrong, BooksAreClean, CleanAreBooks}
-use Rattle.book_check.specs.Laws.{FaultsHaveAFirst, FirstIsTheBooks}
+use Rattle.book_check.specs.Laws.{CleanAreNetworks, FaultsHaveAFirst, FirstIsTheBooks, FirstIsTheNetworks}
+use Rattle.book_check.specs.Laws.{NetworksAreClean}
 use Rattle.book_check.specs.Told.{AreVerdicts, is_told}
-
--- what counts after all rows
-abbrev counted_in : Counted → List (List (List ℕ)) → Counted
-counted_in before [] = before
-counted_in before (fields ∷ records) = counted_in (counted_after before fields) records
 
 -- what counts after a row that is right
 right_counts : (before : Counted) (fields : List (List ℕ)) (meant : Row) → next_meant before fields ≡ Ok meant
-    → counted_after before fields ≡ counted_with (before.rows + 1) (with_row before.known meant)
-right_counts before fields meant right =
-    let fits : before.rows + 1 ≤ 4096 =
-    row_fits (before.rows + 1) before.known.cells before.known.orders fields meant right in
-    let room : nat_le 4096 before.rows ≡ false = elim (cases_Bool (nat_le 4096 before.rows)) [
-      | inl full ↦ absurd (omega (arith, leb-true 4096 before.rows full, fits))
-      | inr room ↦ room
-    ] in
-    rw (room, right) refl
+    → counted_after before fields ≡ counted_with before.bounds (before.rows + 1) (with_row before.known meant)
+right_counts before fields meant right = rw (right_room before fields meant right, right) refl
 
 -- what rows mean by their first fault
 abbrev read_as : Option BookFault → Rows → Result Rows BookFault
@@ -59,20 +50,20 @@ read_as (Some f) known = Err f
 -- the rows are read up to the first that has a fault of its own
 abbrev Reads : Counted → List (List (List ℕ)) → List Verdict → Type 0
 Reads before records verdicts =
-    rows_read_by row_of (before.rows + 1) before.known records
-    ≡ read_as (first_wrong (before.rows + 1) verdicts) (counted_in before records).known
+    rows_read_by (row_judged before.bounds) (before.rows + 1) before.known records
+    ≡ read_as (first_wrong (before.rows + 1) verdicts) (counted_of before records).known
 
 right_reads : (before : Counted) (fields : List (List ℕ)) (records : List (List (List ℕ))) (more : List Verdict)
     (meant : Row) → next_meant before fields ≡ Ok meant
     → Reads (counted_after before fields) records more
-    → rows_read_by row_of (before.rows + 1) before.known (fields ∷ records)
-    ≡ read_as (first_wrong (before.rows + 1 + 1) more) (counted_in (counted_after before fields) records).known
+    → rows_read_by (row_judged before.bounds) (before.rows + 1) before.known (fields ∷ records)
+    ≡ read_as (first_wrong (before.rows + 1 + 1) more) (counted_of (counted_after before fields) records).known
 right_reads before fields records more meant right later =
     let next = right_counts before fields meant right in
     ap (λ (r : Result Row RowFault). after_row (before.rows + 1) before.known r
-    (λ known. rows_read_by row_of (before.rows + 1 + 1) known records)) right
-    ∙ subst (λ (c : Counted). rows_read_by row_of (c.rows + 1) c.known records
-    ≡ read_as (first_wrong (c.rows + 1) more) (counted_in (counted_after before fields) records).known) next later
+    (λ known. rows_read_by (row_judged before.bounds) (before.rows + 1 + 1) known records)) right
+    ∙ subst (λ (c : Counted). rows_read_by (row_judged c.bounds) (c.rows + 1) c.known records
+    ≡ read_as (first_wrong (c.rows + 1) more) (counted_of (counted_after before fields) records).known) next later
 
 -- rows are read as their verdicts say: up to the first that is wrong
 pub reads : (before : Counted) (records : List (List (List ℕ))) (verdicts : List Verdict)
@@ -85,47 +76,43 @@ reads before (fields ∷ records) (verdict.Right ∷ more) are =
     (reads (counted_after before fields) records more are.1)
 reads before (fields ∷ records) (verdict.Wrong found ∷ more) are =
     ap (λ (r : Result Row RowFault). after_row (before.rows + 1) before.known r
-    (λ known. rows_read_by row_of (before.rows + 1 + 1) known records)) are.0.wrong
+    (λ known. rows_read_by (row_judged before.bounds) (before.rows + 1 + 1) known records)) are.0.wrong
 reads before (fields ∷ records) (verdict.Unsendable why ∷ more) are =
     right_reads before fields records more are.0.meant are.0.right
     (reads (counted_after before fields) records more are.1)
 
--- rows without a fault of their own are few
-right_few : (before : Counted) (fields : List (List ℕ)) (count : ℕ) (meant : Row) → next_meant before fields ≡ Ok meant
-    → ((counted_after before fields).rows ≤ 4096 → (counted_after before fields).rows + count ≤ 4096)
-    → before.rows + suc count ≤ 4096
-right_few before fields count meant right later =
-    let fits : before.rows + 1 ≤ 4096 =
-    row_fits (before.rows + 1) before.known.cells before.known.orders fields meant right in
-    let next = right_counts before fields meant right in
-    let rest : before.rows + 1 + count ≤ 4096 =
-    subst (λ (c : Counted). c.rows ≤ 4096 → c.rows + count ≤ 4096) next later fits in
-    omega (arith, rest)
+-- a row without a fault of its own isn't one too many
+right_last : (before : Counted) (fields : List (List ℕ)) (records : List (List (List ℕ))) (meant : Row)
+    → next_meant before fields ≡ Ok meant → (EndsPast (counted_after before fields) records → ⊥)
+    → EndsPast before (fields ∷ records) → ⊥
+right_last before fields records meant right later (inl last) =
+    let room = right_room before fields meant right in
+    let both : true ≡ false = sym last.1 ∙ room in
+    cc
+right_last before fields records meant right later (inr more) = later more
 
-few : (before : Counted) (records : List (List (List ℕ))) (verdicts : List Verdict) (row : ℕ)
-    → AreVerdicts before records verdicts → first_wrong row verdicts ≡ None → before.rows ≤ 4096
-    → before.rows + length records ≤ 4096
-few before [] [] row are none fits = omega (arith, fits)
-few before [] (told ∷ more) row are none fits = absurd are
-few before (fields ∷ records) [] row are none fits = absurd are
-few before (fields ∷ records) (verdict.Right ∷ more) row are none fits =
-    right_few before fields (length records) are.0.meant are.0.right
-    (few (counted_after before fields) records more (row + 1) are.1 none)
-few before (fields ∷ records) (verdict.Wrong found ∷ more) row are none fits = absurd cc
-few before (fields ∷ records) (verdict.Unsendable why ∷ more) row are none fits =
-    right_few before fields (length records) are.0.meant are.0.right
-    (few (counted_after before fields) records more (row + 1) are.1 none)
+-- so rows without one don't end with it
+not_past : (before : Counted) (records : List (List (List ℕ))) (verdicts : List Verdict) (row : ℕ)
+    → AreVerdicts before records verdicts → first_wrong row verdicts ≡ None → EndsPast before records → ⊥
+not_past before [] verdicts row are none past = past
+not_past before (fields ∷ records) [] row are none past = absurd are
+not_past before (fields ∷ records) (verdict.Right ∷ more) row are none past =
+    right_last before fields records are.0.meant are.0.right
+    (not_past (counted_after before fields) records more (row + 1) are.1 none) past
+not_past before (fields ∷ records) (verdict.Wrong found ∷ more) row are none past = absurd (cc none)
+not_past before (fields ∷ records) (verdict.Unsendable why ∷ more) row are none past =
+    right_last before fields records are.0.meant are.0.right
+    (not_past (counted_after before fields) records more (row + 1) are.1 none) past
 
 -- so these are all records of the octets
-all_records : (input : List ℕ) (verdicts : List Verdict) (are : AreVerdictsOf input verdicts)
+all_records : (bound : Bounds) (input : List ℕ) (verdicts : List Verdict) (are : AreVerdictsBy bound input verdicts)
     → first_wrong 1 verdicts ≡ None → AreRecords default_config st.StartRecord (strip_bom input) are.records
-all_records input verdicts are none = by_end are.whole
+all_records bound input verdicts are none = by_end are.whole
   where
-    by_end : (next_record default_config are.state [] [] are.rest ≡ None) ⊎ (length are.records ≡ 4097)
+    by_end : (next_record default_config are.state [] [] are.rest ≡ None) ⊎ EndsPast (none_within bound) are.records
         → AreRecords default_config st.StartRecord (strip_bom input) are.records
     by_end (inl ended) = (are.state, are.rest, are.read, ended)
-    by_end (inr long) =
-        absurd (omega (arith, few none_counted are.records verdicts 1 are.each none (omega arith), long))
+    by_end (inr long) = absurd (not_past (none_within bound) are.records verdicts 1 are.each none long)
 
 -- orders stay, and others come behind them
 abbrev Extends : (old new : List Order) → Type 0
@@ -146,9 +133,10 @@ row_extends row before fields (Err fault) = by_name (name_written before.orders 
 
 counted_extends : (before : Counted) (fields : List (List ℕ))
     → Extends before.known.orders (counted_after before fields).known.orders
-counted_extends before fields = by_room (nat_le 4096 before.rows)
+counted_extends before fields = by_room (is_past before fields)
   where
-    by_room : (full : Bool) → Extends before.known.orders (cond full before (counted_with (before.rows + 1)
+    by_room : (full : Bool) → Extends before.known.orders (cond full before
+        (counted_with before.bounds (before.rows + 1)
         (known_after_row (before.rows + 1) before.known fields (next_meant before fields)))).known.orders
     by_room true = ([], sym (append-nil before.known.orders))
     by_room false = row_extends (before.rows + 1) before.known fields (next_meant before fields)
@@ -158,11 +146,11 @@ joins a b c ab bc =
     (ab.0 ++ bc.0, bc.1 ∙ ap (λ (os : List Order). os ++ bc.0) ab.1 ∙ append_assoc a ab.0 bc.0)
 
 all_extend : (before : Counted) (records : List (List (List ℕ)))
-    → Extends before.known.orders (counted_in before records).known.orders
+    → Extends before.known.orders (counted_of before records).known.orders
 all_extend before [] = ([], sym (append-nil before.known.orders))
 all_extend before (fields ∷ records) =
     joins before.known.orders (counted_after before fields).known.orders
-    (counted_in before (fields ∷ records)).known.orders
+    (counted_of before (fields ∷ records)).known.orders
     (counted_extends before fields) (all_extend (counted_after before fields) records)
 
 -- the pages of orders, and of one more
@@ -193,7 +181,7 @@ right_paged before fields right have =
 all_paged : (before : Counted) (records : List (List (List ℕ))) (verdicts : List Verdict) (row : ℕ)
     → AreVerdicts before records verdicts → Paged_are before.known.orders
     → first_wrong row verdicts ≡ None → first_unsendable row verdicts ≡ None
-    → Paged_are (counted_in before records).known.orders
+    → Paged_are (counted_of before records).known.orders
 all_paged before [] [] row are have right sent = have
 all_paged before [] (told ∷ more) row are have right sent = absurd are
 all_paged before (fields ∷ records) [] row are have right sent = absurd are
@@ -206,12 +194,12 @@ all_paged before (fields ∷ records) (verdict.Unsendable why ∷ more) row are 
 -- the first text that has one is that of the orders
 text_here : (before : Counted) (fields : List (List ℕ)) (records : List (List (List ℕ))) (why : TextFault)
     (right : IsRightRow before fields (verdict.Unsendable why)) → Paged_are before.known.orders
-    → HasWrongText (counted_in (counted_after before fields) records).known.orders
+    → HasWrongText (counted_of (counted_after before fields) records).known.orders
     (fault_at (before.rows + 1) (kind.Text why))
 text_here before fields records why right have = by_row right.meant right.right right.text
   where
     by_row : (meant : Row) → next_meant before fields ≡ Ok meant → IsVerdictOfRow meant (verdict.Unsendable why)
-        → HasWrongText (counted_in (counted_after before fields) records).known.orders
+        → HasWrongText (counted_of (counted_after before fields) records).known.orders
         (fault_at (before.rows + 1) (kind.Text why))
     by_row (rows.Declare cell) is text = absurd text
     by_row (rows.Give order) is text =
@@ -230,14 +218,15 @@ text_here before fields records why right have = by_row right.meant right.right 
           why = why;
           wrong = text.wrong;
           told = text.told;
-          named = ap (λ n. fault_at n (kind.Text why)) (sym (order_has_row (before.rows + 1) before.known.cells
+          named = ap (λ n. fault_at n (kind.Text why)) (sym (order_has_row before.bounds (before.rows + 1)
+              before.known.cells
               before.known.orders fields order is));
         }
 
 text_wrong : (before : Counted) (records : List (List (List ℕ))) (verdicts : List Verdict) (f : BookFault)
     → AreVerdicts before records verdicts → Paged_are before.known.orders
     → first_wrong (before.rows + 1) verdicts ≡ None → first_unsendable (before.rows + 1) verdicts ≡ Some f
-    → HasWrongText (counted_in before records).known.orders f
+    → HasWrongText (counted_of before records).known.orders f
 text_wrong before [] [] f are have right sent = absurd cc
 text_wrong before [] (told ∷ more) f are have right sent = absurd are
 text_wrong before (fields ∷ records) [] f are have right sent = absurd are
@@ -250,7 +239,7 @@ text_wrong before (fields ∷ records) (verdict.Right ∷ more) f are have right
 text_wrong before (fields ∷ records) (verdict.Wrong found ∷ more) f are have right sent = absurd cc
 text_wrong before (fields ∷ records) (verdict.Unsendable why ∷ more) f are have right sent =
     let same : fault_at (before.rows + 1) (kind.Text why) ≡ f = cc in
-    subst (λ (g : BookFault). HasWrongText (counted_in (counted_after before fields) records).known.orders g) same
+    subst (λ (g : BookFault). HasWrongText (counted_of (counted_after before fields) records).known.orders g) same
     (text_here before fields records why are.0 have)
 
 -- nothing is told where there is no first fault, and there is none where nothing is told
@@ -283,60 +272,90 @@ faults_have_a_first verdicts none =
     none_told verdicts 1 both.0 both.1
 
 -- the octets mean what counts of their rows
-meant_of : (input : List ℕ) (verdicts : List Verdict) (are : AreVerdictsOf input verdicts)
-    → first_wrong 1 verdicts ≡ None → AreRowsOf input (counted_in none_counted are.records).known
-meant_of input verdicts are none = record {
+meant_of : (bound : Bounds) (input : List ℕ) (verdicts : List Verdict) (are : AreVerdictsBy bound input verdicts)
+    → first_wrong 1 verdicts ≡ None
+    → AreRowsBy (row_judged bound) input (counted_of (none_within bound) are.records).known
+meant_of bound input verdicts are none = record {
   records = are.records;
-  read = all_records input verdicts are none;
-  meant = reads none_counted are.records verdicts are.each
-      ∙ ap (λ (o : Option BookFault). read_as o (counted_in none_counted are.records).known) none;
+  read = all_records bound input verdicts are none;
+  meant = reads (none_within bound) are.records verdicts are.each
+      ∙ ap (λ (o : Option BookFault). read_as o (counted_of (none_within bound) are.records).known) none;
 }
+
+-- the rows and the pages of octets of which nothing is told
+record IsRight (bound : Bounds) (input : List ℕ) (known : Rows) : Type 0 where
+  pub rows : AreRowsBy (row_judged bound) input known
+  pub paged : Paged_are known.orders
+
+clean_is_right : (bound : Bounds) (input output : List ℕ) (clean : IsCheckedBy bound input 0 output)
+    → IsRight bound input (counted_of (none_within bound) clean.are.records).known
+clean_is_right bound input output clean =
+    let firsts = none_first clean.verdicts 1 clean.counted in
+    record {
+      rows = meant_of bound input clean.verdicts clean.are firsts.0;
+      paged = all_paged (none_within bound) clean.are.records clean.verdicts 1 clean.are.each ([], tt) firsts.0
+          firsts.1;
+    }
 
 -- a book of which nothing is told is an alert book
 pub clean_are_books : CleanAreBooks
 clean_are_books input output clean =
-    let firsts = none_first clean.verdicts 1 clean.counted in
-    let known : Rows = (counted_in none_counted clean.are.records).known in
-    let paged : Paged_are known.orders =
-    all_paged none_counted clean.are.records clean.verdicts 1 clean.are.each ([], tt) firsts.0 firsts.1 in (
-      record { cells = known.cells; orders = known.orders; pages = paged.0 },
-      record {
-        bounded = clean.bounded;
-        rows = meant_of input clean.verdicts clean.are firsts.0;
-        paged = paged.1;
-      },
+    let right = clean_is_right bounds.Book input output clean in
+    let known : Rows = (counted_of none_counted clean.are.records).known in (
+      record { cells = known.cells; orders = known.orders; pages = right.paged.0 },
+      record { bounded = clean.bounded; rows = right.rows; paged = right.paged.1 },
     )
+
+-- a network book of which nothing is told is one for each group, with the cells that count
+pub clean_is_network : (group : ℕ) (input output : List ℕ) (clean : IsCheckedBy bounds.Network input 0 output)
+    → (rows : Rows) × IsNetwork group input rows
+    × (rows.cells ≡ (counted_of (none_within bounds.Network) clean.are.records).known.cells)
+clean_is_network group input output clean =
+    let right = clean_is_right bounds.Network input output clean in
+    judged_are_network group input (counted_of (none_within bounds.Network) clean.are.records).known right.paged.0
+    clean.bounded right.rows right.paged.1
+
+pub clean_are_networks : CleanAreNetworks
+clean_are_networks group input output clean =
+    let is = clean_is_network group input output clean in (is.0, is.1)
+
+-- the first fault that is told is that of a row, or else of a text
+first_is : (bound : Bounds) (input : List ℕ) (verdicts : List Verdict) (is : AreVerdictsBy bound input verdicts)
+    (f : BookFault) → first_fault verdicts ≡ Some f
+    → IsRowFaultBy (row_judged bound) input f ⊎ HasTextFaultBy (row_judged bound) input f
+first_is bound input verdicts is f first = by_wrong (first_wrong 1 verdicts) refl
+  where
+    by_wrong : (wrong : Option BookFault) → first_wrong 1 verdicts ≡ wrong
+        → IsRowFaultBy (row_judged bound) input f ⊎ HasTextFaultBy (row_judged bound) input f
+    by_wrong None none =
+        let sent : first_unsendable 1 verdicts ≡ Some f = rw none at first in
+        inr (record {
+          rows = (counted_of (none_within bound) is.records).known;
+          meant = meant_of bound input verdicts is none;
+          wrong = text_wrong (none_within bound) is.records verdicts f is.each ([], tt) none sent;
+        })
+    by_wrong (Some g) some =
+        let same : Some g ≡ Some f = rw some at first in
+        inl (record {
+          records = is.records;
+          state = is.state;
+          rest = is.rest;
+          read = is.read;
+          wrong = reads (none_within bound) is.records verdicts is.each
+              ∙ ap (λ (o : Option BookFault). read_as o (counted_of (none_within bound) is.records).known)
+              (some ∙ same);
+        })
 
 -- the first fault that is told is the one for which the octets are no alert book
 pub first_is_the_books : FirstIsTheBooks
 first_is_the_books input output count checked f first =
-    by_wrong (first_wrong 1 checked.verdicts) refl
-  where
-    is : AreVerdictsOf input checked.verdicts
-    is = checked.are
+    (checked.bounded, first_is bounds.Book input checked.verdicts checked.are f first)
 
-    by_wrong : (wrong : Option BookFault) → first_wrong 1 checked.verdicts ≡ wrong → IsWrong input f
-    by_wrong None none =
-        let sent : first_unsendable 1 checked.verdicts ≡ Some f = rw none at first in (
-          checked.bounded,
-          inr (record {
-            rows = (counted_in none_counted is.records).known;
-            meant = meant_of input checked.verdicts is none;
-            wrong = text_wrong none_counted is.records checked.verdicts f is.each ([], tt) none sent;
-          }),
-        )
-    by_wrong (Some g) some =
-        let same : Some g ≡ Some f = rw some at first in (
-          checked.bounded,
-          inl (record {
-            records = is.records;
-            state = is.state;
-            rest = is.rest;
-            read = is.read;
-            wrong = reads none_counted is.records checked.verdicts is.each
-                ∙ ap (λ (o : Option BookFault). read_as o (counted_in none_counted is.records).known) (some ∙ same);
-          }),
-        )
+-- and no network book
+pub first_is_the_networks : FirstIsTheNetworks
+first_is_the_networks group input output count checked f first =
+    judged_are_wrong group input f checked.bounded
+    (first_is bounds.Network input checked.verdicts checked.are f first)
 
 -- nothing is told of an alert book
 pub books_are_clean : BooksAreRight → BooksAreClean
@@ -347,3 +366,17 @@ books_are_clean right input output count book is checked =
     by_first None none = sym checked.counted ∙ faults_have_a_first checked.verdicts none
     by_first (Some f) some =
         absurd (right input book f is (first_is_the_books input output count checked f some))
+
+-- nor of a network book
+pub networks_are_clean : NetworksAreRight → NetworksAreClean
+networks_are_clean right group input output count rows is checked =
+    by_first (first_fault checked.verdicts) refl
+  where
+    has : HasGroups group input (groups_of (length rows.cells))
+    has = record { rows = rows; network = is; count = refl }
+
+    by_first : (first : Option BookFault) → first_fault checked.verdicts ≡ first → count ≡ 0
+    by_first None none = sym checked.counted ∙ faults_have_a_first checked.verdicts none
+    by_first (Some f) some =
+        absurd (right group group input (groups_of (length rows.cells)) f has
+        (first_is_the_networks group input output count checked f some))

@@ -3,3 +3,4 @@ pub mod SoFarLaws
 pub mod BookLaws
 pub mod PageCounts
 pub mod OneCheck
+pub mod Groups

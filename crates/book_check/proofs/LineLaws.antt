@@ -6,9 +6,7 @@ use Rattle.std.proofs.Common.{length-drop}
 use Rattle.std.specs.Prelude.{◌==◌}
 use Rattle.csv.specs.Machine.{fields_after, field_after, is_end, next_record, step, ends_at_end, Read}
 use Rattle.csv.specs.Reading.{Reached, default_config}
-use Rattle.csv.specs.declared.parser.Action.{Action}
 use Rattle.csv.specs.declared.parser.Action.TheVariants as act
-use Rattle.csv.specs.declared.parser.Config.{Config}
 use Rattle.csv.specs.declared.parser.State.{State}
 use Rattle.csv.specs.declared.parser.State.TheVariants as st
 use Rattle.book_check.specs.Lines.{blank_front, is_line_end, line_of, lines_before}

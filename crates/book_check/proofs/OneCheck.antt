@@ -1,11 +1,9 @@
 -- Octets are checked in one way.
-use Rattle.std.proofs.Common.{◌≡◌, ◌≢◌, ◌∙◌, ◌⊎◌, ℕ, ◌+◌, ◌≤◌, ap, sym, refl, subst, arith, inl, inr, Option, Some}
-use Rattle.std.proofs.Common.{None}
-use Rattle.std.proofs.Common.{List, [], ◌∷◌, ◌++◌, append-nil, count_by, length, length-append, Ok, Err, Result}
+use Rattle.std.proofs.Common.{◌≡◌, ◌≢◌, ◌∙◌, ◌⊎◌, ℕ, ap, sym, refl, subst, inl, inr, true, false, Option, Some, None}
+use Rattle.std.proofs.Common.{List, [], ◌∷◌, ◌++◌, append-nil, count_by, Ok, Err, Result}
 use Rattle.std.specs.Str.{chars}
 use Rattle.csv.specs.Machine.{next_record}
-use Rattle.csv.specs.Reading.{Reached, default_config, strip_bom}
-use Rattle.csv.specs.declared.parser.State.{State}
+use Rattle.csv.specs.Reading.{default_config, strip_bom}
 use Rattle.csv.specs.declared.parser.State.TheVariants as st
 use Rattle.cbs_page.proofs.OneText.{sent_text_has_no_fault, text_fault_is_one}
 use Rattle.cbs_page.specs.Text.{IsTextFault}
@@ -14,9 +12,8 @@ use Rattle.cbs_page.specs.declared.paging.TextFault.{TextFault}
 use Rattle.cbs_page.specs.declared.paging.TextFault.TheVariants as text
 use Rattle.alert_book.proofs.OneAnswer.{reached_either, reached_front, reached_same}
 use Rattle.alert_book.specs.Book.{sending_of, ArePagesOf}
-use Rattle.alert_book.specs.Judging.{Counted, counted_after, next_found, next_meant, none_counted, CanBeSent}
-use Rattle.alert_book.specs.Judging.{HasTextFault, IsRightRow, IsVerdict, IsVerdictOfRow, IsWrongRow}
-use Rattle.alert_book.specs.declared.book.order.Order.{Order}
+use Rattle.alert_book.specs.Judging.{Counted, counted_after, next_found, next_meant, none_within}
+use Rattle.alert_book.specs.Judging.{IsVerdict, IsVerdictOfRow}
 use Rattle.alert_book.specs.declared.book.order.Sending.{Sending}
 use Rattle.alert_book.specs.declared.book.row.Row.{Row}
 use Rattle.alert_book.specs.declared.book.row.Row.TheVariants as rows
@@ -24,27 +21,41 @@ use Rattle.alert_book.specs.declared.fault.RowFault.{RowFault}
 use Rattle.alert_book.specs.declared.judging.Verdict.{Verdict}
 use Rattle.alert_book.specs.declared.judging.Verdict.TheVariants as verdict
 use Rattle.alert_book.specs.declared.judging.columns.Found.{Found}
-use Rattle.book_check.specs.Checked.{AreVerdictsOf, IsChecked}
+use Rattle.alert_book.specs.declared.judging.bounds.Bounds.{Bounds}
+use Rattle.book_check.specs.Checked.{AreVerdictsBy, EndsPast, IsUpToPast}
 use Rattle.book_check.specs.Laws.{ChecksAreOne}
 use Rattle.book_check.specs.Lines.{at_start}
 use Rattle.book_check.specs.Told.{AreVerdicts, header_row, is_told, told_of_rows}
 
--- one list of records is a front of another that is no longer
-no_more : (front all more : List (List (List ℕ))) → all ≡ front ++ more → length all ≤ length front → all ≡ front
-no_more front all [] is few = is ∙ append-nil front
-no_more front all (m ∷ ms) is few =
-    let long : length all ≡ length (front ++ m ∷ ms) = ap length is in
-    let both : length (front ++ m ∷ ms) ≡ length front + length (m ∷ ms) = length-append front (m ∷ ms) in
-    let some : 1 ≤ length (m ∷ ms) = omega arith in
-    absurd (omega (arith, long, both, some, few))
+-- no rows come after one too many
+front_past : (before : Counted) (front : List (List (List ℕ))) (fields : List (List ℕ))
+    (more : List (List (List ℕ))) → EndsPast before front → IsUpToPast before (front ++ fields ∷ more) → ⊥
+front_past before [] fields more ends up = ends
+front_past before (first ∷ front) fields more ends (inl none) = no_rest front none
+  where
+    no_rest : (front : List (List (List ℕ))) → front ++ fields ∷ more ≡ [] → ⊥
+    no_rest [] is = cc
+    no_rest (f ∷ fs) is = cc
+front_past before (first ∷ front) fields more (inl last) (inr up) =
+    let both : true ≡ false = sym last.1 ∙ up.0 in
+    cc
+front_past before (first ∷ front) fields more (inr later) (inr up) =
+    front_past (counted_after before first) front fields more later up.1
+
+-- a list of records that ends so is a front of itself alone
+no_more : (before : Counted) (front all more : List (List (List ℕ))) → all ≡ front ++ more → EndsPast before front
+    → IsUpToPast before all → all ≡ front
+no_more before front all [] is ends up = is ∙ append-nil front
+no_more before front all (m ∷ ms) is ends up =
+    absurd (front_past before front m ms ends (subst (IsUpToPast before) is up))
 
 -- the records that are judged are one list
-same_records : (input : List ℕ) (verdicts others : List Verdict) (one : AreVerdictsOf input verdicts)
-    (two : AreVerdictsOf input others) → one.records ≡ two.records
-same_records input verdicts others one two = by_ends one.whole two.whole
+same_records : (bound : Bounds) (input : List ℕ) (verdicts others : List Verdict)
+    (one : AreVerdictsBy bound input verdicts) (two : AreVerdictsBy bound input others) → one.records ≡ two.records
+same_records bound input verdicts others one two = by_ends one.whole two.whole
   where
-    by_ends : (next_record default_config one.state [] [] one.rest ≡ None) ⊎ (length one.records ≡ 4097)
-        → (next_record default_config two.state [] [] two.rest ≡ None) ⊎ (length two.records ≡ 4097)
+    by_ends : (next_record default_config one.state [] [] one.rest ≡ None) ⊎ EndsPast (none_within bound) one.records
+        → (next_record default_config two.state [] [] two.rest ≡ None) ⊎ EndsPast (none_within bound) two.records
         → one.records ≡ two.records
     by_ends (inl ended) (inl done) =
         reached_same default_config st.StartRecord (strip_bom input) one.records two.records one.state one.rest
@@ -52,16 +63,16 @@ same_records input verdicts others one two = by_ends one.whole two.whole
     by_ends (inl ended) (inr full) =
         let more = reached_front default_config st.StartRecord (strip_bom input) two.records one.records two.state
         two.rest one.state one.rest two.read one.read ended in
-        no_more two.records one.records more.0 more.1 (omega (arith, one.few, full))
+        no_more (none_within bound) two.records one.records more.0 more.1 full one.few
     by_ends (inr full) (inl done) =
         let more = reached_front default_config st.StartRecord (strip_bom input) one.records two.records one.state
         one.rest two.state two.rest one.read two.read done in
-        sym (no_more one.records two.records more.0 more.1 (omega (arith, two.few, full)))
+        sym (no_more (none_within bound) one.records two.records more.0 more.1 full two.few)
     by_ends (inr full) (inr filled) =
         elim (reached_either default_config st.StartRecord (strip_bom input) one.records two.records one.state
         one.rest two.state two.rest one.read two.read) [
-          | inl more ↦ sym (no_more one.records two.records more.0 more.1 (omega (arith, full, filled)))
-          | inr more ↦ no_more two.records one.records more.0 more.1 (omega (arith, full, filled))
+          | inl more ↦ sym (no_more (none_within bound) one.records two.records more.0 more.1 full two.few)
+          | inr more ↦ no_more (none_within bound) two.records one.records more.0 more.1 filled one.few
         ]
 
 -- a row has one meaning
@@ -144,17 +155,18 @@ same_verdicts before (fields ∷ records) (v ∷ vs) (w ∷ ws) one two =
 
 -- and octets one table
 pub checks_are_one : ChecksAreOne
-checks_are_one input output another count other one two =
+checks_are_one bound input output another count other one two =
     let text : List ℕ = strip_bom input in
-    let records = same_records input one.verdicts two.verdicts one.are two.are in
-    let verdicts = same_verdicts none_counted two.are.records one.verdicts two.verdicts
-    (subst (λ (rs : List (List (List ℕ))). AreVerdicts none_counted rs one.verdicts) records one.are.each)
+    let records = same_records bound input one.verdicts two.verdicts one.are two.are in
+    let verdicts = same_verdicts (none_within bound) two.are.records one.verdicts two.verdicts
+    (subst (λ (rs : List (List (List ℕ))). AreVerdicts (none_within bound) rs one.verdicts) records one.are.each)
     two.are.each in (
       sym one.counted ∙ ap (count_by is_told) verdicts ∙ two.counted,
       one.written
-          ∙ ap (λ (rs : List (List (List ℕ))). header_row ++ told_of_rows text (at_start text) none_counted rs
+          ∙ ap (λ (rs : List (List (List ℕ))). header_row ++ told_of_rows text (at_start text) (none_within bound) rs
           one.verdicts) records
-          ∙ ap (λ (vs : List Verdict). header_row ++ told_of_rows text (at_start text) none_counted two.are.records vs)
+          ∙ ap (λ (vs : List Verdict). header_row ++ told_of_rows text (at_start text) (none_within bound)
+          two.are.records vs)
           verdicts
           ∙ sym two.written,
     )

@@ -1,5 +1,5 @@
 -- What a table of CSV holds as it is written (own). The contracts of private functions alone speak of it.
-use Rattle.std.specs.Prelude.{◌≡◌, ◌≤◌, ℕ, List, Some, false}
+use Rattle.std.specs.Prelude.{◌≡◌, ℕ, List, Some, false}
 use Rattle.csv.specs.Writing.{default_writer, fields_written, has_written, text_written, writer_setup}
 use Rattle.book_check.specs.declared.table.Table.{Table}
 

@@ -1,5 +1,5 @@
--- What is told of the rows of a book, as CSV: a row for each that has a fault. Own.
-use Rattle.std.specs.Prelude.{⊤, ℕ, ◌+◌, ◌-◌, Bool, true, false, List, [], ◌∷◌, ◌++◌, codes, length}
+-- What is told of the rows of a book or a network book, as CSV: a row for each that has a fault. Own.
+use Rattle.std.specs.Prelude.{⊤, ℕ, ◌+◌, ◌-◌, Bool, true, false, List, [], ◌∷◌, ◌++◌, codes}
 use Rattle.std.specs.Fmt.{decimal}
 use Rattle.csv.specs.Writing.{default_writer, row_text}
 use Rattle.alert_book.specs.Fields.{column}

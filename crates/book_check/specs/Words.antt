@@ -1,12 +1,12 @@
 -- The words of what is told of a book's faults: the names of columns, values as they are shown, and what is wanted.
 -- Own.
-use Rattle.std.specs.Prelude.{ℕ, zero, suc, ◌+◌, ◌-◌, ◌==◌, ◌&&◌, ◌||◌, not, nat_le, nat_lt, Bool, if◌then◌else◌}
+use Rattle.std.specs.Prelude.{ℕ, zero, suc, ◌+◌, ◌-◌, ◌==◌, ◌&&◌, ◌||◌, nat_le, nat_lt, Bool, if◌then◌else◌}
 use Rattle.std.specs.Prelude.{Option}
 use Rattle.std.specs.Prelude.{Some, None, List, [], ◌∷◌, ◌++◌, codes, encode_utf8, length}
 use Rattle.std.specs.Prelude.{slice_get, take, unwrap_or}
 use Rattle.std.specs.Fmt.{decimal}
 use Rattle.std.specs.List.{flat_map, list_any}
-use Rattle.std.specs.Str.{bytes_eq, chars, is_utf8}
+use Rattle.std.specs.Str.{chars, is_utf8}
 use Rattle.hex.specs.Hex.{encode_lower}
 use Rattle.book_texts.specs.Cost.{first_forcing, pages_needed, place_of_forcing}
 use Rattle.cbs_page.specs.declared.paging.TextFault.{TextFault}
@@ -19,6 +19,8 @@ use Rattle.alert_book.specs.declared.book.row.Verb.{Verb}
 use Rattle.alert_book.specs.declared.book.row.Verb.TheVariants as verbs
 use Rattle.alert_book.specs.declared.fault.RowFault.{RowFault}
 use Rattle.alert_book.specs.declared.fault.RowFault.TheVariants as fault
+use Rattle.alert_book.specs.declared.judging.bounds.Bounds.{Bounds}
+use Rattle.alert_book.specs.declared.judging.bounds.Bounds.TheVariants as bounds
 use Rattle.alert_book.specs.declared.judging.columns.Column.{Column}
 use Rattle.alert_book.specs.declared.judging.columns.Column.TheVariants as columns
 
@@ -158,10 +160,20 @@ unknown_words (Some verbs.Write) = codes "a name"
 unknown_words (Some verbs.Update) = codes "no earlier row writes this name"
 unknown_words (Some verbs.Stop) = codes "no earlier row writes this name"
 
+-- a cell too many in a network book, or another row too many
+abbrev pub many_of_verb : Option Verb → List ℕ
+many_of_verb None = codes "a network book has 4096 rows besides cells at most"
+many_of_verb (Some verbs.Cell) = codes "a network book has 65536 cells at most"
+many_of_verb (Some verbs.Write) = codes "a network book has 4096 rows besides cells at most"
+many_of_verb (Some verbs.Update) = codes "a network book has 4096 rows besides cells at most"
+many_of_verb (Some verbs.Stop) = codes "a network book has 4096 rows besides cells at most"
+
 -- a row too many, or a cell too many
-abbrev pub too_many_words : (row : ℕ) → List ℕ
-too_many_words row =
+abbrev pub too_many_words : Bounds → Option Verb → (row : ℕ) → List ℕ
+too_many_words bounds.Book verb row =
     if nat_lt 4096 row then codes "a book has 4096 rows at most" else codes "a book has 64 cells at most"
+too_many_words bounds.Network verb row =
+    if nat_lt 69633 row then codes "a network book has 69632 rows at most" else many_of_verb verb
 
 -- what is said of a fault in the column of a place of a row; `after` is what counts after the row
 abbrev pub says_of_row : (row : ℕ) → (after : Counted) → List (List ℕ) → Option Verb → (place : ℕ) → RowFault → List ℕ
@@ -174,7 +186,7 @@ says_of_row row after fields verb place fault.TwiceNamed =
     twice_words (column_of verb place) (row_with_name after.known.orders (text_of (column fields (place - 1))))
 says_of_row row after fields verb place fault.UnknownName = unknown_words verb
 says_of_row row after fields verb place fault.TooManyUpdates = codes "an alert has 15 updates at most"
-says_of_row row after fields verb place fault.TooManyRows = too_many_words row
+says_of_row row after fields verb place fault.TooManyRows = too_many_words after.bounds verb row
 says_of_row row after fields verb place fault.Refused = []
 
 -- of a text by its number of pages, and why it is UCS-2: its first such character, and the place of that character,

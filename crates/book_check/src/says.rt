@@ -103,7 +103,9 @@ pub(crate) fn says_of_row(
         RowFault::TwiceNamed => twice_words(alloc, column, judge.row_with_name(field)),
         RowFault::UnknownName => String::from_str(alloc, unknown_words(verb)),
         RowFault::TooManyUpdates => String::from_str(alloc, "an alert has 15 updates at most"),
-        RowFault::TooManyRows => String::from_str(alloc, too_many_words(row)),
+        RowFault::TooManyRows => {
+            String::from_str(alloc, too_many_words(judge.bounds(), verb, row))
+        }
         RowFault::Refused => Ok(String::new(alloc)),
     }
 }

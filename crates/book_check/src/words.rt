@@ -2,11 +2,11 @@
 
 ghost use Rattle.std.specs.Prelude.{◌≡◌, ◌≤◌};
 ghost use Rattle.std.specs.List.{list_any};
-ghost use Rattle.book_check.specs.Words.{column_of, field_name, is_separator, language_place, name_of};
-ghost use Rattle.book_check.specs.Words.{number_words, place_of_text, text_place, too_many_words, unknown_words};
-ghost use Rattle.book_check.specs.Words.{verb_name, verb_words};
+ghost use Rattle.book_check.specs.Words.{column_of, field_name, is_separator, language_place};
+ghost use Rattle.book_check.specs.Words.{many_of_verb, name_of, number_words, place_of_text, text_place};
+ghost use Rattle.book_check.specs.Words.{too_many_words, unknown_words, verb_name, verb_words};
 
-use alert_book::{Column, Verb, columns_after};
+use alert_book::{Bounds, Column, Verb, columns_after};
 use cbs_page::TextFault;
 
 /// The columns after the first, by a row's verb: what the column of a place is, counted from 1.
@@ -117,14 +117,28 @@ pub(crate) fn unknown_words(verb: Option<Verb>) -> &'static str
     }
 }
 
-/// What is said of a row of this number that is one too many, or that declares a cell too many.
-pub(crate) fn too_many_words(row: u32) -> &'static str
-    ensures { result.now ≡ too_many_words row }
+/// What is said of a cell too many in a network book, or of another row too many.
+fn many_of_verb(verb: Option<Verb>) -> &'static str
+    ensures { result.now ≡ many_of_verb verb }
 {
-    if row > 4096 {
-        return "a book has 4096 rows at most";
+    match verb {
+        Some(Verb::Cell) => "a network book has 65536 cells at most",
+        Some(Verb::Write | Verb::Update | Verb::Stop) | None => {
+            "a network book has 4096 rows besides cells at most"
+        }
     }
-    "a book has 64 cells at most"
+}
+
+/// What is said of a row too many, or of a cell too many.
+pub(crate) fn too_many_words(bounds: Bounds, verb: Option<Verb>, row: u32) -> &'static str
+    ensures { result.now ≡ too_many_words bounds verb row }
+{
+    match bounds {
+        Bounds::Book if row > 4096 => "a book has 4096 rows at most",
+        Bounds::Book => "a book has 64 cells at most",
+        Bounds::Network if row > 69_633 => "a network book has 69632 rows at most",
+        Bounds::Network => many_of_verb(verb),
+    }
 }
 
 /// Where a row's text stands.

@@ -1,4 +1,5 @@
-use Rattle.book_check.proofs.BookLaws.{books_are_clean, clean_are_books, faults_have_a_first, first_is_the_books}
+use Rattle.book_check.proofs.BookLaws.{books_are_clean, clean_are_books, clean_are_networks, faults_have_a_first}
+use Rattle.book_check.proofs.BookLaws.{first_is_the_books, first_is_the_networks, networks_are_clean}
 use Rattle.book_check.proofs.OneCheck.{checks_are_one}
 use Rattle.book_check.proofs.PageCounts.{pages_counted}
 use Rattle.book_check.proofs.laws.check_laws.Goals as goal
@@ -20,3 +21,12 @@ returns-clause-one c = checks_are_one
 
 pub returns-clause-pages : goal.returns-clause-pages
 returns-clause-pages c = pages_counted
+
+pub returns-clause-clean_network : goal.returns-clause-clean_network
+returns-clause-clean_network c = clean_are_networks
+
+pub returns-clause-networks : goal.returns-clause-networks
+returns-clause-networks c = networks_are_clean c.network_laws.ensures.network_or_fault
+
+pub returns-clause-first_of_network : goal.returns-clause-first_of_network
+returns-clause-first_of_network c = first_is_the_networks

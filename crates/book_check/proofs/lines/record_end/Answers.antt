@@ -1,4 +1,4 @@
-use Rattle.std.proofs.Common.{◌≡◌, ◌+◌, ◌<◌, ◌≤◌, ◌∙◌, ℕ, IfSome, List, [], ◌∷◌, Option, Some, ap, arith, drop, false}
+use Rattle.std.proofs.Common.{◌≡◌, ◌+◌, ◌<◌, ◌≤◌, ◌∙◌, ℕ, IfSome, List, [], Option, ap, arith, drop, false}
 use Rattle.std.proofs.Common.{get_or}
 use Rattle.std.proofs.Common.{length, refl, rules, subst, sym, true}
 use Rattle.csv.specs.Machine.{Read, field_after, fields_after, is_end, next_record, step}
