@@ -1,5 +1,5 @@
--- What is made of the octets that are read: of the run of a book, or of a group's, its tapes, the report of them, or
--- their chart. Own.
+-- What is made of the octets that are read: of the run of a book, or of a group's, its tapes, the report of them, their
+-- chart, or the orders file of one of its cells. Own.
 use Rattle.std.specs.Prelude.{◌≡◌, ◌==◌, ℕ, Bool, true, List, All, None, Some, length, map}
 use Rattle.std.specs.List.{flat_map}
 use Rattle.alert_book.specs.declared.book.order.Order.{Order}
@@ -15,10 +15,12 @@ use Rattle.book_runs.specs.Run.{Exchange}
 use Rattle.bsc_table.specs.Promised.{IsServed}
 use Rattle.bsc_table.specs.Record.{Record}
 use Rattle.cbch_blocks.specs.RecordBlocks.{blocks_of, tape_of_record}
+use Rattle.cbsp_wire.specs.declared.message.Cell.{Cell}
 use Rattle.chart.specs.ChartText.{chart_text}
 use Rattle.chart.specs.declared.view.View.{View}
 use Rattle.handset.specs.Reception.{shown_in}
 use Rattle.handset.specs.Tape.{TapeReading}
+use Rattle.record_orders.specs.Ordered.{orders_in}
 use Rattle.report.specs.ReportText.{text_with}
 use Rattle.report.specs.Rows.{report_rows}
 use Rattle.report.specs.declared.row.Columns.{Columns}
@@ -64,6 +66,7 @@ octets_of (product.Report layout) from slots orders records =
     text_with layout (is_headed from) (orders_of_run orders records) (own_rows records)
 octets_of (product.Chart view) from slots orders records =
     chart_text slots view (orders_of_run orders records) records (map reading_of_record records)
+octets_of (product.Orders cell) from slots orders records = orders_in cell records
 
 -- what is written for the octets that were read: they are a book, or a network book whose group has one, and this is
 -- what is made of its run, and nothing else
@@ -100,3 +103,7 @@ IsReportedFrom from slots layout = IsOutput (product.Report layout) from slots 1
 -- what `warnc chart` writes: of all cells or one, the whole run or a part of it
 abbrev pub IsChartedFrom : (from : Origin) (slots : ℕ) → View → (input output : List ℕ) → Type 0
 IsChartedFrom from slots view = IsOutput (product.Chart view) from slots 1
+
+-- what `warnc orders` writes of a run: what one cell was ordered and answered
+abbrev pub IsOrderedFrom : (from : Origin) (slots : ℕ) → Cell → (input output : List ℕ) → Type 0
+IsOrderedFrom from slots cell = IsOutput (product.Orders cell) from slots 1

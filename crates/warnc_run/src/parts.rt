@@ -101,6 +101,7 @@ impl NetworkRun<'_> {
             Product::Tapes => unreachable!(),
             Product::Report(layout) => Text::Report(layout, group == 0),
             Product::Chart(view) => Text::ChartPart(group, group + 1 == self.groups, view),
+            Product::Orders(cell) => Text::Orders(cell),
         }
     }
 
@@ -158,7 +159,9 @@ impl NetworkRun<'_> {
     {
         match self.made {
             Product::Tapes => self.tapes_part(rt, group),
-            Product::Report(_) | Product::Chart(_) => self.text_part(rt, group),
+            Product::Report(_) | Product::Chart(_) | Product::Orders(_) => {
+                self.text_part(rt, group)
+            }
         }
     }
 
@@ -250,7 +253,7 @@ fn groups_at_once(made: Product, workers: Workers) -> u16
     let each = workers.number as u16;
     match made {
         Product::Tapes => each,
-        Product::Report(_) | Product::Chart(_) => 8 * each,
+        Product::Report(_) | Product::Chart(_) | Product::Orders(_) => 8 * each,
     }
 }
 

@@ -1,4 +1,4 @@
-//! The texts that are made of a run: the report of its cells, and their chart.
+//! The texts that are made of a run: the report of its cells, their chart, and the orders file of one of them.
 
 ghost use Rattle.std.specs.Prelude.{◌≡◌, ◌≤◌, ◌++◌, ℕ, List, length, map, All, IfErr, IfOk, OnOk};
 ghost use Rattle.cbsp_wire.specs.Range.{max_listed};
@@ -22,11 +22,13 @@ use crate::run::{Books, Run, Sessions, Workers};
 use alert_book::{Book, Order, Origin};
 use asked_orders::orders_of_run;
 use bsc_table::CellRecord;
+use cbsp_wire::Cell;
 use chart::{View, chart_octets, part_octets};
 use device_ends::{Failed, Sink, Source, write_all};
 use handset::{Reading, read_tape};
 use order_desk::{Gate, Open};
 use parallel_compile::compile_all;
+use record_orders::orders_in;
 use report::{BookOrders, Columns, Layout, ReportFault, Row, text_with};
 use std::alloc::{AllocGlobal, Global};
 use std::io::{Read, Write};
@@ -42,6 +44,8 @@ pub(crate) enum Text {
     Chart(View),
     /// The part of a group in the chart of its network: its number, whether it is the last one, and what is drawn.
     ChartPart(u16, bool, View),
+    /// The orders file of this cell.
+    Orders(Cell),
 }
 
 /// Reads a book, or the book of a group, and writes the text of its run. Nothing is written before all of it is made.
@@ -84,6 +88,7 @@ pub(crate) fn text_of_product(made: Product, origin: Origin) -> Text
         Product::Tapes => unreachable!(),
         Product::Report(layout) => Text::Report(layout, is_headed(origin)),
         Product::Chart(view) => Text::Chart(view),
+        Product::Orders(cell) => Text::Orders(cell),
     }
 }
 
@@ -122,7 +127,8 @@ pub(crate) fn text_of_book<T: AllocGlobal + Threads + Wait + Sync, G: Gate>(
     Ok(octets)
 }
 
-/// The orders of a book, and which of them asked each cell of its run: none for a plain report, which names no order.
+/// The orders of a book, and which of them asked each cell of its run: none for a plain report and for an orders file,
+/// which name no order of it.
 pub(crate) fn orders_for(
     alloc: Global,
     text: Text,
@@ -139,6 +145,7 @@ pub(crate) fn orders_for(
             Columns::Plain => Ok(BookOrders::none(alloc)),
         },
         Text::Chart(_) | Text::ChartPart(..) => Ok(orders_of_run(alloc, orders, records)?),
+        Text::Orders(_) => Ok(BookOrders::none(alloc)),
     }
 }
 
@@ -184,6 +191,10 @@ pub(crate) fn text_of_records<T: AllocGlobal + Threads + Wait + Sync>(
                 Ok(octets) => Ok(octets),
                 Err(fault) => Err(of_memory(fault)),
             }
+        }
+        Text::Orders(cell) => {
+            let octets = orders_in(rt.alloc(), cell, records)?;
+            Ok(octets)
         }
     }
 }
