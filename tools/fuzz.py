@@ -124,7 +124,7 @@ FAULTS = {"page": TEXT_FAULT + "|text is not UTF-8|text is too long", "read": TA
           "orders": rf"not a capture file|{LINK_FAULT}"
                     rf"|packet [1-9]\d*: (?:{LINK_FAULT}|capture is short|wrong block|no time"
                     r"|steps back: if several send, choose one by --from or --arfcn"
-                    r"|before the tape begins: use --first-slot [1-9]\d*)",
+                    rf"|before the tape begins: use --first-slot [1-9]\d*)|{ROW_FAULT}",
           "cells": rf"not a capture file|{LINK_FAULT}"
                    rf"|packet [1-9]\d*: (?:{LINK_FAULT}|capture is short|wrong block)",
           "verify": rf"{ROW_FAULT}|{TAPE_FAULT}|differences: [1-9]\d*", **dict.fromkeys(OF_BOOKS, ROW_FAULT),
@@ -630,7 +630,8 @@ def hint_of(run):
     book, data = run.parts()
     own = {**dict.fromkeys(("tape", "cells", "orders"), "a capture"),
            **dict.fromkeys(("read", "whole", "pcap", "verify"), "tapes")}
-    taken = own.get(run.command(), "a book")
+    of_run = run.command() == "orders" and run.number("--slots", 0)
+    taken = "a book" if of_run else own.get(run.command(), "a book")
     for name, octets, kind in (("book", book or b"", "a book"), ("input", data, taken)):
         like = likeness(octets)
         if like and not like.startswith(kind) and run.command() != "page":
@@ -1348,9 +1349,11 @@ def capture_options(chance):
     return options
 
 
-def orders_options(chance):
-    """Returns the options of `orders`."""
+def orders_options(chance, data):
+    """Returns the options of `orders`: of a book's run if the input begins as a book does, and else of a capture."""
     options = {"--cell": cell_word(chance)}
+    if data.startswith(b"cell,"):
+        return {**options, **book_options(chance, "orders", data)}
     for name, values in (("--bsc", ("10.0.0.2", "10.0.0.3", "0.0.0.0")), ("--first-slot", ("0", "1", "7", "65535")),
                          ("--from", ("127.0.0.1", "127.0.0.2", "0.1.0.1")), ("--arfcn", ("0", "51", "1023")),
                          ("--channel", ("cbch", "sdcch")), ("--packets", (None,))):
@@ -1393,7 +1396,7 @@ def good_options(chance, command, data):
     if command == "tape":
         return capture_options(chance)
     if command == "orders":
-        return orders_options(chance)
+        return orders_options(chance, data)
     if command == "cells":
         return {}
     if command in COMMANDS_OF["rows"]:
@@ -1462,8 +1465,8 @@ SIZES = {"workers": (2, 3, 4, 4, 64), "sessions": (2, 2, 3, 64), "pieces": (1, 2
          "devices": (1, 7, 8, 9, 92, 100, 192, 4096, 8192, 20_000), "verify": (1, 2, 4), "captures": (51, 52)}
 # kibioctets over the floor
 SPARES = (0, 1, 4, 16, 64, 256, 1024, 4096, 16384, 98304)
-COMMANDS_OF = {"book": (*OF_BOOKS, "verify"), "rows": ("plan", "check", "texts"), "tape": ("read", "whole", "pcap"),
-               "text": ("page",), "capture": ("tape", "cells", "orders")}
+COMMANDS_OF = {"book": (*OF_BOOKS, "verify"), "rows": ("plan", "check", "texts", "orders"),
+               "tape": ("read", "whole", "pcap"), "text": ("page",), "capture": ("tape", "cells", "orders")}
 MAKERS = {"book": some_book, "rows": some_book, "tape": some_tapes, "text": some_text, "capture": some_capture}
 
 

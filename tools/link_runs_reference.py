@@ -5,13 +5,14 @@ both.
 Usage: link_runs_reference.py PROGRAM [RUNS]    random books, 300 if no number is given. Of each cell the orders and the
                                                 answers are written as messages of the link here, and the air is what
                                                 the program makes of the book. Of the capture of both `tape` has to be
-                                                the book's tape, `orders` the orders and answers, and `verify --orders`
-                                                without a row; and of a tape that is spoilt it has to say what
-                                                orders_verdict_reference.py says. PROGRAM is a built `warnc`
+                                                the book's tape, `orders` the orders and answers, as of the book itself,
+                                                and `verify --orders` without a row; and of a tape that is spoilt it has
+                                                to say what orders_verdict_reference.py says. PROGRAM is a built `warnc`
        link_runs_reference.py --help            prints this
 
-What a cell answered, and how many broadcasts were over by then, is taken from `warnc report`. Cells in which a message
-waits for the one that it replaces are left out, and counted: there an answer is no start.
+What a cell answered, and how many broadcasts were over by then, is taken from `warnc report`. Of cells in which a
+message waits for the one that it replaces only the orders of the book are compared, and they are counted: there an
+answer is no start.
 """
 import collections
 import csv
@@ -38,16 +39,14 @@ Exchange = collections.namedtuple("Exchange", "slot order replaced cause done")
 
 # ---- the link of a book's run
 
-class Waits(Exception):
-    """A message begins later than it is accepted."""
-
-
 class Cell:
     """What a cell was asked and answered, by the lines of its report."""
 
     def __init__(self, cell, lines, slots):
         self.cell, self.lines, self.slots = cell, Lines(lines), slots
         self.live, self.clock = {}, 0
+        # a message begins later than it is accepted
+        self.waits = False
 
     def is_asked(self, order):
         """Whether an order asks the cell: a write does, and an update or a stop where a version of its alert is live.
@@ -72,8 +71,7 @@ class Cell:
         if cause in (None, NOT_LIVE):
             self.live.pop(name, None)
         if cause is None and line:
-            if int(line[4]) != self.clock:
-                raise Waits
+            self.waits |= int(line[4]) != self.clock
             self.live[name] = Live(serial, int(line[6]))
         alert = dataclasses.replace(order.alert, update=serial & 15)
         return Exchange(self.clock, dataclasses.replace(order, alert=alert, cells=[self.cell]),
@@ -102,6 +100,11 @@ def row_of(exchange):
     pages = [(it[1], it[2:]) for it in (page(piece, is_gsm) for piece in pieces)]
     return Order("write", exchange.slot, (ident, serial), exchange.replaced, sending.category, sending.period,
                  sending.broadcasts, coding_of(sending, is_gsm), pages, answer, exchange.done)
+
+
+def file_of(exchanges):
+    """Returns the orders file that `orders` has to write of exchanges."""
+    return "".join(f"{line_of(row_of(it))}\n" for it in exchanges).encode()
 
 
 # ---- judging
@@ -134,8 +137,7 @@ def judge_cell(program, rng, cell, blocks, exchanges, counts):
     air = run(program, ["pcap", "--start", START], gsm.tape_of(*cell, blocks)).stdout
     packets = [(time // 1000, octets) for _, _, time, octets in packets_in(air)]
     capture = capture_of([*packets_of(messages_of(exchanges, cell)), *packets])
-    rows = [row_of(it) for it in exchanges]
-    wanted = "".join(f"{line_of(it)}\n" for it in rows).encode()
+    rows, wanted = [row_of(it) for it in exchanges], file_of(exchanges)
     name = ["--cell", "-".join(map(str, cell))]
     tape, orders = run(program, ["tape", *name], capture).stdout, run(program, ["orders", *name], capture).stdout
     if tape != gsm.tape_of(*cell, blocks):
@@ -163,12 +165,15 @@ def differs(program, seed, counts):
     lines, wrong = list(csv.reader(io.StringIO(report.stdout.decode())))[1:], []
     for lac, ci, blocks in gsm.tapes_of(tapes.stdout):
         cell = Cell((lac, ci), [it for it in lines if it[:2] == [str(lac), str(ci)]], slots)
-        try:
-            exchanges = [cell.exchange(it) for it in orders if cell.is_asked(it)]
-        except Waits:
-            counts.update(waits=1)
-            continue
-        wrong += judge_cell(program, rng, (lac, ci), blocks, exchanges, counts)
+        exchanges = [cell.exchange(it) for it in orders if cell.is_asked(it)]
+        wanted = file_of(exchanges)
+        words = ["orders", "--slots", str(slots), "--cell", f"{lac}-{ci}"]
+        found = run(program, words, text.encode()).stdout
+        if found != wanted:
+            wrong.append(f"orders of the book are {found}, and not {wanted}")
+        counts.update(waits=cell.waits)
+        if not cell.waits:
+            wrong += judge_cell(program, rng, (lac, ci), blocks, exchanges, counts)
     if wrong:
         print(f"link_runs_reference: run {seed}: {wrong[0]}")
     return bool(wrong)
@@ -178,8 +183,8 @@ def main(words):
     counts = collections.Counter()
     status = judged("link_runs_reference", __doc__, words, lambda *it: differs(*it, counts), 300)
     if counts:
-        print(f"link_runs_reference: {counts['cells']} cells with {counts['orders']} orders, {counts['waits']} where a "
-              f"message waits left out; {counts['spoilt']} tapes were spoilt, and in {counts['found']} that is found")
+        print(f"link_runs_reference: {counts['cells']} cells with {counts['orders']} orders, and {counts['waits']} "
+              f"where a message waits; {counts['spoilt']} tapes were spoilt, and in {counts['found']} that is found")
     return status
 
 

@@ -45,7 +45,7 @@ _warnc() {
             pcap) words="--used --channel --start -h --help" ;;
             cells) words="-h --help" ;;
             tape) words="--cell --all --cells --slots --first-slot --from --arfcn --channel -h --help" ;;
-            orders) words="--cell --bsc --first-slot --from --arfcn --channel --packets -h --help" ;;
+            orders) words="--cell --bsc --first-slot --from --arfcn --channel --packets --slots --group --workers -h --help" ;;
             whole) words="-h --help" ;;
             groups) words="-h --help" ;;
             help) words="plan check texts compile report chart read verify page live pcap cells tape orders whole groups" ;;

@@ -18,7 +18,7 @@ complete -c warnc -n __fish_use_subcommand -a live -d 'Does what compile does, w
 complete -c warnc -n __fish_use_subcommand -a pcap -d 'Reads tapes of blocks and writes them as a capture file, a GSMTAP packet for each block'
 complete -c warnc -n __fish_use_subcommand -a cells -d 'Reads a capture file of GSMTAP packets over IPv4, and writes a table of who sends cell broadcasts in it, and which, as CSV'
 complete -c warnc -n __fish_use_subcommand -a tape -d 'Reads a capture file of GSMTAP packets over IPv4, also of another program\'s making, and writes a tape of it, or one of each cell'
-complete -c warnc -n __fish_use_subcommand -a orders -d 'Reads a capture file of the link between a cell broadcast centre and a base station controller, and writes what one cell was ordered, as CSV'
+complete -c warnc -n __fish_use_subcommand -a orders -d 'Reads a capture file of the link between a cell broadcast centre and a base station controller, or a book of alerts, and writes what one cell was ordered, as CSV'
 complete -c warnc -n __fish_use_subcommand -a whole -d 'Reads tapes, and writes them with four blocks of each page, also of one that was sent in fewer, for programs that read no shorter ones'
 complete -c warnc -n __fish_use_subcommand -a groups -d 'Reads a network book, and writes how many groups of 64 cells it has'
 complete -c warnc -n __fish_use_subcommand -a help -d 'Prints what a command takes'
@@ -96,4 +96,7 @@ complete -c warnc -n '__fish_seen_subcommand_from orders' -x -l arfcn -d 'Takes 
 complete -c warnc -n '__fish_seen_subcommand_from orders' -x -l channel -d 'The channel that packets name, by its own type or, as receivers do that know none, SDCCH' \
     -a 'cbch sdcch'
 complete -c warnc -n '__fish_seen_subcommand_from orders' -l packets -d 'Begins each line with the number of the packet of the answer, or of the order if none came, and with the time at which it came, in seconds from 1970 on'
+complete -c warnc -n '__fish_seen_subcommand_from orders' -x -l slots -d 'Takes the input for a book, and runs it for this many slots, 1 to 65535'
+complete -c warnc -n '__fish_seen_subcommand_from orders' -x -l group -d 'Takes the book for a network book, and of it the group of this number, 0 to 65535'
+complete -c warnc -n '__fish_seen_subcommand_from orders' -x -l workers -d 'How many workers play cells and make tapes, or run groups, side by side, 1 to 64'
 complete -c warnc -n '__fish_seen_subcommand_from help' -a 'plan check texts compile report chart read verify page live pcap cells tape orders whole groups'

@@ -80,17 +80,18 @@ some_text columns.Full (Some start) orders rows = omega arith
 some_report : (layout : Layout) (orders : Orders) (rows : List Row) → 0 < length (text_with layout true orders rows)
 some_report layout orders rows = some_text layout.columns layout.start orders rows
 
--- what is made of a book, or the part of a first group, that isn't tapes has octets
-some_of_group : (made : Product) (slots groups : ℕ) (orders : List Order) (records : List Record)
-    → made ≢ product.Tapes
+-- what is made of a book, or the part of a first group, has octets, but tapes and an orders file
+some_of_group : (r : Run) (made : Product) (slots groups : ℕ) (orders : List Order) (records : List Record)
+    → AlwaysWrites (task.Make r made)
     → 0 < length (octets_of_group made slots groups 0 orders records)
-some_of_group product.Tapes slots groups orders records text = absurd (text refl)
-some_of_group (product.Report layout) slots groups orders records text =
+some_of_group r product.Tapes slots groups orders records always = absurd always
+some_of_group r (product.Report layout) slots groups orders records always =
     some_report layout (orders_of_run orders records) (own_rows records)
-some_of_group (product.Chart wanted) slots groups orders records text =
+some_of_group r (product.Chart wanted) slots groups orders records always =
     some_part slots _ wanted (orders_of_run orders records) records _
+some_of_group r (product.Orders cell) slots groups orders records always = absurd always
 
--- and so has what is made of any books, but tapes
+-- and so has what is made of any books
 pub some_of_book : (b : Books) (made : Product) (slots parts : ℕ) (input output : List ℕ)
     → IsProductOf made b slots parts input output
     → (r : Run) → r.books ≡ b
@@ -109,12 +110,12 @@ some_of_book (books.One (origin.Group group)) (product.Report layout) slots part
 some_of_book (books.One (origin.Group group)) (product.Chart wanted) slots parts input output is r same always =
     subst (λ (octets : List ℕ). 0 < length octets) (sym is.written)
     (some_chart slots wanted (orders_of_run is.run.book.orders is.records) is.records _)
+some_of_book (books.One origin.Book) (product.Orders cell) slots parts input output is r same always = absurd always
+some_of_book (books.One (origin.Group group)) (product.Orders cell) slots parts input output is r same always =
+    absurd always
 some_of_book books.EachGroup made slots sessions input output is r same always =
     subst (λ (octets : List ℕ). 0 < length octets) (sym is.written) (by_parts is.parts is.as_many is.each)
   where
-    text : made ≢ product.Tapes
-    text tapes = subst (λ (m : Product). AlwaysWrites (task.Make r m)) tapes always
-
     by_parts : (parts : List (List ℕ)) → length parts ≡ is.groups
         → ArePartsFrom (record { made = made; slots = slots; parts = sessions; groups = is.groups }) input 0 parts
         → 0 < length (joined_parts parts)
@@ -122,7 +123,7 @@ some_of_book books.EachGroup made slots sessions input output is r same always =
         absurd (omega (arith, many, is.counted.count, some_groups (length is.counted.rows.cells)))
     by_parts (part ∷ parts) many each =
         let here : 0 < length part = subst (λ (octets : List ℕ). 0 < length octets) (sym each.0.written)
-        (some_of_group made slots is.groups each.0.run.book.orders each.0.records text) in
+        (some_of_group r made slots is.groups each.0.run.book.orders each.0.records always) in
         let both = length-append part (joined_parts parts) in
         omega (arith, here, both)
 

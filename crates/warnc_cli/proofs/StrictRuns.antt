@@ -47,6 +47,7 @@ always_plain : (r : BookRun) (made : Product) → AlwaysWrites (task.Strict r ma
 always_plain r product.Tapes always = always
 always_plain r (product.Report layout) always = always
 always_plain r (product.Chart view) always = tt
+always_plain r (product.Orders cell) always = always
 
 -- what was written is something
 pub some_strict : (r : BookRun) (made : Product) (first last old new : Option (List ℕ))

@@ -318,9 +318,10 @@ pub record AsksForTapes (words : List (List ℕ)) (wanted : AllWanted) (file : L
   pub first_given : GivesFirstSlot words wanted.first_slot
   pub channel_given : GivesChannelType words wanted.channel
 
--- the words ask for `orders`, with the packets of the lines or without
+-- the words ask for `orders` of a capture, with the packets of the lines or without
 pub record AsksForOrders (words : List (List ℕ)) (wanted : OrdersWanted) (packets : Bool) : Type 0 where
   pub command : slice_get words 1 ≡ Some (codes "orders")
+  pub of_capture : is_given words (codes "--slots") ≡ false
   pub cell_given : GivesCell words wanted.cell
   pub controller_given : GivesAddress words (codes "--bsc") wanted.controller
   pub first_given : GivesFirstSlot words wanted.first_slot
@@ -348,6 +349,8 @@ GivesProduct words (product.Report layout) sessions =
     × GivesSlotStart words layout.start
 GivesProduct words (product.Chart view) sessions =
     (slice_get words 1 ≡ Some (codes "chart")) × (sessions ≡ 1) × GivesView words view
+GivesProduct words (product.Orders cell) sessions =
+    (slice_get words 1 ≡ Some (codes "orders")) × (sessions ≡ 1) × GivesCell words cell
 
 -- the words ask for this to be made of such a run
 pub record AsksForRun (words : List (List ℕ)) (run : Run) (made : Product) : Type 0 where

@@ -37,12 +37,16 @@ kind_of front =
     else if looks_like_tapes front then Some kind.Tapes
     else None
 
+-- the kind of input of `orders`: a book where the words give the number of slots of its run
+abbrev pub kind_ordered : (runs : Bool) → Kind
+kind_ordered runs = if runs then kind.Book else kind.Capture
+
 -- the kind of input that a command takes; the text of `page` may be any
-abbrev pub kind_taken : (command : List ℕ) → Option Kind
-kind_taken command =
+abbrev pub kind_taken : (words : List (List ℕ)) → (command : List ℕ) → Option Kind
+kind_taken words command =
     if bytes_eq command (codes "page") then None
-    else if bytes_eq command (codes "tape") || bytes_eq command (codes "cells") || bytes_eq command (codes "orders")
-    then Some kind.Capture
+    else if bytes_eq command (codes "tape") || bytes_eq command (codes "cells") then Some kind.Capture
+    else if bytes_eq command (codes "orders") then Some (kind_ordered (is_given words (codes "--slots")))
     else if bytes_eq command (codes "read") || bytes_eq command (codes "whole") || bytes_eq command (codes "pcap")
     || bytes_eq command (codes "verify") then Some kind.Tapes
     else Some kind.Book
@@ -67,7 +71,7 @@ unlike taken front = unlike_kind taken (kind_of front)
 abbrev pub input_mistaken : (words : List (List ℕ)) → (input : List ℕ) → Option Mistaken
 input_mistaken words input =
     option_and_then (λ command. option_and_then (λ taken. option_map (λ kind. is.Input kind) (unlike taken input))
-    (kind_taken command)) (slice_get words 1)
+    (kind_taken words command)) (slice_get words 1)
 
 -- what of a file beside the input looks like another kind: orders look like none of these
 abbrev pub file_mistaken : (words : List (List ℕ)) → (file : List ℕ) → Option Mistaken

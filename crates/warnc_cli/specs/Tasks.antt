@@ -149,8 +149,10 @@ IsHeaded other = ⊤
 abbrev pub AlwaysWrites : Task → Type 0
 AlwaysWrites (task.Make run product.Tapes) = ⊥
 AlwaysWrites (task.Make run (product.Report layout)) = IsHeaded run.books
+AlwaysWrites (task.Make run (product.Orders cell)) = ⊥
 AlwaysWrites (task.Strict run product.Tapes) = ⊥
 AlwaysWrites (task.Strict run (product.Report layout)) = IsHeaded (books.One run.origin)
+AlwaysWrites (task.Strict run (product.Orders cell)) = ⊥
 AlwaysWrites task.Whole = ⊥
 AlwaysWrites task.Plan = ⊥
 AlwaysWrites (task.Orders wanted packets) = ⊥

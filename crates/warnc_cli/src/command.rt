@@ -65,7 +65,7 @@ pub enum Task<'a> {
         /// The name of the table's file.
         file: &'a str,
     },
-    /// `orders`.
+    /// `orders` of a capture.
     Orders {
         /// Whose orders are wanted, and by which clock.
         wanted: OrdersWanted,
@@ -92,7 +92,7 @@ pub enum Task<'a> {
         /// For how many pages each text is cut.
         pages: Option<u16>,
     },
-    /// `compile`, `live`, `report` or `chart`.
+    /// `compile`, `live`, `report`, `chart`, or `orders` of a book.
     Make {
         /// Which books are run, and how.
         run: Run,
@@ -267,12 +267,15 @@ fn tapes_in<'a, S: AsStr>(words: &'a [S]) -> Option<Task<'a>>
     })
 }
 
-/// The `orders` that the words ask for.
+/// The `orders` that the words ask for: of a book's run if they give the number of its slots, and else of a capture.
 fn orders_in<'a, S: AsStr>(words: &'a [S]) -> Option<Task<'a>>
     requires { slice_get (map S.text words.now) 1 ≡ Some (codes "orders") }
     ensures { IfSome result (IsTaskOf (map S.text words.now)) }
 {
     let cell = cell_in(words)?;
+    if is_given(words, "--slots") {
+        return run_in(words, Product::Orders(cell), Sessions { number: 1 });
+    }
     let controller = address_in(words, "--bsc")?;
     let first_slot = first_slot_in(words)?;
     let from = Sender {

@@ -2,8 +2,8 @@
 
 ghost use Rattle.std.specs.Prelude.{◌≡◌, map};
 ghost use Rattle.gsmtap.specs.File.{is_magic, is_pcapng};
-ghost use Rattle.warnc_cli.specs.Mistaken.{file_mistaken, is_of_kind, kind_of, kind_taken, looks_like_book};
-ghost use Rattle.warnc_cli.specs.Mistaken.{looks_like_capture, looks_like_tapes, mistaken_for, unlike};
+ghost use Rattle.warnc_cli.specs.Mistaken.{file_mistaken, is_of_kind, kind_of, kind_ordered, kind_taken};
+ghost use Rattle.warnc_cli.specs.Mistaken.{looks_like_book, looks_like_capture, looks_like_tapes, mistaken_for, unlike};
 
 use crate::command::is_given;
 use byteorder::{BigEndian, ByteOrder, LittleEndian};
@@ -68,7 +68,7 @@ pub fn mistaken_for<S: AsStr>(words: &[S], file: &[u8], input: &[u8]) -> Option<
         return Some(mistaken);
     }
     let command = words.get(1)?;
-    let taken = kind_taken(command.as_str())?;
+    let taken = kind_taken(words, command.as_str())?;
     let kind = unlike(taken, input)?;
     Some(Mistaken::Input(kind))
 }
@@ -85,13 +85,21 @@ fn file_mistaken<S: AsStr>(words: &[S], file: &[u8]) -> Option<Mistaken>
     Some(Mistaken::Book(kind))
 }
 
+/// Which kind of input `orders` takes: a book where the words give the number of slots of its run.
+fn kind_ordered(runs: bool) -> Kind
+    ensures { result ≡ kind_ordered runs }
+{
+    if runs { Kind::Book } else { Kind::Capture }
+}
+
 /// Which kind of input a command takes, if it takes one of these.
-fn kind_taken(command: &str) -> Option<Kind>
-    ensures { result ≡ kind_taken command.now }
+fn kind_taken<S: AsStr>(words: &[S], command: &str) -> Option<Kind>
+    ensures { result ≡ kind_taken (map S.text words.now) command.now }
 {
     match command {
         "page" => None,
-        "tape" | "cells" | "orders" => Some(Kind::Capture),
+        "tape" | "cells" => Some(Kind::Capture),
+        "orders" => Some(kind_ordered(is_given(words, "--slots"))),
         "read" | "whole" | "pcap" | "verify" => Some(Kind::Tapes),
         _ => Some(Kind::Book),
     }

@@ -281,18 +281,35 @@ fn tape<'a>(alloc: Global) -> Result<Command<'a>, AllocError> {
 
 /// The command line of `orders`.
 fn orders<'a>(alloc: Global) -> Result<Command<'a>, AllocError> {
-    Command::new(alloc, "orders")
+    let command = Command::new(alloc, "orders")
         .about(
-            "Reads a capture file of the link between a cell broadcast centre and\na base station controller, and writes what one cell was ordered, as\nCSV",
+            "Reads a capture file of the link between a cell broadcast centre and\na base station controller, or a book of alerts, and writes what one\ncell was ordered, as CSV",
         )
-        .after_help("Example: warnc orders --cell 1-1 < link.pcap > orders.csv")
-        .arg(ordered_cell(alloc))?
+        .after_help(
+            "Examples: warnc orders --cell 1-1 < link.pcap > orders.csv\n          warnc orders --cell 1-1 --slots 4096 < book.csv > orders.csv",
+        )
+        .arg(ordered_cell(alloc))?;
+    let command = of_capture(alloc, command)?;
+    of_run(alloc, command)
+}
+
+/// Adds the options of `orders` of a capture.
+fn of_capture<'a>(alloc: Global, command: Command<'a>) -> Result<Command<'a>, AllocError> {
+    command
         .arg(controller(alloc))?
         .arg(ordered_first_slot(alloc))?
         .arg(from(alloc))?
         .arg(arfcn(alloc))?
         .arg(channel_type(alloc))?
         .arg(packets(alloc))
+}
+
+/// Adds those of `orders` of a book.
+fn of_run<'a>(alloc: Global, command: Command<'a>) -> Result<Command<'a>, AllocError> {
+    command
+        .arg(ordered_slots(alloc)?)?
+        .arg(group(alloc).requires_arg("slots")?)?
+        .arg(workers(alloc).requires_arg("slots")?)
 }
 
 /// The command line of `whole`.
@@ -731,6 +748,18 @@ fn ordered_cell<'a>(alloc: Global) -> Arg<'a> {
         "LAC-CI",
         "The cell whose orders are wanted, as 1-2: its\nlocation area code and its cell identity, 0 to 65535\neach",
     )
+}
+
+/// The option of the number of slots of a run whose orders are wanted.
+fn ordered_slots<'a>(alloc: Global) -> Result<Arg<'a>, AllocError> {
+    optional(
+        alloc,
+        "slots",
+        "SLOTS",
+        "Takes the input for a book, and runs it for this many\nslots, 1 to 65535: the orders are those of its run",
+    )
+    .value_parser(value_parser!(u16).range(1..=65535))
+    .conflicts_with_all(&["bsc", "first-slot", "from", "arfcn", "channel", "packets"])
 }
 
 /// The option of the controller's address.

@@ -27,6 +27,8 @@ args report --slots 1
 fails -> 1 warnc: row 1: verb (the input looks like tapes: warnc read shows them)
 args chart --slots 1
 fails -> 1 warnc: row 1: verb (the input looks like tapes: warnc read shows them)
+args orders --cell 1-1 --slots 1
+fails -> 1 warnc: row 1: verb (the input looks like tapes: warnc read shows them)
 args groups
 fails -> 1 warnc: row 1: verb (the input looks like tapes: warnc read shows them)
 args texts
@@ -126,7 +128,7 @@ fails -> 1 warnc: orders.csv: row 1: verb (the orders look like a book: warnc co
 
 #[test]
 fn tapes_are_named_where_they_are_not_taken(rt: HostRuntime) -> Result<(), Fail> {
-    expect_rows(&rt, TAPES, 43)
+    expect_rows(&rt, TAPES, 45)
 }
 
 #[test]

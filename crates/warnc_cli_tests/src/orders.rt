@@ -78,6 +78,72 @@ run -> 0
 all -> worked
 ";
 
+const RUN: &str = "
+# what cell 1-1 is ordered in the run of a book: a write, one in its place after two of its broadcasts, a background one
+# and its stop, the stop of the first, one that takes each slot, one that has no room, and one after the run's end
+in cell,1,1
+in cell,1,2
+in write,0,a,4370,0,1,en,2,2,0,*,@
+in update,3,a,en,0,4,5,1-1,@
+in write,4,b,4383,0,2,de,1,8,0,1-1,@
+in stop,6,b,1-1
+in stop,7,a,*
+in write,8,c,1,0,3,en,2,1,0,1-1,@
+in write,9,d,2,0,4,en,2,8,0,1-1,@
+in write,20,e,3,0,5,en,2,8,0,1-1,@
+worked write,0,4370,0010,,2,2,0,01,ok,,1-8046a3d168341a8d46a3d168341a8d46a3d168341a8d46a3d168341a8d46a3d168341\
+    a8d46a3d168341a8d46a3d168341a8d46a3d168341a8d46a3d168341a8d46a3d168341a8d46a3d168341a8d46a3d100
+worked write,3,4370,0011,0010,0,4,5,01,ok,2,1-8046a3d168341a8d46a3d168341a8d46a3d168341a8d46a3d168341a8d46a3d1\
+    68341a8d46a3d168341a8d46a3d168341a8d46a3d168341a8d46a3d168341a8d46a3d168341a8d46a3d168341a8d46a3d100
+worked write,4,4383,0020,,1,8,0,00,ok,,1-8046a3d168341a8d46a3d168341a8d46a3d168341a8d46a3d168341a8d46a3d168341\
+    a8d46a3d168341a8d46a3d168341a8d46a3d168341a8d46a3d168341a8d46a3d168341a8d46a3d168341a8d46a3d100
+worked kill,6,4383,0020,ok,1
+worked kill,7,4370,0011,ok,1
+worked write,8,1,0030,,2,1,0,01,ok,,1-8046a3d168341a8d46a3d168341a8d46a3d168341a8d46a3d168341a8d46a3d168341a8d\
+    46a3d168341a8d46a3d168341a8d46a3d168341a8d46a3d168341a8d46a3d168341a8d46a3d168341a8d46a3d100
+worked write,9,2,0040,,2,8,0,01,06,,1-8046a3d168341a8d46a3d168341a8d46a3d168341a8d46a3d168341a8d46a3d168341a8d\
+    46a3d168341a8d46a3d168341a8d46a3d168341a8d46a3d168341a8d46a3d168341a8d46a3d168341a8d46a3d100
+worked write,16,3,0050,,2,8,0,01,0a,,1-8046a3d168341a8d46a3d168341a8d46a3d168341a8d46a3d168341a8d46a3d168341a8\
+    d46a3d168341a8d46a3d168341a8d46a3d168341a8d46a3d168341a8d46a3d168341a8d46a3d168341a8d46a3d100
+args orders --cell 1-1 --slots 16
+run -> 0
+all -> worked
+reads 0 228 -> 3 warnc: read failed
+# 228 octets and the end are read, and nothing more
+reader 1 229
+run -> 0
+all -> worked
+writer 10 3
+run -> 3
+err -> warnc: write failed
+all -> 30 of 1235
+args orders --workers=3 --slots=16 --cell=1-1
+run -> 0
+all -> worked
+args orders --cell 1-1 --group 0 --slots 16
+run -> 0
+all -> worked
+# the other cell has the first version up to the stop
+worked write,0,4370,0010,,2,2,0,01,ok,,1-8046a3d168341a8d46a3d168341a8d46a3d168341a8d46a3d168341a8d46a3d168341\
+    a8d46a3d168341a8d46a3d168341a8d46a3d168341a8d46a3d168341a8d46a3d168341a8d46a3d168341a8d46a3d100
+worked kill,7,4370,0010,ok,4
+args orders --cell 1-2 --slots 16
+run -> 0
+all -> worked
+# the run has no such cell, and the network no such group
+args orders --cell 2-1 --slots 16
+run -> 0
+args orders --cell 1-1 --slots 16 --group 1
+fails -> 1 warnc: no such group: the network has 1
+# no books
+args orders --cell 1-1 --slots 16
+in cell,1,1
+in stop,1,a,*
+fails -> 1 warnc: row 2: unknown name
+in-hex d4c3b2a1020004000000000000000000ffff000065000000
+fails -> 1 warnc: row 1: columns (the input looks like a capture: warnc tape makes a tape of it)
+";
+
 const CONTROLLERS: &str = "
 # the same order to two controllers, without any block: each answers its own
 args orders --cell 1-1
@@ -282,9 +348,34 @@ args orders --cell 1-1 --channel 51
 usage -> 2 error:
 args orders --cell 1-1 --packets=1
 usage -> 2 error:
-# only `tape` has a number of slots and a table of cells, and only `orders` a controller and packets
-args orders --cell 1-1 --slots 2
+# what is of a capture isn't of a book, and the other way round
+args orders --cell 1-1 --slots 0
 usage -> 2 error:
+args orders --slots 2
+usage -> 2 error:
+args orders --cell 1 --slots 2
+fails -> 2 warnc: no such cell: --cell is as 1-2
+args orders --cell 1-1 --group 0
+usage -> 2 error:
+args orders --cell 1-1 --workers 2
+usage -> 2 error:
+args orders --cell 1-1 --slots 2 --packets
+usage -> 2 error:
+args orders --cell 1-1 --slots 2 --bsc 10.0.0.2
+usage -> 2 error:
+args orders --cell 1-1 --slots 2 --first-slot 0
+usage -> 2 error:
+args orders --cell 1-1 --slots 2 --from 10.0.0.2
+usage -> 2 error:
+args orders --cell 1-1 --slots 2 --arfcn 871
+usage -> 2 error:
+args orders --cell 1-1 --slots 2 --channel cbch
+usage -> 2 error:
+args orders --cell 1-1 --slots 2 --workers 65
+usage -> 2 error:
+args orders --cell 1-1 --slots 2 --network
+usage -> 2 error:
+# only `tape` has a table of cells, and only `orders` a controller and packets
 args orders --cells cells.csv
 usage -> 2 error:
 args tape --cell 1-1 --bsc 10.0.0.2
@@ -295,7 +386,10 @@ args orders --help
 run -> 0
 past --bsc <IPV4> -> yes
 past --packets -> yes
-says Example: warnc orders --cell 1-1 < link.pcap > orders.csv -> yes
+past --slots <SLOTS> -> yes
+past --group <GROUP> -> yes
+past Examples: warnc orders --cell 1-1 < link.pcap > orders.csv -> yes
+says           warnc orders --cell 1-1 --slots 4096 < book.csv > orders.csv -> yes
 ";
 
 #[test]
@@ -303,6 +397,11 @@ fn links_give_the_orders_of_a_cell(rt: HostRuntime) -> Result<(), Fail> {
     expect_rows(&rt, ORDERS, 64)?;
     expect_rows(&rt, CONTROLLERS, 22)?;
     expect_rows(&rt, CAPTURED, 35)
+}
+
+#[test]
+fn runs_give_the_orders_of_a_cell(rt: HostRuntime) -> Result<(), Fail> {
+    expect_rows(&rt, RUN, 50)
 }
 
 #[test]
@@ -317,5 +416,5 @@ fn captures_without_a_table_of_orders_are_refused(rt: HostRuntime) -> Result<(),
 
 #[test]
 fn other_words_of_orders_are_refused(rt: HostRuntime) -> Result<(), Fail> {
-    expect_rows(&rt, USAGE, 41)
+    expect_rows(&rt, USAGE, 68)
 }

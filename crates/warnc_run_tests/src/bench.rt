@@ -2,6 +2,7 @@
 
 use crate::gate::{Crossing, Manner, Shortage};
 use alert_book::Origin;
+use cbsp_wire::Cell;
 use chart::{Language, View, Wording};
 use device_ends::memory::{MemoryReader, MemoryWriter};
 use device_ends::{Sink, Source, write_all};
@@ -46,6 +47,9 @@ const TIMES: Layout = Layout {
     }),
 };
 
+/// The cell 1-1.
+const CELL: Cell = Cell { lac: 1, ci: 1 };
+
 /// What is called.
 #[derive(Clone, Copy, PartialEq, Eq)]
 enum Engine {
@@ -69,6 +73,8 @@ impl Engine {
             "full" => Engine::Product(Books::One(Origin::Book), Product::Report(FULL)),
             "times" => Engine::Product(Books::One(Origin::Book), Product::Report(TIMES)),
             "chart" => Engine::Product(Books::One(Origin::Book), Product::Chart(WHOLE)),
+            "orders" => Engine::Product(Books::One(Origin::Book), Product::Orders(CELL)),
+            "network-orders" => Engine::Product(Books::EachGroup, Product::Orders(CELL)),
             "network-tapes" => Engine::Product(Books::EachGroup, Product::Tapes),
             "network-report" => Engine::Product(Books::EachGroup, Product::Report(PLAIN)),
             "network-full" => Engine::Product(Books::EachGroup, Product::Report(FULL)),

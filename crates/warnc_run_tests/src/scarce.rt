@@ -106,6 +106,23 @@ chart 2 2 -> done
 all -> worked
 ";
 
+/// The orders file of a cell.
+const ORDERS: &str = "
+in cell,1,1
+in write,0,a,4370,0,1,en,2,2,0,1-1,@
+# write,0,4370,0010,,2,2,0,01,ok,, and the page
+worked 77726974652c302c343337302c303031302c2c322c322c302c30312c6f6b2c2c312d383034366133643136383334316138643436
+worked 61336431363833343161386434366133643136383334316138643436613364313638333431613864343661336431363833343161
+worked 38643436613364313638333431613864343661336431363833343161386434366133643136383334316138643436613364313638
+worked 3334316138643436613364313638333431613864343661336431363833343161386434366133643130300a
+scarce 150 orders 2 1 -> refused; done
+all -> worked
+scarce 150 network-orders 2 1 -> refused; done
+all -> worked
+scarce-threads 150 orders 2 2 -> refused; done
+all -> worked
+";
+
 /// A full report, of a book and of a network of one group.
 const FULL: &str = "
 in cell,1,1
@@ -220,6 +237,11 @@ fn refused_memory_is_reported_by_report(rt: HostRuntime) -> Result<(), Fail> {
 #[test]
 fn refused_memory_is_reported_by_charts(rt: HostRuntime) -> Result<(), Fail> {
     expect_rows(&rt, CHART)
+}
+
+#[test]
+fn refused_memory_is_reported_by_orders(rt: HostRuntime) -> Result<(), Fail> {
+    expect_rows(&rt, ORDERS)
 }
 
 #[test]
