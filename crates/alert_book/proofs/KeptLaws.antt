@@ -172,9 +172,11 @@ declares_new group row cells orders fields =
 abbrev pub NeverGives : Result Row RowFault → Type 0
 NeverGives r = (order : Order) → r ≡ Ok (rows.Give order) → ⊥
 
+-- a fault gives no order
 pub no_gift : (kind : RowFault) → NeverGives (Err kind)
 no_gift kind order is = cc
 
+-- what gives none either way gives none
 pub either_gives : (test : Bool) (a b : Result Row RowFault) → NeverGives a → NeverGives b → NeverGives (cond test a b)
 either_gives true a b first second = first
 either_gives false a b first second = second
@@ -187,6 +189,7 @@ right_gives_none {A} (Err kind) next never order is = cc
 declared_gives : (cell : Cell) → NeverGives (Ok (rows.Declare cell))
 declared_gives cell order is = cc
 
+-- a row that declares a cell gives none
 pub cell_row_gives : (most : ℕ) (cells : List Cell) (fields : List (List ℕ)) →
     NeverGives (cell_row_within most cells fields)
 cell_row_gives most cells fields =
@@ -196,6 +199,7 @@ cell_row_gives most cells fields =
     either_gives (is_among cells (cell_with lac ci)) _ _ (no_gift fault.TwiceNamed)
     (declared_gives (cell_with lac ci)))))
 
+-- the word of such a row is its verb
 pub cell_verb : (word : List ℕ) → bytes_eq word (codes "cell") ≡ true → verb_of word ≡ Some verbs.Cell
 unfolding verb_of
 cell_verb word is = rw is refl

@@ -34,6 +34,7 @@ pub record HasBare (r : Result Rows BookFault) (bares : Rows) : Type 0 where
   pub comes : r ≡ Ok rows
   pub same : bare_rows rows ≡ bares
 
+-- where the bare rows are right, the rows are
 pub has_bare : (r : Result Rows BookFault) (bares : Rows) → bare_result r ≡ Ok bares → HasBare r bares
 has_bare (Ok rows) bares is =
     record { rows = rows; comes = refl; same = one_ok (Ok (bare_rows rows)) (bare_rows rows) bares refl is }

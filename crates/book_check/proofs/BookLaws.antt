@@ -315,6 +315,7 @@ clean_is_network group input output clean =
     judged_are_network group input (counted_of (none_within bounds.Network) clean.are.records).known right.paged.0
     clean.bounded right.rows right.paged.1
 
+-- so it is a network book
 pub clean_are_networks : CleanAreNetworks
 clean_are_networks group input output clean =
     let is = clean_is_network group input output clean in (is.0, is.1)

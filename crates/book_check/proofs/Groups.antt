@@ -41,6 +41,7 @@ is_there (extent.Group group) input output groups checked none =
     let room = by_room groups group (nat_le groups group) refl none in
     (groups, has_groups group input output groups checked, leb-false groups group room)
 
+-- and what was checked is clean
 pub clean_for : (what : Extent) (input output : List ℕ) (count groups : ℕ) → count ≡ 0
     → IsCheckedWith (bounds_of what) input count output groups → missing what count groups ≡ None
     → IsCleanFor what input output

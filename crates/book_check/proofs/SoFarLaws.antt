@@ -126,6 +126,7 @@ pub up_to : (before : Counted) (seen : List (List (List ℕ))) → AreNotPast be
 up_to before [] room = tt
 up_to before (first ∷ seen) room = inr (room.0, up_to (counted_after before first) seen room.1)
 
+-- and whatever row comes after them
 pub up_to_one : (before : Counted) (seen : List (List (List ℕ))) (fields : List (List ℕ)) → AreNotPast before seen
     → IsUpToPast before (seen ++ fields ∷ [])
 up_to_one before [] fields room = inl refl

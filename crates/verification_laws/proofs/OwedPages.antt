@@ -42,6 +42,7 @@ pub release-is : (log : List _) (a : AskedMessage) (b : Accepted) (j : ℕ) → 
 release-is log a b j same =
     ap (λ start. start + j * a.period) same.start_is ∙ ap (λ period. b.message.start + j * period) same.period_is
 
+-- and so is that by which it is due
 pub due-is : (log : List _) (a : AskedMessage) (b : Accepted) (j : ℕ) → IsComing log [] a b →
     wanted.due_slot a j ≡ due b.message j
 due-is log a b j same =
