@@ -1,10 +1,11 @@
 #!/usr/bin/env python3
 """Judges books with faults as docs/formats.md says: a second program against which `warnc check` is compared.
 
-Usage: check_reference.py PROGRAM [RUNS]    random books, spoilt in most runs: fields changed, columns dropped and
-                                            added, octets changed, rows doubled and dropped, line ends and quotes put
-                                            in; the tables, lines and statuses of both programs have to be the same.
-                                            PROGRAM is a built `warnc`
+Usage: check_reference.py PROGRAM [RUNS]    random books, every third a network book, with and without a group, and
+                                            spoilt in most runs: fields changed, columns dropped and added, octets
+                                            changed, rows doubled and dropped, line ends and quotes put in; the tables,
+                                            lines and statuses of both programs have to be the same. PROGRAM is a built
+                                            `warnc`
        check_reference.py --table < BOOK    prints the table of a book
 """
 import random
@@ -23,6 +24,8 @@ NAMES = {
 RANGES = {"SCOPE": (0, 3), "CODE": (0, 1023), "PERIOD": (1, 1024), "CATEGORY": (0, 2)}
 CATEGORIES = "0 (high), 1 (background) or 2 (normal)"
 MOST_ROWS, MOST_CELLS, MOST_UPDATES, MOST_OCTETS = 4096, 64, 15, 16_777_216
+# Of a network book: cells, other rows, rows that are judged, octets, and cells of a group.
+NETWORK_CELLS, NETWORK_ORDERS, NETWORK_JUDGED, NETWORK_OCTETS, GROUP = 65_536, 4096, 69_633, 67_108_864, 64
 
 
 class Fault(Exception):
@@ -84,10 +87,30 @@ def number_of(field, least, most):
 
 
 class Judge:
-    """The rows of a book so far, as far as they count."""
+    """The rows of a book, or of a network book, so far, as far as they count."""
 
-    def __init__(self):
-        self.cells, self.names, self.updates = [], {}, {}
+    def __init__(self, network=False):
+        self.cells, self.names, self.updates = set(), {}, {}
+        self.network, self.orders, self.is_full = network, 0, False
+
+    def check_count(self, row, verb):
+        """Judges whether a row is one too many, after which no other is judged."""
+        says = None
+        if not self.network:
+            says = "a book has 4096 rows at most" if row > MOST_ROWS else None
+        elif row > NETWORK_JUDGED:
+            says = "a network book has 69632 rows at most"
+        elif verb != b"cell" and self.orders == NETWORK_ORDERS:
+            says = "a network book has 4096 rows besides cells at most"
+        if says:
+            self.is_full = True
+            raise Fault(1, says)
+
+    def check_cells_left(self):
+        if self.network and len(self.cells) == NETWORK_CELLS:
+            raise Fault(1, "a network book has 65536 cells at most")
+        if not self.network and len(self.cells) == MOST_CELLS:
+            raise Fault(1, "a book has 64 cells at most")
 
     def check_number(self, name, place, field):
         least, most = RANGES.get(name, (0, 65535))
@@ -120,8 +143,7 @@ class Judge:
 
     def check_row(self, row, fields):
         """Judges a row by its own columns."""
-        if row > MOST_ROWS:
-            raise Fault(1, "a book has 4096 rows at most")
+        self.check_count(row, fields[0])
         for place, field in enumerate(fields, 1):
             if text_of(field) is None:
                 raise Fault(place, "not UTF-8: save as CSV UTF-8")
@@ -132,8 +154,8 @@ class Judge:
         names = NAMES[verb].split()
         if len(fields) != len(names) + 1:
             raise Fault(1, f"{len(fields)} columns, {verb.decode()} has {len(names) + 1}")
-        if verb == b"cell" and len(self.cells) == MOST_CELLS:
-            raise Fault(1, "a book has 64 cells at most")
+        if verb == b"cell":
+            self.check_cells_left()
         for place, (name, field) in enumerate(zip(names, fields[1:], strict=True), 2):
             if name == "NAME":
                 self.check_name(verb, place, field)
@@ -170,16 +192,18 @@ class Judge:
         try:
             self.check_row(row, fields)
         except Fault as fault:
-            if row <= MOST_ROWS and fields[0] == b"write" and len(fields) > 2 and fields[2] \
-                    and text_of(fields[2]) is not None:
-                self.names.setdefault(fields[2], row)
+            if not self.is_full and fields[0] == b"write" and len(fields) > 2 and fields[2] \
+                    and text_of(fields[2]) is not None and fields[2] not in self.names:
+                self.names[fields[2]] = row
+                self.orders += 1
             return fault
         if fields[0] == b"cell":
-            self.cells.append((int(fields[1]), int(fields[2])))
+            self.cells.add((int(fields[1]), int(fields[2])))
         elif fields[0] == b"write":
             self.names[fields[2]] = row
         elif fields[0] == b"update":
             self.updates[fields[2]] = self.updates.get(fields[2], 0) + 1
+        self.orders += fields[0] != b"cell"
         try:
             self.check_text(fields)
         except Fault as fault:
@@ -208,11 +232,11 @@ def name_of(fields, column):
     return names[column - 1] if column <= len(names) else ""
 
 
-def check(book):
-    """Returns the table of a book and how many rows it has, or None if it is too long."""
-    if len(book) > MOST_OCTETS:
-        return b"", None
-    judge, table, count = Judge(), [b"row,line,column,field,value,says\n"], 0
+def check(book, network=False):
+    """Returns the table of a book, how many rows it has, or None if it is too long, and how many groups there are."""
+    if len(book) > (NETWORK_OCTETS if network else MOST_OCTETS):
+        return b"", None, 0
+    judge, table, count = Judge(network), [b"row,line,column,field,value,says\n"], 0
     for row, (fields, begin) in enumerate(records_of(book), 1):
         fault = judge.judge(row, fields)
         if fault:
@@ -221,9 +245,9 @@ def check(book):
             table.append(b",".join(quoted(it) for it in
                                    (*(it.encode() for it in parts), shown(value), fault.says.encode())) + b"\n")
             count += 1
-        if row > MOST_ROWS:
+        if judge.is_full:
             break
-    return b"".join(table), count
+    return b"".join(table), count, max(1, -(-len(judge.cells) // GROUP))
 
 
 # --- Random books ---
@@ -302,9 +326,16 @@ def many_rows(rng):
     return cells + b"write,0,a,1,0,1,en,2,2,0,*,One\n" + b"stop,1,a,*\n" * rows + b"sell\n" * rng.randrange(3)
 
 
-def random_book(rng, run):
+def many_cells(rng):
+    """Returns a network book with about as many cells, or other rows, as one may have."""
+    cells = b"".join(b"cell,%d,%d\n" % (it >> 8, it & 255) for it in range(rng.randrange(65_530, 65_540)))
+    rows = rng.randrange(4090, 4100)
+    return cells + b"write,0,a,1,0,1,en,2,2,0,*,One\n" + b"stop,1,a,0-7 255-0\n" * rows + b"cell,999,1\ncell\nsell\n"
+
+
+def random_book(rng, run, network):
     if run % 50 == 49:
-        return many_rows(rng)
+        return many_cells(rng) if network and run % 100 == 99 else many_rows(rng)
     rows = random_rows(rng)
     if run % 4:
         spoil(rng, rows)
@@ -315,15 +346,20 @@ def compare(program, runs):
     faulty = 0
     for run in range(runs):
         rng = random.Random(run)
-        book = random_book(rng, run)
-        table, count = check(book)
+        network = run % 3 == 0
+        group = rng.choice((None, 0, 0, 1, 1023)) if network else None
+        book = random_book(rng, run, network)
+        table, count, groups = check(book, network)
         line = b"warnc: row 0: too many rows\n" if count is None else b"warnc: faults: %d\n" % count if count else b""
-        found = subprocess.run([program, "check"], input=book, capture_output=True, check=False)
+        if group is not None and count == 0 and group >= groups:
+            table, line = b"", b"warnc: no such group: the network has %d\n" % groups
+        words = ["--group", str(group)] if group is not None else ["--network"] if network else []
+        found = subprocess.run([program, "check", *words], input=book, capture_output=True, check=False)
         if (found.returncode, found.stdout, found.stderr) != (bool(line), table, line):
             with open("differing.csv", "wb") as file:
                 file.write(book)
             got, wanted = found.stdout.decode(errors="replace"), table.decode(errors="replace")
-            sys.exit(f"run {run}: the book in differing.csv: {found.returncode} {found.stderr.decode()}\n{got}"
+            sys.exit(f"run {run}: {words}: the book in differing.csv: {found.returncode} {found.stderr.decode()}\n{got}"
                      f"and not {line.decode()}\n{wanted}")
         faulty += bool(count)
     print(f"{runs} books, {faulty} of them with faults: the same tables")
@@ -332,7 +368,7 @@ def compare(program, runs):
 def main():
     words = sys.argv[1:]
     if words == ["--table"]:
-        table, count = check(sys.stdin.buffer.read())
+        table, count, _ = check(sys.stdin.buffer.read())
         sys.stdout.buffer.write(table)
         sys.exit(count != 0)
     if not 1 <= len(words) <= 2 or words[0].startswith("-") or not words[-1 if len(words) == 2 else 0]:

@@ -113,6 +113,7 @@ ODD_NUMBERS = (b"", b"-1", b"+1", b" 1", b"1 ", b"00001", b"000001", b"99999", b
 TEXT_FAULT = r"unknown language|text is empty|bad character at \d+|too many pages"
 ROW_FAULT = (r"row 0: too many rows|row [1-9]\d*: (?:columns|verb|number|unknown cell|named twice|unknown name"
              rf"|too many updates|too many rows|{TEXT_FAULT})")
+NO_GROUP = r"no such group: the network has [1-9]\d*"
 TAPE_FAULT = "tape is short|tape is long"
 LINK_FAULT = r"unknown link type \d+: known are 0, 1, 101, 108, 113, 228 and 276"
 FAULTS = {"page": TEXT_FAULT + "|text is not UTF-8|text is too long", "read": TAPE_FAULT, "pcap": TAPE_FAULT,
@@ -128,7 +129,8 @@ FAULTS = {"page": TEXT_FAULT + "|text is not UTF-8|text is too long", "read": TA
           "cells": rf"not a capture file|{LINK_FAULT}"
                    rf"|packet [1-9]\d*: (?:{LINK_FAULT}|capture is short|wrong block)",
           "verify": rf"{ROW_FAULT}|{TAPE_FAULT}|differences: [1-9]\d*", **dict.fromkeys(OF_BOOKS, ROW_FAULT),
-          "check": r"row 0: too many rows|(?:faults|remarks): [1-9]\d*", "texts": ROW_FAULT,
+          "check": rf"row 0: too many rows|(?:faults|remarks): [1-9]\d*|{NO_GROUP}",
+          "texts": rf"{ROW_FAULT}|{NO_GROUP}",
           "plan": r"plan is too long|row [1-9]\d*(?:, [A-Z]+)?: .+"}
 DIFFERENCE = re.compile(
     rb"\d+,\d+,(?:,,,(?:no tape|other slots|second tape|unknown cell)"
@@ -1382,8 +1384,12 @@ def rows_options(chance, command, data):
     """Returns the options of `check` and `texts`; `plan` has none."""
     if command == "plan" or chance.random() < 0.5:
         return {}
+    network = {"--network": None} if chance.random() < 0.5 else {"--group": chance.choice(("0", "1", "1023", "65535"))}
     if command == "texts":
-        return {"--pages": str(chance.randint(1, 15))}
+        return {**({"--pages": str(chance.randint(1, 15))} if chance.random() < 0.7 else {}),
+                **(network if chance.random() < 0.4 else {})}
+    if chance.random() < 0.4:
+        return network
     options = {"--slots": book_options(chance, "report", data)["--slots"]}
     if chance.random() < 0.5:
         options["--strict"] = None
@@ -1407,7 +1413,8 @@ def good_options(chance, command, data):
 def spoilt_words(chance, command, options):
     """Returns words that clap refuses."""
     limits = {"--id": 65536, "--scope": 4, "--code": 1024, "--update": 16, "--slots": 65536, "--workers": 65,
-              "--sessions": 65, "--channel": 53, "--pages": 16, "--cell": "1-65536", "--from": "1.2.3.256",
+              "--sessions": 65, "--channel": 53, "--pages": 16, "--group": 65536,
+              "--cell": "1-65536", "--from": "1.2.3.256",
               "--bsc": "1.2.3.256", "--first-slot": 65536, "--arfcn": 1024}
     kind = chance.randrange(6)
     numbers = [name for name in options if name in limits]

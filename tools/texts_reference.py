@@ -2,9 +2,10 @@
 """Counts what the texts of a book cost, as docs/formats.md says: a second program against which `warnc texts` is
 compared.
 
-Usage: texts_reference.py PROGRAM [RUNS]    random books with texts of all kinds, also such as can't be sent; in every
-                                            fourth run a row is none of a book. What both programs write has to be the
-                                            same, and so do their statuses and fault lines. PROGRAM is a built `warnc`
+Usage: texts_reference.py PROGRAM [RUNS]    random books and network books with texts of all kinds, also such as can't
+                                            be sent; in every fourth run a row is none of a book. What both programs
+                                            write has to be the same, and so do their statuses and fault lines. PROGRAM
+                                            is a built `warnc`
 """
 import random
 import subprocess
@@ -18,8 +19,8 @@ WORDS = ("fire", "Stay", "inside!", "flood", "€5", "[now]", "Wasser", "Straße
          "I", "{x}", "naïve", "Ωmega", "~", "x" * 40, "€" * 50, "ж" * 45)
 ODD = ("\t", "🔥", "\x1b", "\r", "\x07", "\uffff", "\u00a0", "e\u0301", "\n", '"', ",")
 LANGUAGES = (*gsm.WORDS, "xx", "EN", "")
-# how many pages a message has at most
-PAGES = 15
+# how many pages a message has at most, and how many cells a group
+PAGES, GROUP = 15, 64
 
 
 def is_gsm(text):
@@ -93,44 +94,62 @@ def random_text(rng):
     return text
 
 
-def random_book(rng):
-    """Returns the lines of a book, and row, name, language and text of each order with one."""
-    lines, texts, names = [line_of(["cell", 1, 1])], [], []
-    for row in range(2, rng.randrange(3, 9)):
+def random_cells(rng, count):
+    """Returns a field of cells for a book of this many, and the groups of those."""
+    if rng.random() < 0.5:
+        return "*", range(-(-count // GROUP))
+    cells = rng.sample(range(count), rng.randrange(1, min(count, 3) + 1))
+    return " ".join(f"1-{it}" for it in cells), {it // GROUP for it in cells}
+
+
+def random_book(rng, count):
+    """Returns the lines of a book of this many cells, and row, name, language and text of each order with one, and the
+    groups of its cells."""
+    lines, texts, names = [line_of(["cell", 1, it]) for it in range(count)], [], []
+    for row in range(count + 1, count + rng.randrange(2, 8)):
+        cells, groups = random_cells(rng, count)
         verb = rng.choice(("write", "update", "stop")) if names else "write"
         text, lang = random_text(rng), rng.choice(LANGUAGES)
         name = f"n{row}" if verb == "write" else rng.choice(names)
         if verb == "write":
             name += rng.choice(("", ",", '"', " é"))
             names.append(name)
-            lines.append(line_of([verb, 0, name, 4370, 0, 1, lang, 2, 8, 0, "*", text]))
+            lines.append(line_of([verb, 0, name, 4370, 0, 1, lang, 2, 8, 0, cells, text]))
         elif verb == "update":
-            lines.append(line_of([verb, 0, name, lang, 2, 8, 0, "*", text]))
+            lines.append(line_of([verb, 0, name, lang, 2, 8, 0, cells, text]))
         else:
-            lines.append(line_of([verb, 0, name, "*"]))
+            lines.append(line_of([verb, 0, name, cells]))
             continue
-        texts.append((row, name, lang, text))
+        texts.append((row, name, lang, text, groups))
     return lines, texts
 
 
-def expected(rng, lines, texts, most):
-    """Returns status, output and fault line for a book; in every fourth run one of its rows is spoilt here."""
+def expected(rng, lines, texts, most, group):
+    """Returns status, output and fault line for a book, or for a group of it; in every fourth run one of its rows is
+    spoilt here."""
     if rng.random() < 0.25:
-        at = rng.randrange(1, len(lines))
+        at = rng.randrange(1, len(lines)) if len(lines) > 1 else 0
         spoilt = (("verb", f"x{lines[at]}"), ("columns", "write,0\n"), ("number", "cell,1,70000\n"))
         fault, lines[at] = rng.choice(spoilt)
         return 1, "", f"warnc: row {at + 1}: {fault}\n"
+    groups = -(-sum(it.startswith("cell,") for it in lines) // GROUP)
+    if group is not None and group >= groups:
+        return 1, "", f"warnc: no such group: the network has {groups}\n"
     names = NAMES if most is None else (*NAMES, "fits")
-    return 0, line_of(names) + "".join(line_of(fields_of(*it, most)) for it in texts), ""
+    wanted = [it[:-1] for it in texts if group is None or group in it[-1]]
+    return 0, line_of(names) + "".join(line_of(fields_of(*it, most)) for it in wanted), ""
 
 
 def differs(program, seed):
     """Whether the two programs differ in a run; prints how."""
     rng = random.Random(seed)
-    lines, texts = random_book(rng)
+    network = rng.random() < 0.4
+    lines, texts = random_book(rng, rng.choice((1, 64, 65, 130)) if network else 1)
     most = rng.choice((None, rng.randrange(1, PAGES + 1)))
-    wanted = expected(rng, lines, texts, most)
+    group = rng.choice((None, 0, 1, 2)) if network else None
+    wanted = expected(rng, lines, texts, most, group)
     words = [program, "texts"] + ([] if most is None else ["--pages", str(most)])
+    words += ["--group", str(group)] if group is not None else ["--network"] if network else []
     done = subprocess.run(words, input="".join(lines).encode(), capture_output=True, check=False)
     found = done.returncode, done.stdout.decode(), done.stderr.decode()
     if found == wanted:

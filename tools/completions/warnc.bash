@@ -10,7 +10,7 @@ _warnc() {
         before=${COMP_WORDS[COMP_CWORD - 2]}
     fi
     # after an option without a value comes another option
-    case $before in --strict | --network | --full | --short | --explain | --lag | --used | --all | --packets) before= ;; esac
+    case $before in --network | --strict | --full | --short | --explain | --lag | --used | --all | --packets) before= ;; esac
     if [ "$COMP_CWORD" -eq 1 ]; then
         words="plan check texts compile report chart read verify page live pcap cells tape orders whole groups help -h --help -V --version"
     else
@@ -33,8 +33,8 @@ _warnc() {
         *)
             case ${COMP_WORDS[1]} in
             plan) words="-h --help" ;;
-            check) words="--slots --start --strict -h --help" ;;
-            texts) words="--pages -h --help" ;;
+            check) words="--slots --group --network --start --strict -h --help" ;;
+            texts) words="--pages --group --network -h --help" ;;
             compile) words="--slots --group --network --strict --workers -h --help" ;;
             report) words="--slots --group --network --full --start --workers -h --help" ;;
             chart) words="--slots --group --network --cell --from --to --lang --start --strict --workers -h --help" ;;

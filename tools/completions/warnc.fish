@@ -24,10 +24,14 @@ complete -c warnc -n __fish_use_subcommand -a groups -d 'Reads a network book, a
 complete -c warnc -n __fish_use_subcommand -a help -d 'Prints what a command takes'
 
 complete -c warnc -n '__fish_seen_subcommand_from check' -x -l slots -d 'Runs a book without a fault for this many slots, 1 to 65535, and writes what is remarked of the run and how full each cell gets'
+complete -c warnc -n '__fish_seen_subcommand_from check' -x -l group -d 'Takes the book for a network book, which is to have the group of this number, 0 to 65535'
+complete -c warnc -n '__fish_seen_subcommand_from check' -l network -d 'Takes the book for a network book'
 complete -c warnc -n '__fish_seen_subcommand_from check' -x -l start -d 'When slot 0 begins, as 2026-11-28T20:00:00Z'
 complete -c warnc -n '__fish_seen_subcommand_from check' -l strict -d 'Ends with 1 if there is a remark, as with a fault'
 complete -c warnc -n '__fish_seen_subcommand_from texts' -x -l pages -d 'Writes, too, to how many characters each text is cut so that it takes at most this many pages, 1 to 15' \
     -a '1 2 3 4 5 6 7 8 9 10 11 12 13 14 15'
+complete -c warnc -n '__fish_seen_subcommand_from texts' -x -l group -d 'Takes the book for a network book, and of it the group of this number, 0 to 65535'
+complete -c warnc -n '__fish_seen_subcommand_from texts' -l network -d 'Takes the book for a network book'
 complete -c warnc -n '__fish_seen_subcommand_from compile' -x -l slots -d 'How many slots each cell\'s run has, 1 to 65535, each 1.883 s'
 complete -c warnc -n '__fish_seen_subcommand_from compile' -x -l group -d 'Takes the book for a network book, and of it the group of this number, 0 to 65535'
 complete -c warnc -n '__fish_seen_subcommand_from compile' -l network -d 'Takes the book for a network book, and writes what --group writes of each of its groups, in order'

@@ -9,59 +9,77 @@ use Rattle.device_ends.specs.Sink.{sink_failed, writer_of}
 use Rattle.device_ends.specs.Source.{source_failed}
 use Rattle.device_ends.specs.declared.reading.Source.{Source}
 use Rattle.device_ends.specs.declared.writing.Sink.{Sink}
-use Rattle.alert_book.specs.Book.{max_book}
-use Rattle.book_check.specs.Checked.{HasFaults, HasTold, HasWritten, IsCheckFault, IsClean}
+use Rattle.alert_book.specs.Extent.{bounds_of, most_octets}
+use Rattle.alert_book.specs.declared.judging.bounds.Extent.{Extent}
+use Rattle.book_check.specs.Checked.{HasFaultsBy, HasTold, HasWritten, IsCheckFault, IsCleanFor, LacksGroup}
 use Rattle.book_check.specs.Told.{header_row}
 use Rattle.book_check.specs.declared.fault.CheckFault.{CheckFault}
 use Rattle.book_check.specs.declared.fault.CheckFault.TheVariants as fault
 use Rattle.warnc_cli.specs.Run.{OneHasFailed, WritesSome}
 use Rattle.warnc_cli.specs.RunSteps.{IsRunBetween}
 use Rattle.warnc_cli.specs.Status.{status_of_check_fault}
-use Rattle.warnc_cli.specs.Tasks.{IsNotClean}
+use Rattle.warnc_cli.specs.Tasks.{IsNotCleanFor, IsUnchecked}
 use Rattle.warnc_cli.specs.declared.command.Task.TheVariants as task
 
 some_octets : (rows : List ℕ) → 0 < length (header_row ++ rows)
 some_octets rows = omega arith
 
 -- the table of a clean book has the names of its columns
-pub some_names : (left old new : Option (List ℕ)) → WritesOutput IsClean left old new → WritesSome old new
-some_names left old new written =
+pub some_names : (what : Extent) (left old new : Option (List ℕ)) → WritesOutput (IsCleanFor what) left old new
+    → WritesSome old new
+some_names what left old new written =
     let clean = written.of_some.2 in (
       written.of_some.1,
-      subst (λ (octets : List ℕ). 0 < length octets) (sym clean.written) (some_octets _),
+      subst (λ (octets : List ℕ). 0 < length octets) (sym clean.0.written) (some_octets _),
       written.of_some.3,
     )
 
 -- a fault of `check` with status 1 says that the input isn't clean
-pub refused_check : (left old new : Option (List ℕ)) (why : CheckFault) → IsCheckFault left old new why
+pub refused_check : (what : Extent) (left old new : Option (List ℕ)) (why : CheckFault)
+    → IsCheckFault what left old new why
     → status_of_check_fault why ≡ 1
-    → IfSome left IsNotClean
-refused_check None old new why told is = tt
-refused_check (Some input) old new (fault.Faults count) told is =
+    → IfSome left (IsNotCleanFor what)
+refused_check what None old new why told is = tt
+refused_check what (Some input) old new (fault.Faults count) told is =
     inr (count, told.of_input.0, told.of_input.1)
-refused_check (Some input) old new fault.TooLong told is = inl told
-refused_check (Some input) old new fault.ReadFailed told is = absurd (omega (arith, is))
-refused_check (Some input) old new fault.Refused told is = absurd (omega (arith, is))
-refused_check (Some input) old new fault.WriteFailed told is = absurd (omega (arith, is))
+refused_check what (Some input) old new (fault.NoGroup groups) told is = inl (inr (groups, told))
+refused_check what (Some input) old new fault.TooLong told is = inl (inl told)
+refused_check what (Some input) old new fault.ReadFailed told is = absurd (omega (arith, is))
+refused_check what (Some input) old new fault.Refused told is = absurd (omega (arith, is))
+refused_check what (Some input) old new fault.WriteFailed told is = absurd (omega (arith, is))
 
--- with status 1 the faults were written, or nothing was of a book that is too long
-pub unseen_or_written : (Kept : Type 0) (left old new : Option (List ℕ)) (why : CheckFault)
-    → IsCheckFault left old new why
+-- what is too long, or lacks a group, isn't checked
+too_long : (what : Extent) (left : Option (List ℕ)) → IfSome left (λ input. most_octets (bounds_of what) < length input)
+    → IfSome left (IsUnchecked what)
+too_long what None long = tt
+too_long what (Some input) long = inl long
+
+no_group : (what : Extent) (groups : ℕ) (left : Option (List ℕ)) → IfSome left (LacksGroup what groups)
+    → IfSome left (IsUnchecked what)
+no_group what groups None lacks = tt
+no_group what groups (Some input) lacks = inr (groups, lacks)
+
+-- with status 1 the faults were written, or nothing was of what isn't checked
+pub unseen_or_written : (what : Extent) (Kept : Type 0) (left old new : Option (List ℕ)) (why : CheckFault)
+    → IsCheckFault what left old new why
     → ((HasWritten why → ⊥) → Kept)
     → status_of_check_fault why ≡ 1
-    → (IfSome left (λ input. max_book < length input) × Kept)
-    ⊎ ((count : ℕ) × WritesOutput (HasFaults count) left old new)
-unseen_or_written Kept left old new (fault.Faults count) told kept is = inr (count, told)
-unseen_or_written Kept left old new fault.TooLong told kept is = inl (told, kept (λ w. w))
-unseen_or_written Kept left old new fault.ReadFailed told kept is = absurd (omega (arith, is))
-unseen_or_written Kept left old new fault.Refused told kept is = absurd (omega (arith, is))
-unseen_or_written Kept left old new fault.WriteFailed told kept is = absurd (omega (arith, is))
+    → (IfSome left (IsUnchecked what) × Kept)
+    ⊎ ((count : ℕ) × WritesOutput (HasFaultsBy (bounds_of what) count) left old new)
+unseen_or_written what Kept left old new (fault.Faults count) told kept is = inr (count, told)
+unseen_or_written what Kept left old new (fault.NoGroup groups) told kept is =
+    inl (no_group what groups left told, kept (λ w. w))
+unseen_or_written what Kept left old new fault.TooLong told kept is = inl (too_long what left told, kept (λ w. w))
+unseen_or_written what Kept left old new fault.ReadFailed told kept is = absurd (omega (arith, is))
+unseen_or_written what Kept left old new fault.Refused told kept is = absurd (omega (arith, is))
+unseen_or_written what Kept left old new fault.WriteFailed told kept is = absurd (omega (arith, is))
 
 -- with status 4 nothing was
 pub kept_without_memory : (Kept : Type 0) (why : CheckFault) → ((HasWritten why → ⊥) → Kept)
     → status_of_check_fault why ≡ 4
     → Kept
 kept_without_memory Kept (fault.Faults count) kept is = absurd (omega (arith, is))
+kept_without_memory Kept (fault.NoGroup groups) kept is = absurd (omega (arith, is))
 kept_without_memory Kept fault.TooLong kept is = absurd (omega (arith, is))
 kept_without_memory Kept fault.ReadFailed kept is = absurd (omega (arith, is))
 kept_without_memory Kept fault.Refused kept is = kept (λ w. w)
@@ -87,12 +105,13 @@ source_sound : {R W : Type 0} (why : CheckFault) (last : Source R) (old new : Si
 source_sound why last old new ends other failed = other (ap status_in (ends.read_failed.1 failed))
 
 -- nothing was written
-quiet : {R W : Type 0} (why : CheckFault) (held : W → Option (List ℕ)) (last : Source R) (old new : Sink W)
+quiet : {R W : Type 0} (what : Extent) (why : CheckFault) (held : W → Option (List ℕ)) (last : Source R)
+    (old new : Sink W)
     → AreCheckEnds why last old new
     → (status_of_check_fault why ≡ 1) ⊎ (status_of_check_fault why ≡ 4)
     → (HasWritten why → ⊥)
-    → IsRunBetween task.Check (status_of_check_fault why) held last old new
-quiet {W = W} why held last old new ends one_or_four unwritten =
+    → IsRunBetween (task.Check what) (status_of_check_fault why) held last old new
+quiet {W = W} what why held last old new ends one_or_four unwritten =
     let same : new ≡ old = ends.untouched unwritten in
     record {
       statuses = bound one_or_four;
@@ -123,9 +142,10 @@ quiet {W = W} why held last old new ends one_or_four unwritten =
         search (rules, now, sink)
 
 -- an end failed
-failing : {R W : Type 0} (held : W → Option (List ℕ)) (last : Source R) (old new : Sink W) → OneHasFailed last new
-    → IsRunBetween task.Check 3 held last old new
-failing held last old new failed = record {
+failing : {R W : Type 0} (what : Extent) (held : W → Option (List ℕ)) (last : Source R) (old new : Sink W)
+    → OneHasFailed last new
+    → IsRunBetween (task.Check what) 3 held last old new
+failing what held last old new failed = record {
   statuses = omega arith;
   understood = λ two. omega (arith, two);
   nothing_written = λ no. absurd (no (inr (inl refl)));
@@ -135,10 +155,10 @@ failing held last old new failed = record {
 }
 
 -- the faults were written
-written : {R W : Type 0} (count : ℕ) (held : W → Option (List ℕ)) (last : Source R) (old new : Sink W)
+written : {R W : Type 0} (what : Extent) (count : ℕ) (held : W → Option (List ℕ)) (last : Source R) (old new : Sink W)
     → AreCheckEnds (fault.Faults count) last old new
-    → IsRunBetween task.Check 1 held last old new
-written count held last old new ends = record {
+    → IsRunBetween (task.Check what) 1 held last old new
+written what count held last old new ends = record {
   statuses = omega arith;
   understood = λ two. omega (arith, two);
   nothing_written = λ no. absurd (no (inr (inr refl)));
@@ -155,20 +175,25 @@ written count held last old new ends = record {
         search (rules, failed, sound)
 
 -- what the engine says of the ends with a fault is what the fault's status says of them
-told : {R W : Type 0} (why : CheckFault) (held : W → Option (List ℕ)) (last : Source R) (old new : Sink W)
+told : {R W : Type 0} (what : Extent) (why : CheckFault) (held : W → Option (List ℕ)) (last : Source R)
+    (old new : Sink W)
     → AreCheckEnds why last old new
-    → IsRunBetween task.Check (status_of_check_fault why) held last old new
-told (fault.Faults count) held last old new ends = written count held last old new ends
-told fault.TooLong held last old new ends = quiet fault.TooLong held last old new ends (inl refl) (λ w. w)
-told fault.ReadFailed held last old new ends = failing held last old new (inl (ends.read_failed.0 refl))
-told fault.Refused held last old new ends = quiet fault.Refused held last old new ends (inr refl) (λ w. w)
-told fault.WriteFailed held last old new ends = failing held last old new (inr (ends.write_failed refl))
+    → IsRunBetween (task.Check what) (status_of_check_fault why) held last old new
+told what (fault.Faults count) held last old new ends = written what count held last old new ends
+told what (fault.NoGroup groups) held last old new ends =
+    quiet what (fault.NoGroup groups) held last old new ends (inl refl) (λ w. w)
+told what fault.TooLong held last old new ends = quiet what fault.TooLong held last old new ends (inl refl) (λ w. w)
+told what fault.ReadFailed held last old new ends = failing what held last old new (inl (ends.read_failed.0 refl))
+told what fault.Refused held last old new ends = quiet what fault.Refused held last old new ends (inr refl) (λ w. w)
+told what fault.WriteFailed held last old new ends = failing what held last old new (inr (ends.write_failed refl))
 
 -- the same of a status that is the fault's
-pub check_between : {R W : Type 0} (why : CheckFault) (status : ℕ) (held : W → Option (List ℕ)) (last : Source R)
+pub check_between : {R W : Type 0} (what : Extent) (why : CheckFault) (status : ℕ) (held : W → Option (List ℕ))
+    (last : Source R)
     (old new : Sink W)
     → status ≡ status_of_check_fault why
     → AreCheckEnds why last old new
-    → IsRunBetween task.Check status held last old new
-check_between why status held last old new same ends =
-    subst (λ (s : ℕ). IsRunBetween task.Check s held last old new) (sym same) (told why held last old new ends)
+    → IsRunBetween (task.Check what) status held last old new
+check_between what why status held last old new same ends =
+    subst (λ (s : ℕ). IsRunBetween (task.Check what) s held last old new) (sym same)
+    (told what why held last old new ends)

@@ -12,6 +12,7 @@ use Rattle.warnc_cli.specs.RunSteps.{HasRun, IsDoneBy, IsRefusedBy, IsRunBetween
 use Rattle.warnc_cli.specs.RunSteps.{WroteFrontBy, WroteSomeBy}
 use Rattle.warnc_cli.specs.Tasks.{KeepsUnseen, Means, Refuses, RefusesOne, WritesAll, WritesDifferences}
 use Rattle.warnc_cli.specs.Tasks.{WritesFirstGroups}
+use Rattle.alert_book.specs.declared.judging.bounds.Extent.{Extent}
 use Rattle.warnc_cli.specs.declared.command.Task.{Task}
 use Rattle.warnc_cli.specs.declared.command.Task.TheVariants as task
 
@@ -31,9 +32,9 @@ writes task.Cells book input old new one wrote = wrote
 writes (task.Tape wanted) book input old new one wrote = wrote
 writes (task.Orders wanted packets) book input old new one wrote = wrote
 writes task.Groups book input old new one wrote = wrote
-writes task.Check book input old new one wrote = absurd one
+writes (task.Check what) book input old new one wrote = absurd one
 writes (task.Remark slots start strict) book input old new one wrote = absurd one
-writes (task.Texts pages) book input old new one wrote = wrote
+writes (task.Texts what pages) book input old new one wrote = wrote
 writes (task.Make run made) book input old new one wrote = wrote
 writes (task.Strict run made) book input old new one wrote = wrote
 
@@ -53,9 +54,9 @@ refuses task.Cells book input one refused = refused
 refuses (task.Tape wanted) book input one refused = refused
 refuses (task.Orders wanted packets) book input one refused = refused
 refuses task.Groups book input one refused = refused
-refuses task.Check book input one refused = absurd one
+refuses (task.Check what) book input one refused = absurd one
 refuses (task.Remark slots start strict) book input one refused = absurd one
-refuses (task.Texts pages) book input one refused = refused
+refuses (task.Texts what pages) book input one refused = refused
 refuses (task.Make run made) book input one refused = refused
 refuses (task.Strict run made) book input one refused = refused
 
@@ -75,9 +76,9 @@ groups task.Cells book input old new wrote = wrote
 groups (task.Tape wanted) book input old new wrote = wrote
 groups (task.Orders wanted packets) book input old new wrote = wrote
 groups task.Groups book input old new wrote = wrote
-groups task.Check book input old new wrote = wrote
+groups (task.Check what) book input old new wrote = wrote
 groups (task.Remark slots start strict) book input old new wrote = wrote
-groups (task.Texts pages) book input old new wrote = wrote
+groups (task.Texts what pages) book input old new wrote = wrote
 groups (task.Make run made) book input old new wrote = wrote
 groups (task.Strict run made) book input old new wrote = wrote
 
@@ -104,9 +105,9 @@ unseen task.Cells book input old new one kept = (tt, kept)
 unseen (task.Tape wanted) book input old new one kept = (tt, kept)
 unseen (task.Orders wanted packets) book input old new one kept = (tt, kept)
 unseen task.Groups book input old new one kept = (tt, kept)
-unseen task.Check book input old new one kept = absurd one
+unseen (task.Check what) book input old new one kept = absurd one
 unseen (task.Remark slots start strict) book input old new one kept = absurd one
-unseen (task.Texts pages) book input old new one kept = (tt, kept)
+unseen (task.Texts what pages) book input old new one kept = (tt, kept)
 unseen (task.Make run made) book input old new one kept = (tt, kept)
 unseen (task.Strict run made) book input old new one kept = (tt, kept)
 
@@ -149,15 +150,16 @@ of_one t status book_left left held book first last old new one done wrote refus
     by_end sound sink (inr failed) = ends.failed sink failed
 
 -- and all of `check`, which writes with status 1
-pub of_check : {B R W : Type 0} (status : ℕ) (book_left : B → Option (List ℕ)) (left : R → Option (List ℕ))
+pub of_check : {B R W : Type 0} (what : Extent) (status : ℕ) (book_left : B → Option (List ℕ))
+    (left : R → Option (List ℕ))
     (held : W → Option (List ℕ)) (book : Source B) (first last : Source R) (old new : Sink W)
-    → IsDoneBy task.Check status left held first old new
-    → WroteSomeBy task.Check status held old new
-    → IsRefusedBy task.Check status left first
-    → WroteFaultsBy status left held first old new
-    → IsRunBetween task.Check status held last old new
-    → HasRun task.Check status book_left left held book book first last old new
-of_check status book_left left held book first last old new done wrote refused told ends = record {
+    → IsDoneBy (task.Check what) status left held first old new
+    → WroteSomeBy (task.Check what) status held old new
+    → IsRefusedBy (task.Check what) status left first
+    → WroteFaultsBy what status left held first old new
+    → IsRunBetween (task.Check what) status held last old new
+    → HasRun (task.Check what) status book_left left held book book first last old new
+of_check what status book_left left held book first last old new done wrote refused told ends = record {
   statuses = ends.statuses;
   understood = ends.understood;
   done = done;
@@ -172,13 +174,16 @@ of_check status book_left left held book first last old new done wrote refused t
   no_book = λ none. refl;
 }
   where
-    faults : KeepsUnseen task.Check None (left (reader_of first)) (held (writer_of old)) (held (writer_of new))
-        ⊎ WritesDifferences task.Check None (left (reader_of first)) (held (writer_of old)) (held (writer_of new))
-        → KeepsUnseen task.Check (book_left (reader_of book)) (left (reader_of first)) (held (writer_of old))
+    faults : KeepsUnseen (task.Check what) None (left (reader_of first)) (held (writer_of old)) (held (writer_of new))
+        ⊎ WritesDifferences (task.Check what) None (left (reader_of first)) (held (writer_of old))
         (held (writer_of new))
-        ⊎ (WritesDifferences task.Check (book_left (reader_of book)) (left (reader_of first)) (held (writer_of old))
+        → KeepsUnseen (task.Check what) (book_left (reader_of book)) (left (reader_of first)) (held (writer_of old))
         (held (writer_of new))
-        ⊎ WritesFirstGroups task.Check (book_left (reader_of book)) (left (reader_of first)) (held (writer_of old))
+        ⊎ (WritesDifferences (task.Check what) (book_left (reader_of book)) (left (reader_of first))
+        (held (writer_of old))
+        (held (writer_of new))
+        ⊎ WritesFirstGroups (task.Check what) (book_left (reader_of book)) (left (reader_of first))
+        (held (writer_of old))
         (held (writer_of new)))
     faults (inl kept) = inl kept
     faults (inr written) = inr (inl written)

@@ -30,9 +30,9 @@ of_one_input words task.Cells asked other = tt
 of_one_input words (task.Tape wanted) asked other = tt
 of_one_input words (task.Orders wanted packets) asked other = tt
 of_one_input words task.Groups asked other = tt
-of_one_input words task.Check asked other = tt
+of_one_input words (task.Check what) asked other = tt
 of_one_input words (task.Remark slots start strict) asked other = tt
-of_one_input words (task.Texts pages) asked other = tt
+of_one_input words (task.Texts what pages) asked other = tt
 of_one_input words (task.Make run made) asked other = tt
 of_one_input words (task.Strict run made) asked other = tt
 
@@ -53,9 +53,9 @@ may_write words (task.VerifyOrders cell terms file) status asked (inl done) = in
 may_write words (task.VerifyOrders cell terms file) status asked (inr (inl device)) = inr (inl device)
 may_write words (task.VerifyOrders cell terms file) status asked (inr (inr differ)) =
     inr (inr (inl (differ, inl asked.command)))
-may_write words task.Check status asked (inl done) = inl done
-may_write words task.Check status asked (inr (inl device)) = inr (inl device)
-may_write words task.Check status asked (inr (inr faults)) = inr (inr (inl (faults, inr asked.command)))
+may_write words (task.Check what) status asked (inl done) = inl done
+may_write words (task.Check what) status asked (inr (inl device)) = inr (inl device)
+may_write words (task.Check what) status asked (inr (inr faults)) = inr (inr (inl (faults, inr asked.command)))
 may_write words (task.Remark slots start strict) status asked (inl done) = inl done
 may_write words (task.Remark slots start strict) status asked (inr (inl device)) = inr (inl device)
 may_write words (task.Remark slots start strict) status asked (inr (inr faults)) =
@@ -82,8 +82,8 @@ may_write words (task.Orders wanted packets) status asked (inr device) = inr (in
 may_write words (task.Tapes wanted file) status asked (inr device) = inr (inl device)
 may_write words task.Groups status asked (inl done) = inl done
 may_write words task.Groups status asked (inr device) = inr (inl device)
-may_write words (task.Texts pages) status asked (inl done) = inl done
-may_write words (task.Texts pages) status asked (inr device) = inr (inl device)
+may_write words (task.Texts what pages) status asked (inl done) = inl done
+may_write words (task.Texts what pages) status asked (inr device) = inr (inl device)
 
 -- a book's report is headed, and so is a network's
 headed : (words : List (List ℕ)) (b : Books) → GivesBooks words b → is_given words (codes "--group") ≡ false
@@ -140,6 +140,6 @@ writes_some words (task.Orders wanted packets) asked compile live whole plan ord
     absurd (orders asked.command)
 writes_some words (task.Tapes wanted file) asked compile live whole plan orders report = tt
 writes_some words task.Groups asked compile live whole plan orders report = tt
-writes_some words task.Check asked compile live whole plan orders report = tt
+writes_some words (task.Check what) asked compile live whole plan orders report = tt
 writes_some words (task.Remark slots start strict) asked compile live whole plan orders report = tt
-writes_some words (task.Texts pages) asked compile live whole plan orders report = tt
+writes_some words (task.Texts what pages) asked compile live whole plan orders report = tt

@@ -7,6 +7,8 @@ use Rattle.std.specs.List.{list_any, starts_with}
 use Rattle.std.specs.Str.{bytes_eq}
 use Rattle.std.specs.Str.Parse.{IsNumeral, digits_value, without_leading_plus}
 use Rattle.parallel_compile.specs.Workers.{max_workers}
+use Rattle.alert_book.specs.declared.judging.bounds.Extent.{Extent}
+use Rattle.alert_book.specs.declared.judging.bounds.Extent.TheVariants as extent
 use Rattle.alert_book.specs.declared.network.Origin.{Origin}
 use Rattle.alert_book.specs.declared.network.Origin.TheVariants as origin
 use Rattle.cbs_page.specs.Serial.{serial_number, AreSerialFields}
@@ -100,9 +102,24 @@ pub record AsksForReadSlots (words : List (List ℕ)) (wanted : Pages) : Type 0 
   pub slots : is_given words (codes "--slots") ≡ true
   pub wanted_given : wanted ≡ pages_given words
 
--- the words ask for `check` of the rows alone
-pub record AsksForCheck (words : List (List ℕ)) : Type 0 where
+-- where no word begins with the name `--group` the input is a book, and else it is a network book, of which the words
+-- give the number of a group
+pub record GivesOrigin (words : List (List ℕ)) (from : Origin) : Type 0 where
+  pub book : is_given words (codes "--group") ≡ false → from ≡ origin.Book
+  pub group : is_given words (codes "--group") ≡ true
+      → (number : ℕ) × GivesNumber words (codes "--group") number × (from ≡ origin.Group number)
+
+-- what the words want to be looked at: the whole of a network book where a word begins with the name `--network`
+abbrev pub GivesExtent : (words : List (List ℕ)) → Extent → Type 0
+GivesExtent words extent.Network = is_given words (codes "--network") ≡ true
+GivesExtent words extent.Book = (is_given words (codes "--network") ≡ false) × GivesOrigin words origin.Book
+GivesExtent words (extent.Group group) =
+    (is_given words (codes "--network") ≡ false) × GivesOrigin words (origin.Group group)
+
+-- the words ask for `check` of the rows alone, of a book, a network book or one of its groups
+pub record AsksForCheck (words : List (List ℕ)) (what : Extent) : Type 0 where
   pub command : slice_get words 1 ≡ Some (codes "check")
+  pub extent_given : GivesExtent words what
   pub rows_alone : is_given words (codes "--slots") ≡ false
 
 -- the words give the number of pages for which texts are cut, or none
@@ -111,8 +128,9 @@ GivesPages words None = is_given words (codes "--pages") ≡ false
 GivesPages words (Some pages) = GivesNumber words (codes "--pages") pages
 
 -- the words ask for `texts`
-pub record AsksForTexts (words : List (List ℕ)) (pages : Option ℕ) : Type 0 where
+pub record AsksForTexts (words : List (List ℕ)) (what : Extent) (pages : Option ℕ) : Type 0 where
   pub command : slice_get words 1 ≡ Some (codes "texts")
+  pub extent_given : GivesExtent words what
   pub pages_given : GivesPages words pages
 
 -- the words ask for `cells`
@@ -191,13 +209,6 @@ pub record GivesThreads (words : List (List ℕ)) (name : List ℕ) (number : �
   pub given : GivesNumber words name number ⊎ ((is_given words name ≡ false) × (number ≡ 1))
   pub some : 1 ≤ number
   pub most : number ≤ max_workers
-
--- where no word begins with the name `--group` the input is a book, and else it is a network book, of which the words
--- give the number of a group
-pub record GivesOrigin (words : List (List ℕ)) (from : Origin) : Type 0 where
-  pub book : is_given words (codes "--group") ≡ false → from ≡ origin.Book
-  pub group : is_given words (codes "--group") ≡ true
-      → (number : ℕ) × GivesNumber words (codes "--group") number × (from ≡ origin.Group number)
 
 -- digits write a number; a plus may stand before them
 pub record IsNumber (digits : List ℕ) (number : ℕ) : Type 0 where

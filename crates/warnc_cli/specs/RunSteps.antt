@@ -13,6 +13,7 @@ use Rattle.warnc_run.specs.declared.run.Books.TheVariants as books
 use Rattle.warnc_cli.specs.Run.{AnyHasFailed, ByInputs, OneHasFailed, WritesSome}
 use Rattle.warnc_cli.specs.Tasks.{AlwaysWrites, KeepsUnseen, Means, Refuses, RefusesOne, WritesAll}
 use Rattle.warnc_cli.specs.Tasks.{WritesDifferences, WritesFirstGroups}
+use Rattle.alert_book.specs.declared.judging.bounds.Extent.{Extent}
 use Rattle.warnc_cli.specs.declared.command.Task.{Task}
 use Rattle.warnc_cli.specs.declared.command.Task.TheVariants as task
 
@@ -22,7 +23,7 @@ MayHaveWritten (task.Make run made) status =
     (status ≡ 0) ⊎ ((status ≡ 3) ⊎ (((status ≡ 1) ⊎ (status ≡ 4)) × (run.books ≡ books.EachGroup)))
 MayHaveWritten (task.Verify from slots pages layout file workers) status = (status ≡ 0) ⊎ ((status ≡ 3) ⊎ (status ≡ 1))
 MayHaveWritten (task.VerifyOrders cell terms file) status = (status ≡ 0) ⊎ ((status ≡ 3) ⊎ (status ≡ 1))
-MayHaveWritten task.Check status = (status ≡ 0) ⊎ ((status ≡ 3) ⊎ (status ≡ 1))
+MayHaveWritten (task.Check what) status = (status ≡ 0) ⊎ ((status ≡ 3) ⊎ (status ≡ 1))
 MayHaveWritten (task.Remark slots start strict) status = (status ≡ 0) ⊎ ((status ≡ 3) ⊎ (status ≡ 1))
 MayHaveWritten other status = (status ≡ 0) ⊎ (status ≡ 3)
 
@@ -38,7 +39,7 @@ abbrev pub IsSilent : Task → Type 0
 IsSilent (task.Verify from slots pages layout file workers) = ⊥
 IsSilent (task.VerifyOrders cell terms file) = ⊥
 IsSilent (task.Tapes wanted file) = ⊥
-IsSilent task.Check = ⊥
+IsSilent (task.Check what) = ⊥
 IsSilent (task.Remark slots start strict) = ⊥
 IsSilent other = ⊤
 
@@ -64,11 +65,11 @@ WroteFrontBy task status left held first old new = (status ≡ 1) ⊎ (status �
 
 -- what statuses 1 and 4 say of what `check` wrote: with 1 the faults, or nothing of a book that is too long, and with 4
 -- nothing
-abbrev pub WroteFaultsBy : {R W : Type 0} → (status : ℕ) (left : R → Option (List ℕ))
+abbrev pub WroteFaultsBy : {R W : Type 0} → Extent → (status : ℕ) (left : R → Option (List ℕ))
     (held : W → Option (List ℕ)) → (first : Source R) → (old new : Sink W) → Type 0
-WroteFaultsBy status left held first old new = (status ≡ 1
-    → KeepsUnseen task.Check None (left (reader_of first)) (held (writer_of old)) (held (writer_of new))
-    ⊎ WritesDifferences task.Check None (left (reader_of first)) (held (writer_of old)) (held (writer_of new)))
+WroteFaultsBy what status left held first old new = (status ≡ 1
+    → KeepsUnseen (task.Check what) None (left (reader_of first)) (held (writer_of old)) (held (writer_of new))
+    ⊎ WritesDifferences (task.Check what) None (left (reader_of first)) (held (writer_of old)) (held (writer_of new)))
     × (status ≡ 4 → Writes held Keeps old new)
 
 -- and of what `check --slots` wrote: with 1 the faults or the remarks, or nothing of a book that is too long or has no

@@ -108,6 +108,7 @@ status_of_tapes_of_all all.WriteFailed = 3
 -- that of `check`, 1 if there are faults
 abbrev pub status_of_check_fault : CheckFault → ℕ
 status_of_check_fault (check.Faults count) = 1
+status_of_check_fault (check.NoGroup groups) = 1
 status_of_check_fault check.TooLong = 1
 status_of_check_fault check.ReadFailed = 3
 status_of_check_fault check.Refused = 4
@@ -127,6 +128,7 @@ abbrev pub status_of_texts_fault : TextsFault → ℕ
 status_of_texts_fault texts.ReadFailed = 3
 status_of_texts_fault texts.TooLong = 1
 status_of_texts_fault (texts.Row f) = 1
+status_of_texts_fault (texts.NoGroup groups) = 1
 status_of_texts_fault texts.Refused = 4
 status_of_texts_fault texts.WriteFailed = 3
 

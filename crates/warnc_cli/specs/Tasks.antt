@@ -2,14 +2,16 @@
 use Rattle.std.specs.Prelude.{◌≡◌, ◌≢◌, ⊤, ℕ, ◌<◌, ◌≤◌, ◌⊎◌, Bool, true, List, length, Option, IfSome}
 use Rattle.std.specs.Io.KnownBytes.{Appends, Keeps}
 use Rattle.alert_book.specs.declared.fault.BookFault.{BookFault}
+use Rattle.alert_book.specs.declared.judging.bounds.Extent.{Extent}
 use Rattle.alert_book.specs.declared.network.Origin.{Origin}
 use Rattle.alert_book.specs.declared.network.Origin.TheVariants as origin
 use Rattle.alert_book.specs.Book.{Contents, IsRowFault, IsWrong, max_book}
+use Rattle.alert_book.specs.Extent.{bounds_of, most_octets, IsRowFaultFor, LacksGroupOf}
 use Rattle.alert_book.specs.Network.{HasGroups, IsGroupBook, IsWrongNetwork, max_network}
 use Rattle.alert_book.specs.Origin.{IsBookFrom}
 use Rattle.asked_orders.specs.Lacks.{lacks_of, no_lacks}
 use Rattle.bsc_table.specs.Record.{Record}
-use Rattle.book_check.specs.Checked.{HasFaults, IsClean}
+use Rattle.book_check.specs.Checked.{HasFaults, HasFaultsBy, IsCleanFor, LacksGroup}
 use Rattle.book_remarks.specs.Remarked.{HasRemarks, IsRemarkedFor, IsStopped}
 use Rattle.book_texts.specs.TextsOutput.{IsTextsOutput}
 use Rattle.cell_orders.specs.declared.row.OrderRow.{OrderRow}
@@ -78,10 +80,10 @@ IsTaskOf words (task.Tape wanted) = AsksForTape words wanted
 IsTaskOf words (task.Tapes wanted file) = AsksForTapes words wanted file.now
 IsTaskOf words (task.Orders wanted packets) = AsksForOrders words wanted packets
 IsTaskOf words task.Groups = AsksForGroups words
-IsTaskOf words task.Check = AsksForCheck words
+IsTaskOf words (task.Check what) = AsksForCheck words what
 IsTaskOf words (task.Remark slots start strict) = AsksForRemarks words slots start strict
 IsTaskOf words task.Plan = AsksForPlan words
-IsTaskOf words (task.Texts pages) = AsksForTexts words pages
+IsTaskOf words (task.Texts what pages) = AsksForTexts words what pages
 IsTaskOf words (task.Make run made) = AsksForRun words run made
 IsTaskOf words (task.Strict run made) = AsksForStrictRun words run made
 IsTaskOf words (task.Verify from slots pages layout file workers) =
@@ -103,10 +105,10 @@ Means (task.Tapes wanted file) = λ input output. ⊥
 Means (task.Orders wanted packets) =
     λ input output. (passed : PassedOver) × IsOrdersOutput wanted packets passed input output
 Means task.Groups = IsGroupCount
-Means task.Check = IsClean
+Means (task.Check what) = IsCleanFor what
 Means (task.Remark slots start strict) = IsRemarkedFor slots start strict
 Means task.Plan = IsPlanOutput
-Means (task.Texts pages) = IsTextsOutput pages
+Means (task.Texts what pages) = IsTextsOutput what pages
 Means (task.Make run made) = IsMadeBy run made
 Means (task.Strict run made) = IsStrictlyMadeBy run made
 Means (task.Verify from slots pages layout file workers) = λ input output. ⊥
@@ -189,14 +191,25 @@ IsNoBook input = (max_book < length input)
 abbrev pub IsNotClean : (input : List ℕ) → Type 0
 IsNotClean input = (max_book < length input) ⊎ ((count : ℕ) × (output : List ℕ) × HasFaults count input output)
 
+-- nothing can be said of the input: it is too long, or the network has no such group
+abbrev pub IsUnchecked : Extent → (input : List ℕ) → Type 0
+IsUnchecked what input =
+    (most_octets (bounds_of what) < length input) ⊎ ((groups : ℕ) × LacksGroup what groups input)
+
+-- or it has a row with a fault
+abbrev pub IsNotCleanFor : Extent → (input : List ℕ) → Type 0
+IsNotCleanFor what input =
+    IsUnchecked what input ⊎ ((count : ℕ) × (output : List ℕ) × HasFaultsBy (bounds_of what) count input output)
+
 -- the input is refused: it isn't clean; or its run ends early; or it is strict, and there is a remark
 abbrev pub IsRemarkable : (slots : ℕ) (start : Option Start) (strict : Bool) (input : List ℕ) → Type 0
 IsRemarkable slots start strict input = IsNotClean input ⊎ (((f : RunFault) × IsStopped slots input f)
     ⊎ ((strict ≡ true) × ((count : ℕ) × (output : List ℕ) × HasRemarks slots start count input output)))
 
--- the input is refused: it has more octets than a book may have, or a row that is none of a book
-abbrev pub IsNoRows : (input : List ℕ) → Type 0
-IsNoRows input = (max_book < length input) ⊎ ((f : BookFault) × IsRowFault input f)
+-- the input is refused: it has more octets than it may have, or a row with a fault, or the network has no such group
+abbrev pub IsNoRows : Extent → (input : List ℕ) → Type 0
+IsNoRows what input = (most_octets (bounds_of what) < length input) ⊎ (((f : BookFault) × IsRowFaultFor what input f)
+    ⊎ ((groups : ℕ) × LacksGroupOf what input groups))
 
 -- the input is refused: it or what it comes to has more octets than a book may have, or a row comes to none of a book
 abbrev pub IsNoPlan : (input : List ℕ) → Type 0
@@ -293,10 +306,10 @@ RefusesOne (task.Tape wanted) = IsNoAir wanted
 RefusesOne (task.Tapes wanted file) = λ input. ⊥
 RefusesOne (task.Orders wanted packets) = IsNoOrders wanted
 RefusesOne task.Groups = IsNoNetwork 0
-RefusesOne task.Check = IsNotClean
+RefusesOne (task.Check what) = IsNotCleanFor what
 RefusesOne (task.Remark slots start strict) = IsRemarkable slots start strict
 RefusesOne task.Plan = IsNoPlan
-RefusesOne (task.Texts pages) = IsNoRows
+RefusesOne (task.Texts what pages) = IsNoRows what
 RefusesOne (task.Make run made) = IsNoRunOf run.books run.slots run.sessions.number
 RefusesOne (task.Strict run made) = IsNotAllDone run.origin run.slots run.sessions.number
 RefusesOne (task.Verify from slots pages layout file workers) = λ input. ⊥
@@ -318,12 +331,13 @@ abbrev pub IsUnremarked : (slots : ℕ) (input : List ℕ) → Type 0
 IsUnremarked slots input = (max_book < length input) ⊎ ((f : RunFault) × IsStopped slots input f)
 
 -- a task refuses what it reads and has no table to write of it: `verify` has no run, no orders or no tapes, and a book
--- is too long for `check`, or has no run with `--slots`. Other commands never write a table with status 1
+-- is too long for `check`, or has no run with `--slots`, or a network has no such group. Other commands never write a
+-- table with status 1
 abbrev pub RefusesUnseen : Task → (book input : Option (List ℕ)) → Type 0
 RefusesUnseen (task.Verify from slots pages layout file workers) book input =
     IfSome book (λ octets. IfSome input (IsUnverified from slots octets))
 RefusesUnseen (task.VerifyOrders cell terms file) book input = IfSome book (λ octets. IfSome input (AreUnjudged octets))
-RefusesUnseen task.Check book input = IfSome input (λ octets. max_book < length octets)
+RefusesUnseen (task.Check what) book input = IfSome input (IsUnchecked what)
 RefusesUnseen (task.Remark slots start strict) book input = IfSome input (IsUnremarked slots)
 RefusesUnseen other book input = ⊤
 
@@ -344,8 +358,8 @@ WritesDifferences (task.Verify from slots pages layout file workers) book input 
     WritesOutputOfBoth (HasDifferences from slots pages layout) book input old new
 WritesDifferences (task.VerifyOrders cell terms file) book input old new =
     WritesOutputOfBoth (HasOrderDifferences cell terms) book input old new
-WritesDifferences task.Check book input old new =
-    (count : ℕ) × WritesOutput (HasFaults count) input old new
+WritesDifferences (task.Check what) book input old new =
+    (count : ℕ) × WritesOutput (HasFaultsBy (bounds_of what) count) input old new
 WritesDifferences (task.Remark slots start strict) book input old new =
     ((count : ℕ) × WritesOutput (HasFaults count) input old new)
     ⊎ ((count : ℕ) × WritesOutput (HasRemarks slots start count) input old new)

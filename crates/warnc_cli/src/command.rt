@@ -7,15 +7,15 @@ ghost use Rattle.warnc_cli.specs.CommandLine.{GivesChannel, GivesChannelType, Gi
 ghost use Rattle.warnc_cli.specs.CommandLine.{GivesAddress, GivesArfcn, GivesCell, GivesDelay, GivesEdge, GivesFile};
 ghost use Rattle.warnc_cli.specs.CommandLine.{GivesFirstSlot, GivesLanguage, GivesPart, GivesSlotStart, GivesView};
 ghost use Rattle.warnc_cli.specs.CommandLine.{GivesWanted, IsAddress, IsCell};
-ghost use Rattle.warnc_cli.specs.CommandLine.{columns_given, slots_given, GivesBooks, GivesOrigin, GivesPages};
-ghost use Rattle.warnc_cli.specs.CommandLine.{form_given};
-ghost use Rattle.warnc_cli.specs.CommandLine.{detail_given, pages_given, GivesProduct, GivesTapeSlots, IsNumber};
-ghost use Rattle.warnc_cli.specs.CommandLine.{GivesTableLayout, GivesTerms, GivesVerifiedFile};
+ghost use Rattle.warnc_cli.specs.CommandLine.{columns_given, slots_given, GivesBooks, GivesExtent, GivesOrigin};
+ghost use Rattle.warnc_cli.specs.CommandLine.{detail_given, form_given, pages_given, GivesPages, GivesProduct};
+ghost use Rattle.warnc_cli.specs.CommandLine.{GivesTableLayout, GivesTapeSlots, GivesTerms, GivesVerifiedFile};
+ghost use Rattle.warnc_cli.specs.CommandLine.{IsNumber};
 ghost use Rattle.warnc_cli.specs.Tasks.{IsTaskOf};
 
 use crate::options::warnc;
 use crate::start::{slot_start_in, start_in};
-use alert_book::Origin;
+use alert_book::{Extent, Origin};
 use cbs_page::Serial;
 use cbsp_wire::Cell;
 use chart::{Language, Part, View, Wording};
@@ -75,7 +75,10 @@ pub enum Task<'a> {
     /// `groups`.
     Groups,
     /// `check` of the rows alone.
-    Check,
+    Check {
+        /// What is checked.
+        what: Extent,
+    },
     /// `check` of the rows and of a run.
     Remark {
         /// How many slots each cell's run has, at least 1.
@@ -89,6 +92,8 @@ pub enum Task<'a> {
     Plan,
     /// `texts`.
     Texts {
+        /// Whose texts are wanted.
+        what: Extent,
         /// For how many pages each text is cut.
         pages: Option<u16>,
     },
@@ -168,6 +173,7 @@ fn task_in<'a, S: AsStr>(words: &'a [S]) -> Option<Task<'a>>
         "check" => check_in(words),
         "plan" => Some(Task::Plan),
         "texts" => Some(Task::Texts {
+            what: extent_in(words)?,
             pages: pages_in(words)?,
         }),
         "compile" => run_in(words, Product::Tapes, Sessions { number: 1 }),
@@ -331,7 +337,9 @@ fn check_in<'a, S: AsStr>(words: &'a [S]) -> Option<Task<'a>>
     ensures { IfSome result (IsTaskOf (map S.text words.now)) }
 {
     if !is_given(words, "--slots") {
-        return Some(Task::Check);
+        return Some(Task::Check {
+            what: extent_in(words)?,
+        });
     }
     Some(Task::Remark {
         slots: slots_in(words)?,
@@ -686,6 +694,19 @@ fn origin_in<S: AsStr>(words: &[S]) -> Option<Origin>
     }
     let group = number_of(words, "--group")?;
     Some(Origin::Group(group))
+}
+
+/// Whether the input is a book or a network book, or which group of one is wanted.
+fn extent_in<S: AsStr>(words: &[S]) -> Option<Extent>
+    ensures { IfSome result (GivesExtent (map S.text words.now)) }
+{
+    if is_given(words, "--network") {
+        return Some(Extent::Network);
+    }
+    match origin_in(words)? {
+        Origin::Book => Some(Extent::Book),
+        Origin::Group(group) => Some(Extent::Group(group)),
+    }
 }
 
 /// Which books the words want.

@@ -181,7 +181,9 @@ fn check<'a>(alloc: Global) -> Result<Command<'a>, AllocError> {
             "Reads a book of alerts, as CSV, and writes every row that has a\nfault, its column, and what is wanted there, as CSV",
         )
         .after_help("Example: warnc check --slots 4096 < book.csv")
-        .arg(checked_slots(alloc))?
+        .arg(checked_slots(alloc)?)?
+        .arg(checked_group(alloc))?
+        .arg(whole_network(alloc)?)?
         .arg(checked_clock(alloc)?)?
         .arg(strict(alloc)?)
 }
@@ -202,7 +204,9 @@ fn texts<'a>(alloc: Global) -> Result<Command<'a>, AllocError> {
             "Reads a book of alerts, as CSV, and writes what each text of it\ncosts: its coding, its pages, and what forces UCS-2, as CSV",
         )
         .after_help("Example: warnc texts --pages 2 < book.csv")
-        .arg(pages(alloc))
+        .arg(pages(alloc))?
+        .arg(group(alloc))?
+        .arg(whole_network(alloc)?)
 }
 
 /// The command line of `page`.
@@ -360,6 +364,22 @@ fn network<'a>(alloc: Global) -> Result<Arg<'a>, AllocError> {
     .conflicts_with("group")
 }
 
+/// The option of the group of a network book that is checked.
+fn checked_group<'a>(alloc: Global) -> Arg<'a> {
+    optional(
+        alloc,
+        "group",
+        "GROUP",
+        "Takes the book for a network book, which is to have\nthe group of this number, 0 to 65535",
+    )
+    .value_parser(value_parser!(u16))
+}
+
+/// The option of a network book as a whole.
+fn whole_network<'a>(alloc: Global) -> Result<Arg<'a>, AllocError> {
+    flag(alloc, "network", "Takes the book for a network book").conflicts_with("group")
+}
+
 /// The option by which every order is to be done.
 fn all_done<'a>(alloc: Global) -> Result<Arg<'a>, AllocError> {
     flag(
@@ -427,7 +447,7 @@ fn charted_language<'a>(alloc: Global) -> Arg<'a> {
 }
 
 /// The option of the number of slots of a run that is checked.
-fn checked_slots<'a>(alloc: Global) -> Arg<'a> {
+fn checked_slots<'a>(alloc: Global) -> Result<Arg<'a>, AllocError> {
     optional(
         alloc,
         "slots",
@@ -435,6 +455,8 @@ fn checked_slots<'a>(alloc: Global) -> Arg<'a> {
         "Runs a book without a fault for this many slots,\n1 to 65535, and writes what is remarked of the run\nand how full each cell gets",
     )
     .value_parser(value_parser!(u16).range(1..=65535))
+    .conflicts_with("group")?
+    .conflicts_with("network")
 }
 
 /// The option by which there are to be no remarks.

@@ -22,7 +22,7 @@ use crate::status::{
     failed_with_table,
 };
 use crate::unreadable::Unreadable;
-use alert_book::Origin;
+use alert_book::{Extent, Origin};
 use book_check::check_stream;
 use book_remarks::remark_stream;
 use book_texts::texts_stream;
@@ -235,14 +235,14 @@ fn run_task<T: AllocGlobal + Threads + Wait + Sync, B: Read, R: Read, W: Write, 
             run_orders(alloc, wanted, packets, source, sink, faults)
         }
         Task::Groups => run_groups(rt, source, sink, faults),
-        Task::Check => run_check(alloc, source, sink, faults),
+        Task::Check { what } => run_check(alloc, what, source, sink, faults),
         Task::Remark {
             slots,
             start,
             strict,
         } => run_remark(rt, slots, start, strict, source, sink, faults),
         Task::Plan => run_plan(alloc, source, sink, faults),
-        Task::Texts { pages } => run_texts(alloc, pages, source, sink, faults),
+        Task::Texts { what, pages } => run_texts(alloc, what, pages, source, sink, faults),
         Task::Make { run, made } => run_books(rt, run, made, source, sink, faults),
         Task::Strict { run, made } => run_strict(rt, run, made, source, sink, faults),
         Task::Verify {
@@ -490,17 +490,18 @@ fn run_groups<T: AllocGlobal + Threads + Sync, R: Read, W: Write, F: Write>(
 /// Runs `check`, and returns the status.
 fn run_check<R: Read, W: Write, F: Write>(
     alloc: Global,
+    what: Extent,
     source: &mut Source<R>,
     sink: &mut Sink<W>,
     faults: &mut F,
 ) -> u8
-    ensures done { IsDoneBy Task.Check result R.remaining W.contents source.old sink.old sink.new }
-    ensures wrote { WroteSomeBy Task.Check result W.contents sink.old sink.new }
-    ensures refused { IsRefusedBy Task.Check result R.remaining source.old }
-    ensures told { WroteFaultsBy result R.remaining W.contents source.old sink.old sink.new }
-    ensures ends { IsRunBetween Task.Check result W.contents source.new sink.old sink.new }
+    ensures done { IsDoneBy (Task.Check what) result R.remaining W.contents source.old sink.old sink.new }
+    ensures wrote { WroteSomeBy (Task.Check what) result W.contents sink.old sink.new }
+    ensures refused { IsRefusedBy (Task.Check what) result R.remaining source.old }
+    ensures told { WroteFaultsBy what result R.remaining W.contents source.old sink.old sink.new }
+    ensures ends { IsRunBetween (Task.Check what) result W.contents source.new sink.old sink.new }
 {
-    match check_stream(alloc, source, sink) {
+    match check_stream(alloc, what, source, sink) {
         Ok(()) => DONE,
         Err(fault) => failed(&fault, faults),
     }
@@ -551,18 +552,19 @@ fn run_plan<R: Read, W: Write, F: Write>(
 /// Runs `texts`, and returns the status.
 fn run_texts<R: Read, W: Write, F: Write>(
     alloc: Global,
+    what: Extent,
     pages: Option<u16>,
     source: &mut Source<R>,
     sink: &mut Sink<W>,
     faults: &mut F,
 ) -> u8
-    ensures done { IsDoneBy (Task.Texts pages) result R.remaining W.contents source.old sink.old sink.new }
-    ensures wrote { WroteSomeBy (Task.Texts pages) result W.contents sink.old sink.new }
-    ensures refused { IsRefusedBy (Task.Texts pages) result R.remaining source.old }
-    ensures front { WroteFrontBy (Task.Texts pages) result R.remaining W.contents source.old sink.old sink.new }
-    ensures ends { IsRunBetween (Task.Texts pages) result W.contents source.new sink.old sink.new }
+    ensures done { IsDoneBy (Task.Texts what pages) result R.remaining W.contents source.old sink.old sink.new }
+    ensures wrote { WroteSomeBy (Task.Texts what pages) result W.contents sink.old sink.new }
+    ensures refused { IsRefusedBy (Task.Texts what pages) result R.remaining source.old }
+    ensures front { WroteFrontBy (Task.Texts what pages) result R.remaining W.contents source.old sink.old sink.new }
+    ensures ends { IsRunBetween (Task.Texts what pages) result W.contents source.new sink.old sink.new }
 {
-    match texts_stream(alloc, source, sink, pages) {
+    match texts_stream(alloc, what, source, sink, pages) {
         Ok(()) => DONE,
         Err(fault) => failed(&fault, faults),
     }

@@ -213,7 +213,7 @@ impl Fault for CheckFault {
 
     fn status(&self) -> u8 {
         match *self {
-            CheckFault::Faults(_) | CheckFault::TooLong => REFUSED_INPUT,
+            CheckFault::Faults(_) | CheckFault::NoGroup(_) | CheckFault::TooLong => REFUSED_INPUT,
             CheckFault::ReadFailed | CheckFault::WriteFailed => DEVICE,
             CheckFault::Refused => MEMORY,
         }
@@ -250,7 +250,7 @@ impl Fault for TextsFault {
 
     fn status(&self) -> u8 {
         match *self {
-            TextsFault::TooLong | TextsFault::Row(_) => REFUSED_INPUT,
+            TextsFault::TooLong | TextsFault::Row(_) | TextsFault::NoGroup(_) => REFUSED_INPUT,
             TextsFault::ReadFailed | TextsFault::WriteFailed => DEVICE,
             TextsFault::Refused => MEMORY,
         }

@@ -174,6 +174,64 @@ args texts --lang en
 usage -> 2 error:
 ";
 
+/// Network books, and groups that are there or not.
+const NETWORKS: &str = "
+args check --network
+in cell,1,1
+in write,0,a,4370,0,1,en,2,2,0,*,One
+in update,1,a,pl,2,2,0,1-1,żółw
+run -> 0
+out -> row,line,column,field,value,says
+args check --group 0
+run -> 0
+out -> row,line,column,field,value,says
+args check --group 1
+fails -> 1 warnc: no such group: the network has 1
+args texts --network
+run -> 0
+out -> row,name,lang,coding,characters,pages,room,first_ucs2,place
+out -> 2,a,en,GSM 7-bit,3,1,90,,
+out -> 3,a,pl,UCS-2,4,1,37,ż,0
+args texts --group=0 --pages 1
+run -> 0
+out -> row,name,lang,coding,characters,pages,room,first_ucs2,place,fits
+out -> 2,a,en,GSM 7-bit,3,1,90,,,3
+out -> 3,a,pl,UCS-2,4,1,37,ż,0,4
+args texts --group 65535
+fails -> 1 warnc: no such group: the network has 1
+
+# faults are those of the network, whichever group is asked for
+args check --group 65535
+in cell,1
+in stop,0,b,*
+run -> 1
+out -> row,line,column,field,value,says
+out -> 1,1,1,VERB,cell,\"2 columns, cell has 3\"
+out -> 2,2,3,NAME,b,no earlier row writes this name
+err -> warnc: faults: 2
+args texts --group 65535
+fails -> 1 warnc: row 1: columns
+args check --network
+reads 0 10 -> 3 warnc: read failed
+worked row,line,column,field,value,says
+worked 1,1,1,VERB,cell,\"2 columns, cell has 3\"
+worked 2,2,3,NAME,b,no earlier row writes this name
+writer 10 3
+run -> 3
+err -> warnc: write failed
+all -> 30 of 118
+args check --group 0 --network
+usage -> 2 error:
+args check --slots 24 --group 0
+usage -> 2 error:
+args check --slots 24 --network
+usage -> 2 error:
+args texts --network --group 0
+usage -> 2 error:
+args texts --group 65536
+usage -> 2 error:
+";
+
 #[test]
 fn books_are_checked(rt: HostRuntime) -> Result<(), Fail> {
     expect_rows(&rt, CHECK, 26)
@@ -192,4 +250,9 @@ fn remarks_have_times(rt: HostRuntime) -> Result<(), Fail> {
 #[test]
 fn texts_are_costed(rt: HostRuntime) -> Result<(), Fail> {
     expect_rows(&rt, TEXTS, 30)
+}
+
+#[test]
+fn networks_are_checked(rt: HostRuntime) -> Result<(), Fail> {
+    expect_rows(&rt, NETWORKS, 52)
 }

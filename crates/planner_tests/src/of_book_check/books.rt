@@ -211,6 +211,65 @@ line_feeds 16777218 -> row 0: too many rows, 1 left
 line_feeds 16777216 -> clean
 ";
 
+/// Network books: more cells, and other bounds. Cells of another group are declared, too.
+const NETWORKS: &str = "
+extent network
+before cell,1,1|write,0,a,4370,0,1,en,2,2,0,*,One|
+check  -> clean
+check cell,1,1| -> Faults(1) 3,3,3,CI,1,an earlier row declares this cell
+check stop,0,a,1-1 1-2| -> Faults(1) 3,3,4,CELLS,1-1 1-2,no earlier row declares this cell: 1-2
+check stop,0,a,1-1 1-1| -> Faults(1) 3,3,4,CELLS,1-1 1-1,a cell comes twice
+check stop,0,a,1 1| -> Faults(1) 3,3,4,CELLS,1 1,* or LAC-CI with one space between
+check update,0,a,en,2,2,0,*,| -> Faults(1) 3,3,9,TEXT,,a text
+check sell,1,1|stop,0,b,*|cell,1,2|stop,0,a,1-2| -> Faults(2) 3,3,1,VERB,sell,\"cell, write, update or stop\"|\
+    4,4,3,NAME,b,no earlier row writes this name
+check write,0,b,70000,0,1,en,2,2,0,*,Two|stop,0,b,*| -> Faults(1) 3,3,4,ID,70000,a number from 0 to 65535
+
+# A group's faults are those of the network; a network without a fault has the group or not.
+extent group 0
+check -> clean
+check cell,1| -> Faults(1) 3,3,1,VERB,cell,\"2 columns, cell has 3\"
+extent group 1
+check cell,1| -> Faults(1) 3,3,1,VERB,cell,\"2 columns, cell has 3\"
+line -> no such group: the network has 1
+before
+line -> no such group: the network has 1
+extent group 0
+check -> clean
+
+# Failing ends.
+most 10
+before cell,1,1|
+reads 0 -> ReadFailed, true, 0
+reads 2 -> clean
+writes 0 -> WriteFailed, true, 0
+writes 3 -> WriteFailed, true, 30
+writes 8 sell| -> Faults(1), false, 79
+extent group 1
+writes 0 -> NoGroup(1), false, 0
+";
+
+/// How many rows and octets a network book may have.
+const NETWORK_LIMITS: &str = "
+# More than 4,096 rows besides cells: the first is told, and no row after it. Cells may follow the 4,096th.
+extent network
+before cell,1,1|write,0,a,4370,0,1,en,2,2,0,*,One|
+times 4094 stop,0,a,*|
+check stop,0,a,*| -> clean
+check stop,0,a,*|cell,1,2| -> clean
+check stop,0,a,*|stop,0,a,*|sell| -> Faults(1) 4098,4098,1,VERB,stop,a network book has 4096 rows besides cells at most
+check stop,0,a,*|sell| -> Faults(1) 4098,4098,1,VERB,sell,a network book has 4096 rows besides cells at most
+# A wrong row is none of them, unless later rows are judged by its name.
+check sell|stop,0,a,*| -> Faults(1) 4097,4097,1,VERB,sell,\"cell, write, update or stop\"
+check write,x,b,4370,0,1,en,2,2,0,*,Two|stop,0,a,*| -> Faults(2) 4097,4097,2,AT,x,a number from 0 to 65535|\
+    4098,4098,1,VERB,stop,a network book has 4096 rows besides cells at most
+
+# A network book has 64 MiB at most.
+before
+line_feeds 67108865 -> row 0: too many rows, 0 left
+line_feeds 16777217 -> clean
+";
+
 /// Ends that fail: the reader at its first call, its second .., and the writer, of whose octets a front is out.
 const ENDS: &str = "
 most 10
@@ -240,4 +299,14 @@ fn each_row_with_a_fault_is_told(rt: HostRuntime) -> Result<(), Fail> {
 fn limits_and_failed_ends_are_told(rt: HostRuntime) -> Result<(), Fail> {
     expect_rows(&rt, LIMITS, 21)?;
     expect_rows(&rt, ENDS, 9)
+}
+
+#[test]
+fn each_row_of_a_network_with_a_fault_is_told(rt: HostRuntime) -> Result<(), Fail> {
+    expect_rows(&rt, NETWORKS, 20)
+}
+
+#[test]
+fn limits_of_networks_are_told(rt: HostRuntime) -> Result<(), Fail> {
+    expect_rows(&rt, NETWORK_LIMITS, 8)
 }

@@ -1,5 +1,6 @@
 //! How tests check books.
 
+use alert_book::Extent;
 use book_check::{CheckFault, check_stream};
 use device_ends::memory::{MemoryReader, MemoryWriter};
 use device_ends::{Sink, Source};
@@ -42,13 +43,18 @@ pub struct Outcome {
 }
 
 /// Checks octets.
-pub fn outcome_of(alloc: Global, octets: &[u8], ends: Ends) -> Result<Outcome, AllocError> {
+pub fn outcome_of(
+    alloc: Global,
+    what: Extent,
+    octets: &[u8],
+    ends: Ends,
+) -> Result<Outcome, AllocError> {
     let most = ends.most.max(1);
     let mut reader = MemoryReader::new(octets, most, ends.reads);
     let mut writer = MemoryWriter::new(alloc, most, ends.writes);
     let mut source = Source::new(&mut reader);
     let mut sink = Sink::new(&mut writer);
-    let fault = check_stream(alloc, &mut source, &mut sink).err();
+    let fault = check_stream(alloc, what, &mut source, &mut sink).err();
     let (unread, unwritten) = (source.failed(), sink.failed());
     Ok(Outcome {
         fault,

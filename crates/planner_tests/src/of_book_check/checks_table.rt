@@ -4,6 +4,7 @@
 //!
 //! - `before ROWS`: these rows stand before those of each book that follows; `times NUMBER ROWS`: and these, NUMBER
 //!   times;
+//! - `extent WORDS`: what is checked: `book`, as it is at first, `network`, or `group NUMBER`;
 //! - `most NUMBER`: a read gives, and a write takes, that many octets at most.
 //!
 //! What comes of a check:
@@ -16,6 +17,7 @@
 
 use crate::octets::add_rows;
 use crate::of_book_check::checks::{Ends, Outcome, outcome_of};
+use alert_book::Extent;
 use std::alloc::{AllocGlobal, Global};
 use std::process::Abort;
 use std::test::Fail;
@@ -29,6 +31,8 @@ const NAMES: &str = "row,line,column,field,value,says\n";
 struct Given {
     /// The octets that stand before the rows of each.
     before: Vec<u8>,
+    /// What is checked.
+    what: Extent,
     /// How many octets a call moves at most.
     most: usize,
     /// What came of the row under way.
@@ -48,9 +52,20 @@ fn set(given: &mut Given, verb: &str, rest: &str) -> Result<(), Fail> {
                 add_rows(&mut given.before, rows)?;
             }
         }
+        "extent" => given.what = extent_of(rest)?,
         _ => given.most = rest.parse::<usize>()?,
     }
     Ok(())
+}
+
+/// What the words of a row say is checked.
+fn extent_of(words: &str) -> Result<Extent, Fail> {
+    match words.split_once(' ') {
+        Some(("group", number)) => Ok(Extent::Group(number.parse::<u16>()?)),
+        None if words == "network" => Ok(Extent::Network),
+        None if words == "book" => Ok(Extent::Book),
+        _ => Err(Fail::new("no such extent")),
+    }
 }
 
 /// Tells the rows of a table behind the columns' names.
@@ -120,12 +135,12 @@ fn put_octets(octets: &mut Vec<u8>, given: &Given, verb: &str, rest: &str) -> Re
 fn carry_out(alloc: Global, given: &mut Given, action: &str) -> Result<(), Fail> {
     given.told.clear();
     let (verb, rest) = action.split_once(' ').unwrap_or((action, ""));
-    if verb == "before" || verb == "times" || verb == "most" {
+    if matches!(verb, "before" | "times" | "extent" | "most") {
         return set(given, verb, rest);
     }
     let mut octets = Vec::new(alloc);
     let ends = put_octets(&mut octets, given, verb, rest)?;
-    let outcome = outcome_of(alloc, &octets, ends)?;
+    let outcome = outcome_of(alloc, given.what, &octets, ends)?;
     tell(&mut given.told, verb, &outcome)
 }
 
@@ -152,6 +167,7 @@ fn expect_each(alloc: Global, given: &mut Given, table: &str) -> Result<u16, Fai
 pub fn expect_rows<T: AllocGlobal + Abort>(rt: &T, table: &str, count: u16) -> Result<(), Fail> {
     let mut given = Given {
         before: Vec::new(rt.alloc()),
+        what: Extent::Book,
         most: 65_536,
         told: String::new(rt.alloc()),
     };

@@ -1,6 +1,7 @@
 //! Tables that are short of memory: growths are refused one after the other, and nothing is written then.
 
 use crate::of_book_texts::rows::{Bench, Ends};
+use alert_book::Extent;
 use book_texts::{TextsFault, texts_stream};
 use device_ends::memory::MemoryReader;
 use device_ends::{Sink, Source};
@@ -27,7 +28,7 @@ struct Outcome {
 }
 
 /// Writes the table in a room of so many blocks, or with all memory.
-fn outcome_of(alloc: Global, room: &mut Room, blocks: Option<u16>) -> Outcome {
+fn outcome_of(alloc: Global, room: &mut Room, what: Extent, blocks: Option<u16>) -> Outcome {
     let mut out = [0; 300];
     let mut rest = out.as_mut_slice();
     let mut reader = MemoryReader::new(BOOK.as_bytes(), 1000, None);
@@ -36,7 +37,7 @@ fn outcome_of(alloc: Global, room: &mut Room, blocks: Option<u16>) -> Outcome {
     if let Some(blocks) = blocks {
         room.leave(alloc, blocks);
     }
-    let done = texts_stream(alloc, &mut source, &mut sink, Some(1));
+    let done = texts_stream(alloc, what, &mut source, &mut sink, Some(1));
     room.end();
     drop(source);
     drop(sink);
@@ -50,16 +51,16 @@ fn outcome_of(alloc: Global, room: &mut Room, blocks: Option<u16>) -> Outcome {
 }
 
 /// How often the table is refused memory, with nothing written. After each refusal it is written with all memory.
-fn refusals(alloc: Global, room: &mut Room) -> Result<u16, Fail> {
+fn refusals(alloc: Global, room: &mut Room, what: Extent) -> Result<u16, Fail> {
     for blocks in 0..Room::MOST {
-        let found = outcome_of(alloc, room, Some(blocks));
+        let found = outcome_of(alloc, room, what, Some(blocks));
         if found.done.is_ok() && found.is_table && found.left == 0 {
             return Ok(blocks);
         }
         if found.done != Err(TextsFault::Refused) || found.written != 0 {
             return Err(Fail::new("another table, or another fault"));
         }
-        let again = outcome_of(alloc, room, None);
+        let again = outcome_of(alloc, room, what, None);
         if again.done.is_err() || !again.is_table || again.left != 0 {
             return Err(Fail::new("no table with all memory"));
         }
@@ -67,10 +68,18 @@ fn refusals(alloc: Global, room: &mut Room) -> Result<u16, Fail> {
     Err(Fail::new("it is refused to the end"))
 }
 
+/// The same, of the book, of it as a network book, or of a group: the fewest.
+fn least_refusals(alloc: Global, room: &mut Room) -> Result<u16, Fail> {
+    let of_book = refusals(alloc, room, Extent::Book)?;
+    let of_network = refusals(alloc, room, Extent::Network)?;
+    let of_group = refusals(alloc, room, Extent::Group(0))?;
+    Ok(of_book.min(of_network).min(of_group))
+}
+
 #[test]
 fn refused_memory_is_reported(rt: HostRuntime) -> Result<(), Fail> {
     let mut room = Room::new(rt.alloc())?;
-    let refused = refusals(rt.alloc(), &mut room);
+    let refused = least_refusals(rt.alloc(), &mut room);
     drop(room);
     let refused = refused?;
     assert!(rt; refused >= 20, "{refused}");
@@ -83,7 +92,7 @@ fn end_of_lines(alloc: Global, octets: usize) -> Result<Result<(), TextsFault>, 
     for _ in 0..octets {
         bench.book.push('\n')?;
     }
-    let (done, _) = bench.texts(alloc, Ends::SOUND, None)?;
+    let (done, _) = bench.texts(alloc, Extent::Book, Ends::SOUND, None)?;
     Ok(done)
 }
 

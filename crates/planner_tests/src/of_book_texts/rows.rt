@@ -2,9 +2,11 @@
 //!
 //! `cost TEXT -> ALPHABET CHARACTERS PAGES ROOM`, `first TEXT -> CHARACTER at PLACE` and `cut K TEXT -> CHARACTERS` are
 //! of a text. `in LINE` puts a line behind the book, and `again` empties it. `texts` and `texts K -> OUTCOME` write the
-//! table of the book, `reads N texts` and `writes N texts` do so where the reader or the writer fails after so many
-//! calls; `line N -> LINE` is a line of what was written, from 0, `end` after the last. `<37*a>` is `a` 37 times.
+//! table of the book, `network`, `group G` and `group G K` that of it as a network book, `reads N texts` and `writes N
+//! texts` do so where the reader or the writer fails after so many calls; `line N -> LINE` is a line of what was
+//! written, from 0, `end` after the last. `<37*a>` is `a` 37 times.
 
+use alert_book::Extent;
 use book_texts::{
     TextsFault, cost_of_text, cut_for, first_forcing, place_of_forcing, texts_stream,
 };
@@ -56,6 +58,7 @@ impl Bench {
     pub fn texts(
         &mut self,
         alloc: Global,
+        what: Extent,
         ends: Ends,
         pages: Option<u16>,
     ) -> Result<(Result<(), TextsFault>, usize), AllocError> {
@@ -63,7 +66,7 @@ impl Bench {
         let mut writer = MemoryWriter::new(alloc, 50, ends.writes);
         let mut source = Source::new(&mut reader);
         let mut sink = Sink::new(&mut writer);
-        let done = texts_stream(alloc, &mut source, &mut sink, pages);
+        let done = texts_stream(alloc, what, &mut source, &mut sink, pages);
         drop(source);
         drop(sink);
         let left = reader.rest().len();
@@ -92,11 +95,12 @@ fn said_of(alloc: Global, bench: &Bench, done: Result<(), TextsFault>) -> Result
 fn texts(
     alloc: Global,
     bench: &mut Bench,
+    what: Extent,
     ends: Ends,
     words: &mut Words<'_>,
 ) -> Result<String, Fail> {
     let pages = words.word().parse::<u16>().ok();
-    let (done, _) = bench.texts(alloc, ends, pages)?;
+    let (done, _) = bench.texts(alloc, what, ends, pages)?;
     said_of(alloc, bench, done)
 }
 
@@ -151,14 +155,19 @@ fn carried_out(alloc: Global, bench: &mut Bench, action: &str) -> Result<String,
         "cost" => cost(alloc, rest),
         "first" => first(alloc, rest),
         "cut" => cut(alloc, rest),
-        "texts" => texts(alloc, bench, Ends::SOUND, &mut words),
+        "texts" => texts(alloc, bench, Extent::Book, Ends::SOUND, &mut words),
+        "network" => texts(alloc, bench, Extent::Network, Ends::SOUND, &mut words),
+        "group" => {
+            let group = Extent::Group(words.number16()?);
+            texts(alloc, bench, group, Ends::SOUND, &mut words)
+        }
         "reads" => {
             let reads = Some(usize::from(words.number16()?));
             let ends = Ends {
                 reads,
                 writes: None,
             };
-            texts(alloc, bench, ends, &mut words)
+            texts(alloc, bench, Extent::Book, ends, &mut words)
         }
         "writes" => {
             let writes = Some(usize::from(words.number16()?));
@@ -166,7 +175,7 @@ fn carried_out(alloc: Global, bench: &mut Bench, action: &str) -> Result<String,
                 reads: None,
                 writes,
             };
-            texts(alloc, bench, ends, &mut words)
+            texts(alloc, bench, Extent::Book, ends, &mut words)
         }
         "line" => bench.line(alloc, usize::from(words.number16()?)),
         _ => Err(Fail::new("no such action")),

@@ -127,6 +127,32 @@ writes 0 texts -> write failed; 0 octets
 writes 1 texts -> write failed; 50 octets
 ";
 
+/// Network books.
+const NETWORKS: &str = "
+in cell,1,0
+in write,0,a,4370,0,1,en,2,2,0,1-0,One
+in cell,1,1
+in update,1,a,ru,2,2,0,1-1,Вода
+in stop,2,a,1-1
+network -> done
+line 1 -> 2,a,en,GSM 7-bit,3,1,90,,
+line 2 -> 4,a,ru,UCS-2,4,1,37,В,0
+line 3 -> end
+group 0 1 -> done
+line 1 -> 2,a,en,GSM 7-bit,3,1,90,,,3
+line 2 -> 4,a,ru,UCS-2,4,1,37,В,0,4
+line 3 -> end
+group 1 -> no such group: the network has 1; 0 octets
+in cell,1
+group 1 -> row 6: columns; 0 octets
+network -> row 6: columns; 0 octets
+";
+
+#[test]
+fn networks_give_tables(rt: HostRuntime) -> Result<(), Fail> {
+    expect_rows(&rt, rt.alloc(), NETWORKS, 11)
+}
+
 #[test]
 fn texts_cost_what_another_program_counts(rt: HostRuntime) -> Result<(), Fail> {
     expect_rows(&rt, rt.alloc(), TEXTS, 47)
