@@ -194,7 +194,8 @@ def examples_are_typed(page, program, _):
         page.until(f"state.text === {json.dumps(book.decode())}")
         run = ["--slots", 48, "--workers", 1]
         for commands in ([["compile", *run], ["read"]], [["report", *run]], [["chart", *run]], [["check"]], [["texts"]],
-                         [["texts", "--pages", 2]], [["compile", *run], ["pcap", "--used"]], [["groups"]]):
+                         [["texts", "--pages", 2]], [["compile", *run], ["pcap", "--used"]], [["groups"]],
+                         [["compile", *run], ["read", "--slots"]]):
             status, given, fault = 0, book, ""
             for words in commands:
                 if status == 0:

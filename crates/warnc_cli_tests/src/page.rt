@@ -213,6 +213,13 @@ in-hex 61ff
 fails -> 1 warnc: text is not UTF-8
 in @
 reads 0 1 -> 3 warnc: read failed
+worked page,pages,serial,identifier,coding,used,block_1,block_2,block_3,block_4,text
+worked 1,1,0010,1112,01,1,\
+    200010111201118046a3d168341a8d46a3d168341a8d46,\
+    21a3d168341a8d46a3d168341a8d46a3d168341a8d46a3,\
+    22d168341a8d46a3d168341a8d46a3d168341a8d46a3d1,\
+    3368341a8d46a3d168341a8d46a3d168341a8d46a3d100,\
+    @
 writer 90 1
 run -> 3
 err -> warnc: write failed
@@ -231,10 +238,10 @@ fn refused_texts_and_failed_devices_are_named(rt: HostRuntime) -> Result<(), Fai
 
 #[test]
 fn pages_are_explained(rt: HostRuntime) -> Result<(), Fail> {
-    expect_rows(&rt, EXPLAIN, 99)
+    expect_rows(&rt, EXPLAIN, 23)
 }
 
 #[test]
 fn refused_texts_are_not_explained(rt: HostRuntime) -> Result<(), Fail> {
-    expect_rows(&rt, EXPLAIN_REFUSED, 99)
+    expect_rows(&rt, EXPLAIN_REFUSED, 15)
 }

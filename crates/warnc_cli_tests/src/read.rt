@@ -446,15 +446,15 @@ fn refused_tapes_with_such_pages_are_named(rt: HostRuntime) -> Result<(), Fail> 
 
 #[test]
 fn slots_have_their_pages(rt: HostRuntime) -> Result<(), Fail> {
-    expect_rows(&rt, SLOTS, 99)
+    expect_rows(&rt, SLOTS, 91)
 }
 
 #[test]
 fn slots_have_pages_of_fewer_blocks(rt: HostRuntime) -> Result<(), Fail> {
-    expect_rows(&rt, SLOTS_SHORT, 99)
+    expect_rows(&rt, SLOTS_SHORT, 29)
 }
 
 #[test]
 fn refused_tapes_have_no_slots(rt: HostRuntime) -> Result<(), Fail> {
-    expect_rows(&rt, SLOTS_REFUSED, 99)
+    expect_rows(&rt, SLOTS_REFUSED, 24)
 }

@@ -24,7 +24,7 @@ worked 1,1,0010,1112,01,1,\
     22d168341a8d46a3d168341a8d46a3d168341a8d46a3d1,\
     3368341a8d46a3d168341a8d46a3d168341a8d46a3d100,\
     @
-scarce 4 2300 -> worked
+scarce 4 1500 -> worked
 
 # a tape without slots
 args read
@@ -291,7 +291,7 @@ all -> worked
 
 #[test]
 fn pages_without_memory_are_status_4(rt: HostRuntime) -> Result<(), Fail> {
-    expect_rows(&rt, PAGE, 30)
+    expect_rows(&rt, PAGE, 37)
 }
 
 #[test]
