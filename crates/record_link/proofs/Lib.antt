@@ -1,0 +1,2 @@
+pub mod SomeLink
+pub mod Written
