@@ -153,8 +153,8 @@ def differ(what, text, wanted, found):
     print(f"link_reference: {what}: {text[:200]}: wanted {wanted[:200]}, but it was {found[:200]}")
 
 
-def written_by_peer(folder, messages):
-    """Returns the octets that libosmogsm writes of messages, and the words that it reads of them; None without it."""
+def peer_in(folder):
+    """Builds tools/link_peer.c in a folder, and returns its path; None without libosmogsm."""
     peer = os.path.join(folder, "link_peer")
     source = os.path.join(TOP, "tools", "link_peer.c")
     built = subprocess.run(["cc", "-O1", "-o", peer, source, "-losmogsm", "-losmocore", "-ltalloc"],
@@ -162,11 +162,22 @@ def written_by_peer(folder, messages):
     if built.returncode:
         print("link_reference: link_peer.c doesn't compile (libosmocore-dev isn't installed?): SKIPPED")
         return None
-    lines = "".join(f"write {' '.join(it.words)}\n" for it in messages)
-    octets = subprocess.run([peer], input=lines, capture_output=True, check=True, text=True).stdout.splitlines()
-    lines = "".join(f"read {it}\n" for it in octets)
-    read = subprocess.run([peer], input=lines, capture_output=True, check=True, text=True).stdout.splitlines()
-    return octets, read
+    return peer
+
+
+def said_by(peer, verb, lines):
+    """Returns what it answers to each line with this verb."""
+    lines = "".join(f"{verb} {it}\n" for it in lines)
+    return subprocess.run([peer], input=lines, capture_output=True, check=True, text=True).stdout.splitlines()
+
+
+def written_by_peer(folder, messages):
+    """Returns the octets that libosmogsm writes of messages, and the words that it reads of them; None without it."""
+    peer = peer_in(folder)
+    if peer is None:
+        return None
+    octets = said_by(peer, "write", [" ".join(it.words) for it in messages])
+    return octets, said_by(peer, "read", octets)
 
 
 def shown_by_tshark(folder, octets):
