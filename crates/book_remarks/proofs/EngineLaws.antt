@@ -1,9 +1,10 @@
 -- What the engine writes, and what its faults say.
-use Rattle.std.proofs.Common.{◌≡◌, ℕ, Bool, true, false, List, Option, None, Some, IfSome, subst, sym}
+use Rattle.std.proofs.Common.{◌≡◌, ℕ, Bool, true, false, List, Option, None, Some, IfSome, inl, subst, sym}
 use Rattle.std.specs.Io.KnownBytes.{Appends}
 use Rattle.device_ends.specs.Moves.{WritesOutput}
+use Rattle.book_check.specs.Checked.{HasFaults}
 use Rattle.book_remarks.specs.Remarked.{IsRemarkFault, IsRemarked, IsRemarkedFor, IsStopped}
-use Rattle.book_remarks.specs.RemarkedSteps.{IsReadFault, IsStop}
+use Rattle.book_remarks.specs.RemarkedSteps.{IsFaultOfRows, IsReadFault, IsStop}
 use Rattle.book_remarks.specs.declared.fault.RemarkFault.{RemarkFault}
 use Rattle.book_remarks.specs.declared.fault.RemarkFault.TheVariants as faults
 use Rattle.slot_times.specs.declared.start.Start.{Start}
@@ -69,3 +70,25 @@ of_stop slots start strict left old new octets (faults.Run f) same is =
 of_stop slots start strict left old new octets (faults.Remarks count) same is = absurd is
 of_stop slots start strict left old new octets faults.Refused same is = tt
 of_stop slots start strict left old new octets faults.WriteFailed same is = absurd is
+
+-- nor of a book with faults
+pub of_rows : (slots : ℕ) (start : Option Start) (strict : Bool) (left old new : Option (List ℕ)) (octets : List ℕ)
+    (why : RemarkFault)
+    → IfSome left (λ input. input ≡ octets)
+    → IsFaultOfRows octets old new why
+    → IsRemarkFault slots start strict left old new why
+of_rows slots start strict left old new octets (faults.Faults count) same out =
+    wrote (HasFaults count) left old new octets out.0 same out.1 out.2
+of_rows slots start strict left old new octets faults.TooLong same out = absurd out
+of_rows slots start strict left old new octets faults.ReadFailed same out = absurd out
+of_rows slots start strict left old new octets (faults.Run f) same out = absurd out
+of_rows slots start strict left old new octets (faults.Remarks count) same out = absurd out
+of_rows slots start strict left old new octets faults.Refused same out = tt
+of_rows slots start strict left old new octets faults.WriteFailed same out = inl (record {
+  input = octets;
+  input_is = same;
+  count = out.0;
+  output = out.1;
+  checked = out.2;
+  written = out.3;
+})

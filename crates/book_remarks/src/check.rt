@@ -11,7 +11,7 @@ ghost use Rattle.device_ends.specs.Stream.{OutputOfInput};
 ghost use Rattle.alert_book.specs.declared.network.Origin.TheVariants as origins;
 ghost use Rattle.warnc_run.specs.Products.{RunOf};
 ghost use Rattle.book_remarks.specs.Remarked.{HasTold, HasWritten, IsRemarkFault, IsRemarked, IsRemarkedFor};
-ghost use Rattle.book_remarks.specs.RemarkedSteps.{IsReadFault, IsStop, stop_of};
+ghost use Rattle.book_remarks.specs.RemarkedSteps.{IsFaultOfRows, IsReadFault, IsStop, stop_of};
 ghost use Rattle.book_remarks.specs.declared.fault.RemarkFault.TheVariants as faults;
 
 use crate::fault::RemarkFault;
@@ -78,16 +78,14 @@ pub fn remark_stream<T: AllocGlobal + Threads + Wait + Sync, R: Read, W: Write>(
     ensures sink_stays { sink_failed sink.old ≡ true → sink.new ≡ sink.old }
 {
     let octets = read_octets(rt.alloc(), source)?;
-    let Ok(checked) = table_of(rt.alloc(), &octets) else {
-        return Err(RemarkFault::Refused);
-    };
-    if checked.count > 0 {
-        if let Err(Failed) = write_all(sink, &checked.text) {
-            return Err(RemarkFault::WriteFailed);
+    // Only a book without a fault has a run, so that faults are looked for where there is no run.
+    let remarked = match remarked_of(rt, &octets, slots, start) {
+        Ok(remarked) => remarked,
+        Err(stop) => {
+            write_faults(rt.alloc(), sink, &octets)?;
+            return Err(stop);
         }
-        return Err(RemarkFault::Faults(checked.count));
-    }
-    let remarked = remarked_of(rt, &octets, slots, start)?;
+    };
     if let Err(Failed) = write_all(sink, &remarked.text) {
         return Err(RemarkFault::WriteFailed);
     }
@@ -97,6 +95,33 @@ pub fn remark_stream<T: AllocGlobal + Threads + Wait + Sync, R: Read, W: Write>(
     match remarked.count {
         0 => Ok(()),
         count => Err(RemarkFault::Remarks(count)),
+    }
+}
+
+/// Writes the table of the faults of a book's rows, if there is one; nothing if there is none.
+fn write_faults<W: Write>(
+    alloc: Global,
+    sink: &mut Sink<W>,
+    octets: &[u8],
+) -> Result<(), RemarkFault>
+    requires { length octets.now ≤ 16777216 }
+    ensures ok { OnOk result (sink.new ≡ sink.old) }
+    ensures err { IfErr result (IsFaultOfRows octets.now (W.contents (writer_of sink.old))
+        (W.contents (writer_of sink.new))) }
+    ensures write_failed { IsErrOf result faults.WriteFailed → sink_failed sink.new ≡ true }
+    ensures told_written { IfErr result (λ fault. HasTold fault → sink_failed sink.new ≡ false) }
+    ensures nothing_written { IfErr result (λ fault. (HasWritten fault → ⊥) → sink.new ≡ sink.old) }
+    ensures sink_stays { sink_failed sink.old ≡ true → sink.new ≡ sink.old }
+{
+    let Ok(checked) = table_of(alloc, octets) else {
+        return Err(RemarkFault::Refused);
+    };
+    if checked.count == 0 {
+        return Ok(());
+    }
+    match write_all(sink, &checked.text) {
+        Ok(()) => Err(RemarkFault::Faults(checked.count)),
+        Err(Failed) => Err(RemarkFault::WriteFailed),
     }
 }
 
