@@ -58,6 +58,7 @@ answer_written cell (commands.Write id serial replaces category dcs period broad
 answer_written cell (commands.Kill id serial) answer = reply_written cell id _ answer
 answer_written cell (commands.Status id serial) answer = tt
 
+-- the law
 pub none_is_left_out : NoneIsLeftOut
 none_is_left_out cell command answer formed =
     record { order = order_written cell command formed; reply = answer_written cell command answer }

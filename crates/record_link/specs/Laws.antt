@@ -19,4 +19,5 @@ pub record AreOnLink (cell : Cell) (command : Command) (answer : Answer) : Type 
   pub reply : IsOnLink (answer_message cell command answer)
 
 abbrev pub NoneIsLeftOut : Type 0
-NoneIsLeftOut = (cell : Cell) (command : Command) (answer : Answer) → IsWellFormed command → AreOnLink cell command answer
+NoneIsLeftOut = (cell : Cell) (command : Command) (answer : Answer) → IsWellFormed command
+    → AreOnLink cell command answer
