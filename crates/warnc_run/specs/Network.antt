@@ -38,6 +38,8 @@ octets_of_group (product.Chart view) slots groups group orders records =
     (map reading_of_record records)
 octets_of_group (product.Orders cell) slots groups group orders records =
     octets_of (product.Orders cell) (origin.Group group) slots orders records
+octets_of_group (product.Link start) slots groups group orders records =
+    octets_of (product.Link start) (origin.Group group) slots orders records
 
 -- the part of the group of this number
 pub record IsPartOf (runs : GroupRuns) (group : ℕ) (input output : List ℕ) : Type 0 where

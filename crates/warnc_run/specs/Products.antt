@@ -1,5 +1,5 @@
 -- What is made of the octets that are read: of the run of a book, or of a group's, its tapes, the report of them, their
--- chart, or the orders file of one of its cells. Own.
+-- chart, the orders file of one of its cells, or its link. Own.
 use Rattle.std.specs.Prelude.{◌≡◌, ◌==◌, ℕ, Bool, true, List, All, None, Some, length, map}
 use Rattle.std.specs.List.{flat_map}
 use Rattle.alert_book.specs.declared.book.order.Order.{Order}
@@ -18,8 +18,10 @@ use Rattle.cbch_blocks.specs.RecordBlocks.{blocks_of, tape_of_record}
 use Rattle.cbsp_wire.specs.declared.message.Cell.{Cell}
 use Rattle.chart.specs.ChartText.{chart_text}
 use Rattle.chart.specs.declared.view.View.{View}
+use Rattle.gsmtap.specs.declared.packet.Start.{Start as LinkStart}
 use Rattle.handset.specs.Reception.{shown_in}
 use Rattle.handset.specs.Tape.{TapeReading}
+use Rattle.record_link.specs.Sent.{run_link}
 use Rattle.record_orders.specs.Ordered.{orders_in}
 use Rattle.report.specs.ReportText.{text_with}
 use Rattle.report.specs.Rows.{report_rows}
@@ -67,6 +69,7 @@ octets_of (product.Report layout) from slots orders records =
 octets_of (product.Chart view) from slots orders records =
     chart_text slots view (orders_of_run orders records) records (map reading_of_record records)
 octets_of (product.Orders cell) from slots orders records = orders_in cell records
+octets_of (product.Link start) from slots orders records = run_link start records
 
 -- what is written for the octets that were read: they are a book, or a network book whose group has one, and this is
 -- what is made of its run, and nothing else
@@ -107,3 +110,7 @@ IsChartedFrom from slots view = IsOutput (product.Chart view) from slots 1
 -- what `warnc orders` writes of a run: what one cell was ordered and answered
 abbrev pub IsOrderedFrom : (from : Origin) (slots : ℕ) → Cell → (input output : List ℕ) → Type 0
 IsOrderedFrom from slots cell = IsOutput (product.Orders cell) from slots 1
+
+-- what `warnc link` writes, where slot 0 begins at this time
+abbrev pub IsLinkedFrom : (from : Origin) (slots : ℕ) → LinkStart → (input output : List ℕ) → Type 0
+IsLinkedFrom from slots start = IsOutput (product.Link start) from slots 1

@@ -13,6 +13,7 @@ use Rattle.book_runs.specs.Live.{IsLiveRun}
 use Rattle.book_runs.specs.Run.{Exchange}
 use Rattle.chart.specs.ChartText.{chart_part, chart_text}
 use Rattle.parallel_compile.specs.declared.fault.CompileFault.TheVariants as compile
+use Rattle.record_link.specs.Sent.{run_link}
 use Rattle.record_orders.specs.Ordered.{orders_in}
 use Rattle.report.specs.ReportText.{text_with}
 use Rattle.report.specs.Sources.{Orders}
@@ -91,6 +92,7 @@ octets_of_text (text.Chart view) slots orders records =
 octets_of_text (text.ChartPart group last view) slots orders records =
     chart_part slots group last view orders records (map reading_of_record records)
 octets_of_text (text.Orders cell) slots orders records = orders_in cell records
+octets_of_text (text.Link start) slots orders records = run_link start records
 
 -- this is such a text of such a run
 pub record IsTextOf (made : Text) (book : Contents) (slots parts : ℕ) (octets : List ℕ) : Type 0 where

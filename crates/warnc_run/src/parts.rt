@@ -102,6 +102,7 @@ impl NetworkRun<'_> {
             Product::Report(layout) => Text::Report(layout, group == 0),
             Product::Chart(view) => Text::ChartPart(group, group + 1 == self.groups, view),
             Product::Orders(cell) => Text::Orders(cell),
+            Product::Link(start) => Text::Link(start),
         }
     }
 
@@ -159,7 +160,7 @@ impl NetworkRun<'_> {
     {
         match self.made {
             Product::Tapes => self.tapes_part(rt, group),
-            Product::Report(_) | Product::Chart(_) | Product::Orders(_) => {
+            Product::Report(_) | Product::Chart(_) | Product::Orders(_) | Product::Link(_) => {
                 self.text_part(rt, group)
             }
         }
@@ -253,7 +254,7 @@ fn groups_at_once(made: Product, workers: Workers) -> u16
     let each = workers.number as u16;
     match made {
         Product::Tapes => each,
-        Product::Report(_) | Product::Chart(_) | Product::Orders(_) => 8 * each,
+        Product::Report(_) | Product::Chart(_) | Product::Orders(_) | Product::Link(_) => 8 * each,
     }
 }
 

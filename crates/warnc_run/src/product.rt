@@ -14,6 +14,7 @@ use alert_book::Origin;
 use cbsp_wire::Cell;
 use chart::View;
 use device_ends::{Sink, Source};
+use gsmtap::Start;
 use order_desk::Gate;
 use report::Layout;
 use std::alloc::AllocGlobal;
@@ -33,6 +34,9 @@ pub enum Product {
     Chart(View),
     /// The orders file of one cell: what it was ordered and answered, as CSV. It is empty if the run has no such cell.
     Orders(Cell),
+    /// The link between a broadcast centre and a base station controller, as a capture that begins at this time: each
+    /// cell is ordered by itself what it was ordered in the run.
+    Link(Start),
 }
 
 /// Why nothing, or not all, is written.
@@ -67,8 +71,9 @@ impl From<RunFault> for ProductFault {
 ///
 /// The book's sessions order at a desk as [`live_stream`](crate::live_stream) says. What was written is what the octets
 /// mean (`IsMadeBy`): the tapes of the cells; or the report of what became of each order, or the chart of it, by the
-/// settled desk's records and by what handsets read of their tapes; or the orders file of a cell, by its record. It does
-/// not depend on the number of workers. `gate` is called while a cell is held, but not for the groups of a network.
+/// settled desk's records and by what handsets read of their tapes; or the orders file of a cell, or the link, by these
+/// records. It does not depend on the number of workers. `gate` is called while a cell is held, but not for the groups
+/// of a network.
 ///
 /// # Errors
 ///
@@ -99,7 +104,7 @@ pub fn run_product<T: AllocGlobal + Threads + Wait + Sync, R: Read, W: Write, G:
         Books::EachGroup => write_network(rt, source, sink, run, made),
         Books::One(origin) => match made {
             Product::Tapes => write_tapes(rt, source, sink, origin, run, gate),
-            Product::Report(_) | Product::Chart(_) | Product::Orders(_) => {
+            Product::Report(_) | Product::Chart(_) | Product::Orders(_) | Product::Link(_) => {
                 write_text_from(rt, source, sink, origin, run, made, gate)
             }
         },

@@ -1,4 +1,5 @@
-//! The texts that are made of a run: the report of its cells, their chart, and the orders file of one of them.
+//! The texts that are made of a run: the report of its cells, their chart, the orders file of one of them,
+//! and the link to them.
 
 ghost use Rattle.std.specs.Prelude.{◌≡◌, ◌≤◌, ◌++◌, ℕ, List, length, map, All, IfErr, IfOk, OnOk};
 ghost use Rattle.cbsp_wire.specs.Range.{max_listed};
@@ -25,9 +26,11 @@ use bsc_table::CellRecord;
 use cbsp_wire::Cell;
 use chart::{View, chart_octets, part_octets};
 use device_ends::{Failed, Sink, Source, write_all};
+use gsmtap::Start;
 use handset::{Reading, read_tape};
 use order_desk::{Gate, Open};
 use parallel_compile::compile_all;
+use record_link::run_link;
 use record_orders::orders_in;
 use report::{BookOrders, Columns, Layout, ReportFault, Row, text_with};
 use std::alloc::{AllocGlobal, Global};
@@ -46,6 +49,8 @@ pub(crate) enum Text {
     ChartPart(u16, bool, View),
     /// The orders file of this cell.
     Orders(Cell),
+    /// The capture of the link, which begins at this time.
+    Link(Start),
 }
 
 /// Reads a book, or the book of a group, and writes the text of its run. Nothing is written before all of it is made.
@@ -89,6 +94,7 @@ pub(crate) fn text_of_product(made: Product, origin: Origin) -> Text
         Product::Report(layout) => Text::Report(layout, is_headed(origin)),
         Product::Chart(view) => Text::Chart(view),
         Product::Orders(cell) => Text::Orders(cell),
+        Product::Link(start) => Text::Link(start),
     }
 }
 
@@ -127,8 +133,8 @@ pub(crate) fn text_of_book<T: AllocGlobal + Threads + Wait + Sync, G: Gate>(
     Ok(octets)
 }
 
-/// The orders of a book, and which of them asked each cell of its run: none for a plain report and for an orders file,
-/// which name no order of it.
+/// The orders of a book, and which of them asked each cell of its run: none for a plain report, an orders file and a
+/// link, which name no order of it.
 pub(crate) fn orders_for(
     alloc: Global,
     text: Text,
@@ -145,7 +151,7 @@ pub(crate) fn orders_for(
             Columns::Plain => Ok(BookOrders::none(alloc)),
         },
         Text::Chart(_) | Text::ChartPart(..) => Ok(orders_of_run(alloc, orders, records)?),
-        Text::Orders(_) => Ok(BookOrders::none(alloc)),
+        Text::Orders(_) | Text::Link(_) => Ok(BookOrders::none(alloc)),
     }
 }
 
@@ -194,6 +200,10 @@ pub(crate) fn text_of_records<T: AllocGlobal + Threads + Wait + Sync>(
         }
         Text::Orders(cell) => {
             let octets = orders_in(rt.alloc(), cell, records)?;
+            Ok(octets)
+        }
+        Text::Link(start) => {
+            let octets = run_link(rt.alloc(), start, records)?;
             Ok(octets)
         }
     }
