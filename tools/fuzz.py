@@ -75,10 +75,10 @@ TOP = os.path.dirname(os.path.dirname(os.path.realpath(__file__)))
 PROGRAM = os.path.join(TOP, "crates", "warnc", "out", "warnc")
 SEEDS = os.path.join(TOP, "tools", "fuzz")
 COMMANDS = ("plan", "check", "texts", "page", "read", "whole", "compile", "live", "report", "chart", "verify", "pcap",
-            "cells", "tape", "orders")
+            "cells", "tape", "orders", "link")
 OF_BOOKS = ("compile", "live", "report", "chart")
 # an option without which clap refuses a command
-NEEDED = {"page": "--lang", "tape": "--cell", "orders": "--cell", "verify": "--slots",
+NEEDED = {"page": "--lang", "tape": "--cell", "orders": "--cell", "verify": "--slots", "link": "--slots",
           **dict.fromkeys(OF_BOOKS, "--slots")}
 MEBI = 1 << 20
 # seconds that a run may take
@@ -128,7 +128,8 @@ FAULTS = {"page": TEXT_FAULT + "|text is not UTF-8|text is too long", "read": TA
                     rf"|before the tape begins: use --first-slot [1-9]\d*)|{ROW_FAULT}",
           "cells": rf"not a capture file|{LINK_FAULT}"
                    rf"|packet [1-9]\d*: (?:{LINK_FAULT}|capture is short|wrong block)",
-          "verify": rf"{ROW_FAULT}|{TAPE_FAULT}|differences: [1-9]\d*", **dict.fromkeys(OF_BOOKS, ROW_FAULT),
+          "verify": rf"{ROW_FAULT}|{TAPE_FAULT}|differences: [1-9]\d*",
+          **dict.fromkeys((*OF_BOOKS, "link"), ROW_FAULT),
           "check": rf"row 0: too many rows|(?:faults|remarks): [1-9]\d*|{NO_GROUP}",
           "texts": rf"{ROW_FAULT}|{NO_GROUP}",
           "plan": r"plan is too long|row [1-9]\d*(?:, [A-Z]+)?: .+"}
@@ -554,6 +555,14 @@ def is_capture(out):
     return out[:4] == b"\xd4\xc3\xb2\xa1" and (len(out) - 24) % (16 + 67) == 0
 
 
+def is_link(out):
+    """Whether an output is a capture file of segments of TCP, each whole."""
+    place = 24
+    while place < len(out) and out[place + 16:place + 17] == b"\x45" and out[place + 25:place + 26] == b"\6":
+        place += 16 + int.from_bytes(out[place + 8:place + 12], "little")
+    return out[:4] == b"\xd4\xc3\xb2\xa1" and place == len(out)
+
+
 def is_shown(run, out):
     """Whether an output is that of `page`: 4 to 60 blocks, and the text that was given."""
     text = run.data.removesuffix(b"\n")
@@ -599,7 +608,7 @@ def is_output(run, out):
              "verify": lambda: differences_in(out) == 0,
              "plan": lambda: is_of_plan(run, out),
              "check": lambda: is_of_check(run, out), "texts": lambda: is_of_texts(run, out),
-             "pcap": lambda: is_capture(out), "cells": lambda: is_of_cells(out),
+             "pcap": lambda: is_capture(out), "link": lambda: is_link(out), "cells": lambda: is_of_cells(out),
              "orders": lambda: is_of_orders(run, out), "whole": lambda: len(out) == len(run.data),
              "tape": lambda: len(out) == gsm.size_of_tape(run.number("--slots", int.from_bytes(out[4:8])))}
     return forms.get(run.command(), lambda: is_tapes(run, out))()
@@ -1381,7 +1390,10 @@ def tape_options(chance, command):
 
 
 def rows_options(chance, command, data):
-    """Returns the options of `check` and `texts`; `plan` has none."""
+    """Returns the options of `check`, `texts` and `link`; `plan` has none."""
+    if command == "link":
+        starts = {"--start": chance.choice(STARTS)} if chance.random() < 0.5 else {}
+        return {**book_options(chance, command, data), **starts}
     if command == "plan" or chance.random() < 0.5:
         return {}
     network = {"--network": None} if chance.random() < 0.5 else {"--group": chance.choice(("0", "1", "1023", "65535"))}
@@ -1472,7 +1484,7 @@ SIZES = {"workers": (2, 3, 4, 4, 64), "sessions": (2, 2, 3, 64), "pieces": (1, 2
          "devices": (1, 7, 8, 9, 92, 100, 192, 4096, 8192, 20_000), "verify": (1, 2, 4), "captures": (51, 52)}
 # kibioctets over the floor
 SPARES = (0, 1, 4, 16, 64, 256, 1024, 4096, 16384, 98304)
-COMMANDS_OF = {"book": (*OF_BOOKS, "verify"), "rows": ("plan", "check", "texts", "orders"),
+COMMANDS_OF = {"book": (*OF_BOOKS, "verify"), "rows": ("plan", "check", "texts", "orders", "link"),
                "tape": ("read", "whole", "pcap"), "text": ("page",), "capture": ("tape", "cells", "orders")}
 MAKERS = {"book": some_book, "rows": some_book, "tape": some_tapes, "text": some_text, "capture": some_capture}
 

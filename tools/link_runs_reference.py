@@ -7,7 +7,12 @@ Usage: link_runs_reference.py PROGRAM [RUNS]    random books, 300 if no number i
                                                 the program makes of the book. Of the capture of both `tape` has to be
                                                 the book's tape, `orders` the orders and answers, as of the book itself,
                                                 and `verify --orders` without a row; and of a tape that is spoilt it has
-                                                to say what orders_verdict_reference.py says. PROGRAM is a built `warnc`
+                                                to say what orders_verdict_reference.py says. `link` has to write such
+                                                messages of all cells, and merged with the air to give the same back.
+                                                Of some runs tshark has to show them without a fault, and of all
+                                                libosmogsm to read them and to write them again, where these are there;
+                                                but for failures, whose lists libosmogsm 1.7.0 reads wrong.
+                                                PROGRAM is a built `warnc`
        link_runs_reference.py --help            prints this
 
 What a cell answered, and how many broadcasts were over by then, is taken from `warnc report`. Of cells in which a
@@ -19,12 +24,15 @@ import csv
 import dataclasses
 import io
 import random
+import shutil
+import subprocess
 import sys
 import tempfile
 
 import gsm
 from capture_files import packets_of as packets_in
-from link_session import SLOT, answer_of, capture_of, coding_of, message_of, packets_of, page
+from link_reference import NOT_KILLED, NOT_WRITTEN, peer_in, said_by
+from link_session import SLOT, answer_of, capture_of, coding_of, link_of, message_of, packets_of, page
 from orders_verdict_reference import Order, line_of, rows_of, table_of
 from random_runs import judged
 from report_reference import NOT_LIVE, Lines, random_book, run
@@ -33,6 +41,8 @@ from report_reference import NOT_LIVE, Lines, random_book, run
 START, BEGIN, LATE = "2026-01-01T00:00:00Z", 1767225600 * 10 ** 6, 400_000
 # a message that is live in a cell: its serial number, and how many broadcasts are whole by its end
 Live = collections.namedtuple("Live", "serial completed")
+# all messages of links, in hexadecimal, but failures
+SENT = set()
 # an order to a cell, the serial number that it replaces, and the answer: a cause, or how many broadcasts are over
 Exchange = collections.namedtuple("Exchange", "slot order replaced cause done")
 
@@ -87,6 +97,13 @@ def messages_of(exchanges, cell):
         messages += [(at, False, message_of(it.order, it.replaced)),
                      (at + 1, True, answer_of(it.order, cell, it.cause, it.done, it.replaced))]
     return messages
+
+
+def sent_of(exchanges, cell):
+    """Returns the messages of a cell's exchanges, each as link_of takes it."""
+    return [(it.slot, is_answer, octets) for it in exchanges
+            for is_answer, octets in ((False, message_of(it.order, it.replaced)),
+                                      (True, answer_of(it.order, cell, it.cause, it.done, it.replaced)))]
 
 
 def row_of(exchange):
@@ -156,6 +173,42 @@ def judge_cell(program, rng, cell, blocks, exchanges, counts):
             yield f"of a spoilt tape it says {found}, and not {wanted}"
 
 
+def faults_of_link(program, rng, air, cells, capture):
+    """Yields what is wrong of what `link` writes, as the messages of the cells and their orders files say it: cells are
+    these by their names, and the air is the capture of their tapes."""
+    SENT.update(octets.hex() for sent, _ in cells.values() for *_, octets in sent
+                if octets[0] not in (NOT_WRITTEN, NOT_KILLED))
+    if capture != link_of([sent for sent, _ in cells.values()], BEGIN):
+        yield "the link has other octets"
+    messages = [(time // 1000, octets) for _, _, time, octets in packets_in(capture)]
+    both = capture_of(messages + [(time // 1000, octets) for _, _, time, octets in packets_in(air)])
+    for (lac, ci), (_, wanted) in cells.items():
+        source = ".".join(map(str, (*divmod(lac, 256), *divmod(ci, 256))))
+        found = run(program, ["orders", "--cell", f"{lac}-{ci}", "--from", source], both).stdout
+        if found != wanted:
+            yield f"orders of the link and the air are {found}, and not {wanted}"
+    if rng.random() < 0.1 and messages and shutil.which("tshark"):
+        shown = shown_by_tshark(capture)
+        if shown != [1] * sum(len(sent) for sent, _ in cells.values()):
+            yield f"tshark shows {shown}"
+
+
+def shown_by_tshark(capture):
+    """Returns how often tshark shows a message of the link in each packet that has octets; a packet with a fault, as a
+    wrong checksum, has 0."""
+    fields = "tcp.len cbsp.msg_type tcp.checksum.status ip.checksum.status _ws.expert _ws.malformed".split()
+    words = [it for name in fields for it in ("-e", name)]
+    checks = [it for name in ("tcp.check_checksum", "ip.check_checksum") for it in ("-o", f"{name}:TRUE")]
+    with tempfile.NamedTemporaryFile() as file:
+        file.write(capture)
+        file.flush()
+        command = ["tshark", "-r", file.name, *checks, "-T", "fields", *words]
+        said = subprocess.run(command, capture_output=True, check=True).stdout
+    lines = [it.split("\t") for it in said.decode().splitlines()]
+    return [len(kind.split(",")) if (tcp, ip, fault) == ("1", "1", "") and kind else 0
+            for size, kind, tcp, ip, _, fault in lines if size != "0"]
+
+
 def differs(program, seed, counts):
     """Whether something of a run isn't what it has to be; prints what."""
     rng = random.Random(seed)
@@ -163,6 +216,7 @@ def differs(program, seed, counts):
     slots = rng.randrange(8, 60)
     report, tapes = (run(program, [it, "--slots", str(slots)], text.encode()) for it in ("report", "compile"))
     lines, wrong = list(csv.reader(io.StringIO(report.stdout.decode())))[1:], []
+    cells = {}
     for lac, ci, blocks in gsm.tapes_of(tapes.stdout):
         cell = Cell((lac, ci), [it for it in lines if it[:2] == [str(lac), str(ci)]], slots)
         exchanges = [cell.exchange(it) for it in orders if cell.is_asked(it)]
@@ -171,17 +225,35 @@ def differs(program, seed, counts):
         found = run(program, words, text.encode()).stdout
         if found != wanted:
             wrong.append(f"orders of the book are {found}, and not {wanted}")
+        cells[lac, ci] = sent_of(exchanges, (lac, ci)), wanted
         counts.update(waits=cell.waits)
         if not cell.waits:
             wrong += judge_cell(program, rng, (lac, ci), blocks, exchanges, counts)
+    air = run(program, ["pcap", "--start", START], tapes.stdout).stdout
+    link = run(program, ["link", "--slots", str(slots), "--start", START], text.encode()).stdout
+    wrong += faults_of_link(program, rng, air, cells, link)
     if wrong:
         print(f"link_runs_reference: run {seed}: {wrong[0]}")
     return bool(wrong)
 
 
+def is_read_by_peer(octets):
+    """Whether libosmogsm reads messages and writes them again as they were; prints where it doesn't."""
+    with tempfile.TemporaryDirectory() as folder:
+        peer = peer_in(folder)
+        if peer is None:
+            return True
+        wrong = [it for it, again in zip(octets, said_by(peer, "write", said_by(peer, "read", octets))) if it != again]
+    for it in wrong[:1]:
+        print(f"link_runs_reference: libosmogsm reads otherwise: {it}")
+    return not wrong
+
+
 def main(words):
     counts = collections.Counter()
     status = judged("link_runs_reference", __doc__, words, lambda *it: differs(*it, counts), 300)
+    if SENT and not is_read_by_peer(sorted(SENT)):
+        status = 1
     if counts:
         print(f"link_runs_reference: {counts['cells']} cells with {counts['orders']} orders, and {counts['waits']} "
               f"where a message waits; {counts['spoilt']} tapes were spoilt, and in {counts['found']} that is found")

@@ -5,10 +5,11 @@ It is a plain reading of docs/formats.md, as books.py is, and shares nothing wit
 """
 import csv
 import dataclasses
+import struct
 
 import gsm
 from books import COLUMNS, Alert, Order, Sending
-from capture_files import TCP, file_header, internet, packet, segment
+from capture_files import TCP, file_header, internet, ones_sum, packet, segment
 
 WRITE, KILL, RESET, KEEP_ALIVE = 0x01, 0x04, 0x10, 0x16
 # how a list names its cells: by LAC and CI, or as all of the controller
@@ -21,7 +22,9 @@ VALID = b"\0"
 SLOT = 408 * 60_000 // 13
 # addresses and ports of a centre and of a controller in a capture, and flags of TCP
 CENTRE, CONTROLLER = (b"\x0a\0\0\1", 40000), (b"\x0a\0\0\2", 48049)
-SYN, DATA = 0x02, 0x18
+SYN, ACK, DATA = 0x02, 0x10, 0x18
+# parts of a microsecond in a slot, of which a microsecond has 13
+PARTS = 24_480_000
 
 
 # ---- orders
@@ -146,3 +149,40 @@ def capture_of(packets):
     """Returns a capture of packets of IPv4, each after its microsecond, in the order of time."""
     return file_header() + b"".join(packet(octets, divmod(at, 10 ** 6))
                                      for at, octets in sorted(packets, key=lambda it: it[0]))
+
+
+# ---- the capture that `warnc link` writes
+
+def checked(place, is_answer, numbers, flags, octets):
+    """Returns a packet of IPv4 with a segment of TCP on the connection of a place, with its checksum: numbers are that
+    of its first octet and that of the octet that is awaited."""
+    ends = (CENTRE[0], CENTRE[1] + place), CONTROLLER
+    (source, port), (target, other) = ends[::-1 if is_answer else 1]
+    head = struct.pack(">HHIIBB", port, other, *(it % 2 ** 32 for it in numbers), 0x50, flags)
+    around = source + target + struct.pack(">HH", TCP, 20 + len(octets))
+    whole = head + struct.pack(">HHH", 65535, 0, 0) + octets
+    check = ones_sum(around + whole + b"\0" * (len(whole) % 2)) ^ 0xFFFF
+    return internet(source, target, 0, head + struct.pack(">HHH", 65535, check, 0) + octets, TCP)
+
+
+def opened(place):
+    """Returns the packets that open a connection."""
+    return [checked(place, False, (0, 0), SYN, b""), checked(place, True, (0, 1), SYN | ACK, b""),
+            checked(place, False, (1, 1), ACK, b"")]
+
+
+def link_of(cells, begin):
+    """Returns the capture of a link that begins at a microsecond: of each cell its messages, in the order of cells,
+    each as its slot, whether it is an answer, and its octets."""
+    found = [file_header()]
+    for place, messages in enumerate(cells):
+        packets, numbers = [], [1, 1]
+        for slot, is_answer, octets in messages:
+            when = divmod(begin - slot * PARTS // -13, 10 ** 6)
+            if not packets:
+                packets = [packet(it, when) for it in opened(place)]
+            ways = numbers[is_answer], numbers[not is_answer]
+            packets.append(packet(checked(place, is_answer, ways, DATA, octets), when))
+            numbers[is_answer] += len(octets)
+        found += packets
+    return b"".join(found)

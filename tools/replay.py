@@ -52,6 +52,8 @@ def orders_in(capture, bsc=None):
         raise Refused("several controllers: --bsc takes one")
     if None in (it.time for it in sent):
         raise Refused("no time")
+    # a link has a connection for each cell, one after the other, as `warnc link` writes it
+    sent.sort(key=lambda it: it.time)
     return [((it.time - sent[0].time) / SECOND, it.octets) for it in sent]
 
 

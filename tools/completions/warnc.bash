@@ -12,7 +12,7 @@ _warnc() {
     # after an option without a value comes another option
     case $before in --network | --strict | --full | --short | --explain | --lag | --used | --all | --packets) before= ;; esac
     if [ "$COMP_CWORD" -eq 1 ]; then
-        words="plan check texts compile report chart read verify page live pcap cells tape orders whole groups help -h --help -V --version"
+        words="plan check texts compile report chart read verify page live pcap cells tape orders link whole groups help -h --help -V --version"
     else
         case ${COMP_WORDS[1]}$before in
         texts--pages) words="1 2 3 4 5 6 7 8 9 10 11 12 13 14 15" ;;
@@ -46,9 +46,10 @@ _warnc() {
             cells) words="-h --help" ;;
             tape) words="--cell --all --cells --slots --first-slot --from --arfcn --channel -h --help" ;;
             orders) words="--cell --bsc --first-slot --from --arfcn --channel --packets --slots --group --workers -h --help" ;;
+            link) words="--slots --start --workers -h --help" ;;
             whole) words="-h --help" ;;
             groups) words="-h --help" ;;
-            help) words="plan check texts compile report chart read verify page live pcap cells tape orders whole groups" ;;
+            help) words="plan check texts compile report chart read verify page live pcap cells tape orders link whole groups" ;;
             esac
             ;;
         esac

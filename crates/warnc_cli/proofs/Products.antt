@@ -17,6 +17,7 @@ use Rattle.device_ends.specs.Stream.{Writes}
 use Rattle.device_ends.specs.declared.reading.Source.{Source}
 use Rattle.device_ends.specs.declared.writing.Sink.{Sink}
 use Rattle.parallel_compile.specs.declared.fault.CompileFault.TheVariants as compile
+use Rattle.record_link.proofs.SomeLink.{some_link}
 use Rattle.report.specs.ReportText.{text_by, text_with}
 use Rattle.report.specs.declared.row.Columns.{Columns}
 use Rattle.report.specs.declared.row.Columns.TheVariants as columns
@@ -90,6 +91,7 @@ some_of_group r (product.Report layout) slots groups orders records always =
 some_of_group r (product.Chart wanted) slots groups orders records always =
     some_part slots _ wanted (orders_of_run orders records) records _
 some_of_group r (product.Orders cell) slots groups orders records always = absurd always
+some_of_group r (product.Link start) slots groups orders records always = some_link start records
 
 -- and so has what is made of any books
 pub some_of_book : (b : Books) (made : Product) (slots parts : ℕ) (input output : List ℕ)
@@ -113,6 +115,8 @@ some_of_book (books.One (origin.Group group)) (product.Chart wanted) slots parts
 some_of_book (books.One origin.Book) (product.Orders cell) slots parts input output is r same always = absurd always
 some_of_book (books.One (origin.Group group)) (product.Orders cell) slots parts input output is r same always =
     absurd always
+some_of_book (books.One from) (product.Link start) slots parts input output is r same always =
+    subst (λ (octets : List ℕ). 0 < length octets) (sym is.written) (some_link start is.records)
 some_of_book books.EachGroup made slots sessions input output is r same always =
     subst (λ (octets : List ℕ). 0 < length octets) (sym is.written) (by_parts is.parts is.as_many is.each)
   where

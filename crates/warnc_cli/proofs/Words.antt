@@ -119,6 +119,7 @@ writes_some words (task.Make run (product.Report layout)) asked compile live who
 writes_some words (task.Make run (product.Chart wanted)) asked compile live whole plan orders report = tt
 writes_some words (task.Make run (product.Orders cell)) asked compile live whole plan orders report =
     absurd (orders asked.made_given.0)
+writes_some words (task.Make run (product.Link start)) asked compile live whole plan orders report = tt
 writes_some words (task.Strict run product.Tapes) asked compile live whole plan orders report =
     absurd (of_tapes words run.sessions.number asked.made_given compile live)
 writes_some words (task.Strict run (product.Report layout)) asked compile live whole plan orders report =
@@ -126,6 +127,7 @@ writes_some words (task.Strict run (product.Report layout)) asked compile live w
 writes_some words (task.Strict run (product.Chart wanted)) asked compile live whole plan orders report = tt
 writes_some words (task.Strict run (product.Orders cell)) asked compile live whole plan orders report =
     absurd (orders asked.made_given.0)
+writes_some words (task.Strict run (product.Link start)) asked compile live whole plan orders report = tt
 writes_some words (task.Verify from slots pages layout file workers) asked compile live whole plan orders report = tt
 writes_some words (task.VerifyOrders cell terms file) asked compile live whole plan orders report = tt
 writes_some words (task.Page language id serial form) asked compile live whole plan orders report = tt

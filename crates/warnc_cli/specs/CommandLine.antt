@@ -362,6 +362,8 @@ GivesProduct words (product.Chart view) sessions =
     (slice_get words 1 ≡ Some (codes "chart")) × (sessions ≡ 1) × GivesView words view
 GivesProduct words (product.Orders cell) sessions =
     (slice_get words 1 ≡ Some (codes "orders")) × (sessions ≡ 1) × GivesCell words cell
+GivesProduct words (product.Link start) sessions =
+    (slice_get words 1 ≡ Some (codes "link")) × (sessions ≡ 1) × GivesStart words start
 
 -- the words ask for this to be made of such a run
 pub record AsksForRun (words : List (List ℕ)) (run : Run) (made : Product) : Type 0 where

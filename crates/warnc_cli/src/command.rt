@@ -97,7 +97,7 @@ pub enum Task<'a> {
         /// For how many pages each text is cut.
         pages: Option<u16>,
     },
-    /// `compile`, `live`, `report`, `chart`, or `orders` of a book.
+    /// `compile`, `live`, `report`, `chart`, `link`, or `orders` of a book.
     Make {
         /// Which books are run, and how.
         run: Run,
@@ -186,6 +186,11 @@ fn task_in<'a, S: AsStr>(words: &'a [S]) -> Option<Task<'a>>
         "chart" => run_in(
             words,
             Product::Chart(view_in(words)?),
+            Sessions { number: 1 },
+        ),
+        "link" => run_in(
+            words,
+            Product::Link(start_in(words)?),
             Sessions { number: 1 },
         ),
         "verify" => verify_in(words),

@@ -80,9 +80,12 @@ fn with_captures<'a>(alloc: Global, command: Command<'a>) -> Result<Command<'a>,
         .subcommand(orders(alloc)?)
 }
 
-/// Adds the last two.
+/// Adds the last three.
 fn with_networks<'a>(alloc: Global, command: Command<'a>) -> Result<Command<'a>, AllocError> {
-    command.subcommand(whole(alloc))?.subcommand(groups(alloc))
+    command
+        .subcommand(link(alloc)?)?
+        .subcommand(whole(alloc))?
+        .subcommand(groups(alloc))
 }
 
 /// The command line of `compile`.
@@ -314,6 +317,18 @@ fn of_run<'a>(alloc: Global, command: Command<'a>) -> Result<Command<'a>, AllocE
         .arg(ordered_slots(alloc)?)?
         .arg(group(alloc).requires_arg("slots")?)?
         .arg(workers(alloc).requires_arg("slots")?)
+}
+
+/// The command line of `link`.
+fn link<'a>(alloc: Global) -> Result<Command<'a>, AllocError> {
+    Command::new(alloc, "link")
+        .about(
+            "Reads a book of alerts, as CSV, and writes what its cells are ordered\nand answer as a capture file of the link between a cell broadcast centre\nand a base station controller",
+        )
+        .after_help("Example: warnc link --slots 4096 < book.csv > link.pcap")
+        .arg(slots(alloc))?
+        .arg(link_start(alloc))?
+        .arg(workers(alloc))
 }
 
 /// The command line of `whole`.
@@ -702,6 +717,16 @@ fn start<'a>(alloc: Global) -> Arg<'a> {
         "start",
         "TIME",
         "When the first slot begins, as 2026-11-28T20:00:00Z,\nso that the capture can be merged with others [1970]",
+    )
+}
+
+/// The option of the time at which the capture of a link begins.
+fn link_start<'a>(alloc: Global) -> Arg<'a> {
+    optional(
+        alloc,
+        "start",
+        "TIME",
+        "When slot 0 begins, as 2026-11-28T20:00:00Z, so that\nthe capture can be merged with that of the air [1970]",
     )
 }
 

@@ -13,6 +13,8 @@ mod checks;
 #[cfg(test)]
 mod groups;
 #[cfg(test)]
+mod links;
+#[cfg(test)]
 mod malformed;
 #[cfg(test)]
 mod malformed_table;

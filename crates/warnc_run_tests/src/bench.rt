@@ -6,6 +6,7 @@ use cbsp_wire::Cell;
 use chart::{Language, View, Wording};
 use device_ends::memory::{MemoryReader, MemoryWriter};
 use device_ends::{Sink, Source, write_all};
+use gsmtap::Start as LinkStart;
 use report::{Columns, Layout};
 use slot_times::Start;
 use std::alloc::Global;
@@ -50,6 +51,12 @@ const TIMES: Layout = Layout {
 /// The cell 1-1.
 const CELL: Cell = Cell { lac: 1, ci: 1 };
 
+/// The begin of 1970.
+const BEGIN: LinkStart = LinkStart {
+    second: 0,
+    microsecond: 0,
+};
+
 /// What is called.
 #[derive(Clone, Copy, PartialEq, Eq)]
 enum Engine {
@@ -74,6 +81,7 @@ impl Engine {
             "times" => Engine::Product(Books::One(Origin::Book), Product::Report(TIMES)),
             "chart" => Engine::Product(Books::One(Origin::Book), Product::Chart(WHOLE)),
             "orders" => Engine::Product(Books::One(Origin::Book), Product::Orders(CELL)),
+            "link" => Engine::Product(Books::One(Origin::Book), Product::Link(BEGIN)),
             "network-orders" => Engine::Product(Books::EachGroup, Product::Orders(CELL)),
             "network-tapes" => Engine::Product(Books::EachGroup, Product::Tapes),
             "network-report" => Engine::Product(Books::EachGroup, Product::Report(PLAIN)),

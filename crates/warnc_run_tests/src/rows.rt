@@ -13,7 +13,7 @@
 //! The calls:
 //!
 //! - `compile SLOTS WORKERS -> done`, or the fault; `live SLOTS SESSIONS WORKERS -> done`; `records`, `report`, `full`
-//!   (the full report), `times` (that with times), `chart`, `orders` (of the cell 1-1), `network-tapes`,
+//!   (the full report), `times` (that with times), `chart`, `orders` (of the cell 1-1), `link`, `network-tapes`,
 //!   `network-report`, `network-full`, `network-times`, `network-chart` and `network-orders` with the numbers of
 //!   `compile`;
 //! - `meet SLOTS SESSIONS WORKERS -> done, in both cells at once`: threads wait for each other in two cells;
@@ -140,6 +140,7 @@ fn done<T: AllocGlobal + Threads + Wait + Sync>(
         | "times"
         | "chart"
         | "orders"
+        | "link"
         | "network-orders"
         | "network-tapes"
         | "network-report"

@@ -106,7 +106,7 @@ chart 2 2 -> done
 all -> worked
 ";
 
-/// The orders file of a cell.
+/// The orders file of a cell, and the link.
 const ORDERS: &str = "
 in cell,1,1
 in write,0,a,4370,0,1,en,2,2,0,1-1,@
@@ -120,6 +120,20 @@ all -> worked
 scarce 150 network-orders 2 1 -> refused; done
 all -> worked
 scarce-threads 150 orders 2 2 -> refused; done
+all -> worked
+# SYN, SYN with ACK, ACK, the order and its answer
+worked d4c3b2a1020004000000000000000000ffff0000e4000000000000000000000028000000280000004500002800000000400666ce
+worked 0a0000010a0000029c40bbb100000000000000005002ffff43ee0000000000000000000028000000280000004500002800000000
+worked 400666ce0a0000020a000001bbb19c4000000000000000015012ffff43dd00000000000000000000280000002800000045000028
+worked 00000000400666ce0a0000010a0000029c40bbb100000001000000015010ffff43de000000000000000000009c0000009c000000
+worked 4500009c000000004006665a0a0000010a0000029c40bbb100000001000000015018ffff1b410000010000700e11120300100400
+worked 0501000100011200050206000207000013010c0101018046a3d168341a8d46a3d168341a8d46a3d168341a8d46a3d168341a8d46
+worked a3d168341a8d46a3d168341a8d46a3d168341a8d46a3d168341a8d46a3d168341a8d46a3d168341a8d46a3d168341a8d46a3d100
+worked 00000000000000003c0000003c0000004500003c00000000400666ba0a0000020a000001bbb19c4000000001000000755018ffff
+worked 06170000020000100e111203001004000501000100011200
+scarce 150 link 2 1 -> refused; done
+all -> worked
+scarce-threads 150 link 2 2 -> refused; done
 all -> worked
 ";
 
@@ -240,7 +254,7 @@ fn refused_memory_is_reported_by_charts(rt: HostRuntime) -> Result<(), Fail> {
 }
 
 #[test]
-fn refused_memory_is_reported_by_orders(rt: HostRuntime) -> Result<(), Fail> {
+fn refused_memory_is_reported_by_orders_and_links(rt: HostRuntime) -> Result<(), Fail> {
     expect_rows(&rt, ORDERS)
 }
 
