@@ -115,7 +115,9 @@ some_of_book (books.One (origin.Group group)) (product.Chart wanted) slots parts
 some_of_book (books.One origin.Book) (product.Orders cell) slots parts input output is r same always = absurd always
 some_of_book (books.One (origin.Group group)) (product.Orders cell) slots parts input output is r same always =
     absurd always
-some_of_book (books.One from) (product.Link start) slots parts input output is r same always =
+some_of_book (books.One origin.Book) (product.Link start) slots parts input output is r same always =
+    subst (λ (octets : List ℕ). 0 < length octets) (sym is.written) (some_link start is.records)
+some_of_book (books.One (origin.Group group)) (product.Link start) slots parts input output is r same always =
     subst (λ (octets : List ℕ). 0 < length octets) (sym is.written) (some_link start is.records)
 some_of_book books.EachGroup made slots sessions input output is r same always =
     subst (λ (octets : List ℕ). 0 < length octets) (sym is.written) (by_parts is.parts is.as_many is.each)
