@@ -20,7 +20,7 @@ import tempfile
 TOP = os.path.dirname(os.path.dirname(os.path.realpath(__file__)))
 TEXTS = ("README.md", "docs/planning.md", "docs/usage.md", "docs/cap.md", "docs/real-equipment.md", "docs/warnc.1")
 # what not every machine has, and commands that run it
-NEEDS = {"tshark": "tshark", "xxd": "xxd", "cluster/parallel.sh": "parallel"}
+NEEDS = {"tshark": "tshark", "mergecap": "mergecap", "xxd": "xxd", "cluster/parallel.sh": "parallel"}
 SECONDS = 100
 
 
