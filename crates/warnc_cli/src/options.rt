@@ -797,16 +797,21 @@ fn ordered_cell<'a>(alloc: Global) -> Arg<'a> {
     )
 }
 
+/// An option of the orders of a book's run, which those of a capture don't go with.
+fn without_capture<'a>(slots: Arg<'a>) -> Result<Arg<'a>, AllocError> {
+    slots.conflicts_with_all(&["bsc", "first-slot", "from", "arfcn", "channel", "packets"])
+}
+
 /// The option of the number of slots of a run whose orders are wanted.
 fn ordered_slots<'a>(alloc: Global) -> Result<Arg<'a>, AllocError> {
-    optional(
+    let arg = optional(
         alloc,
         "slots",
         "SLOTS",
         "Takes the input for a book, and runs it for this many\nslots, 1 to 65535: the orders are those of its run",
     )
-    .value_parser(value_parser!(u16).range(1..=65535))
-    .conflicts_with_all(&["bsc", "first-slot", "from", "arfcn", "channel", "packets"])
+    .value_parser(value_parser!(u16).range(1..=65535));
+    without_capture(arg)
 }
 
 /// The option of the controller's address.
