@@ -1,14 +1,13 @@
 -- What a run writes whose orders are all to be done, and what its statuses say of the ends.
-use Rattle.std.proofs.Common.{◌≡◌, ◌≢◌, ◌⊎◌, ◌∙◌, ◌<◌, ◌≤◌, ℕ, List, length, Err, IfSome, None, Ok, Option, Result}
-use Rattle.std.proofs.Common.{Some, ap, arith, false, inl, inr, refl, rules, subst, sym, true}
+use Rattle.std.proofs.Common.{◌≡◌, ◌≢◌, ◌⊎◌, ◌∙◌, ◌≤◌, ℕ, List, Err, IfSome, None, Ok, Option, Result}
+use Rattle.std.proofs.Common.{Some, ap, arith, false, inl, inr, refl, rules, subst, sym}
 use Rattle.std.specs.Io.KnownBytes.{Keeps}
 use Rattle.alert_book.specs.declared.network.Origin.{Origin}
 use Rattle.alert_book.specs.Book.{unread}
-use Rattle.device_ends.specs.Sink.{sink_failed, writer_of}
+use Rattle.device_ends.specs.Sink.{sink_failed}
 use Rattle.device_ends.specs.Stream.{IsStreamBetween, Writes}
 use Rattle.device_ends.specs.declared.reading.Source.{Source}
 use Rattle.device_ends.specs.declared.writing.Sink.{Sink}
-use Rattle.warnc_run.specs.Engine.{IsOfWriter}
 use Rattle.warnc_run.specs.Faults.{IsWriteFault}
 use Rattle.warnc_run.specs.Made.{Makes}
 use Rattle.warnc_run.specs.Strict.{strictly_unread, IsStrictFault, IsStrictlyMadeBy, IsStrictlyOfWriter, IsStrictOutput}

@@ -5,7 +5,7 @@ use Rattle.alert_book.specs.declared.fault.BookFault.{BookFault}
 use Rattle.alert_book.specs.declared.judging.bounds.Extent.{Extent}
 use Rattle.alert_book.specs.declared.network.Origin.{Origin}
 use Rattle.alert_book.specs.declared.network.Origin.TheVariants as origin
-use Rattle.alert_book.specs.Book.{Contents, IsRowFault, IsWrong, max_book}
+use Rattle.alert_book.specs.Book.{Contents, IsWrong, max_book}
 use Rattle.alert_book.specs.Extent.{bounds_of, most_octets, IsRowFaultFor, LacksGroupOf}
 use Rattle.alert_book.specs.Network.{HasGroups, IsGroupBook, IsWrongNetwork, max_network}
 use Rattle.alert_book.specs.Origin.{IsBookFrom}

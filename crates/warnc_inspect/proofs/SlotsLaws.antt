@@ -13,7 +13,7 @@ pub table_of_slots-next : (wanted : Pages) (before : List TapeRecording) (tape :
 table_of_slots-next wanted before tape =
     append_assoc slot_columns (flat_map (tape_rows wanted) before) (tape_rows wanted tape)
     ∙ ap (λ rows. slot_columns ++ (flat_map (tape_rows wanted) before ++ rows))
-        (sym (append-nil (tape_rows wanted tape)))
+    (sym (append-nil (tape_rows wanted tape)))
     ∙ ap (λ rows. slot_columns ++ rows) (sym (flat_map-append (tape_rows wanted) before (tape ∷ [])))
 
 -- what is so of the table, where the input is known

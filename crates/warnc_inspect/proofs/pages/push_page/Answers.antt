@@ -25,5 +25,5 @@ returns c =
     c.as_bytes-4.result.now ∷ c.as_bytes-5.result.now ∷ c.as_bytes-6.result.now ∷ c.as_bytes-7.result.now ∷
     c.as_bytes-8.result.now ∷ c.as_bytes-9.result.now ∷ c.as_bytes-10.result.now ∷ c.as_bytes-11.result.now ∷ [])
     ≡ page_row c.args.number c.args.total c.args.used page = search
-        (rules, number, total, serial, id, coding, used, blocks, text) in
+    (rules, number, total, serial, id, coding, used, blocks, text) in
     rw (← fields) c.push_row.ensures

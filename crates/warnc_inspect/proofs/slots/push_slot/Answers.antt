@@ -10,7 +10,7 @@ returns-in-Some c =
     let page = c.in-Some.page in
     let row = slot_row c.args.cell c.args.number in
     let pages : page ∷ [] ≡ readable_pages (slot_read c.args.wanted c.args.slot.now) = search
-        (rules, c.in-Some.ensures) in
+    (rules, c.in-Some.ensures) in
     let rows : row page ≡ slot_rows c.args.wanted c.args.cell c.args.number c.args.slot.now =
     sym (append-nil (row page)) ∙ ap (flat_map row) pages in
     subst (λ (more : List ℕ). OnOk c.push_page.result ((octets : List ℕ) → IsTable c.args.table.now octets
