@@ -106,7 +106,7 @@ chart 2 2 -> done
 all -> worked
 ";
 
-/// The orders file of a cell, and the link.
+/// The orders file of a cell.
 const ORDERS: &str = "
 in cell,1,1
 in write,0,a,4370,0,1,en,2,2,0,1-1,@
@@ -121,6 +121,12 @@ scarce 150 network-orders 2 1 -> refused; done
 all -> worked
 scarce-threads 150 orders 2 2 -> refused; done
 all -> worked
+";
+
+/// The link.
+const LINK: &str = "
+in cell,1,1
+in write,0,a,4370,0,1,en,2,2,0,1-1,@
 # SYN, SYN with ACK, ACK, the order and its answer
 worked d4c3b2a1020004000000000000000000ffff0000e4000000000000000000000028000000280000004500002800000000400666ce
 worked 0a0000010a0000029c40bbb100000000000000005002ffff43ee0000000000000000000028000000280000004500002800000000
@@ -254,8 +260,13 @@ fn refused_memory_is_reported_by_charts(rt: HostRuntime) -> Result<(), Fail> {
 }
 
 #[test]
-fn refused_memory_is_reported_by_orders_and_links(rt: HostRuntime) -> Result<(), Fail> {
+fn refused_memory_is_reported_by_orders(rt: HostRuntime) -> Result<(), Fail> {
     expect_rows(&rt, ORDERS)
+}
+
+#[test]
+fn refused_memory_is_reported_by_links(rt: HostRuntime) -> Result<(), Fail> {
+    expect_rows(&rt, LINK)
 }
 
 #[test]
