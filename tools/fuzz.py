@@ -478,9 +478,16 @@ def faults_in(out):
     return len(numbers) if is_right and numbers == sorted(set(numbers), key=int) else None
 
 
-def remarks_in(out):
-    """Returns how many remarks an output of `check --slots` has, or None if it is none."""
+def remarks_in(run, out):
+    """Returns how many remarks an output of `check --slots` has, or None if it is none. Those of a network have the
+    number of a group in front, which rises."""
     rows = table_in(out)
+    if "--network" in run.words:
+        groups = [row[0] for row in rows]
+        if groups[:1] != ["group"] or not all(it.isdigit() for it in groups[1:]) or \
+                [int(it) for it in groups[1:]] != sorted(int(it) for it in groups[1:]):
+            return None
+        rows = [row[1:] for row in rows]
     is_right = rows[:1] == [REMARK_NAMES] and out.endswith(b"\n") and all(
         len(row) == 4 and row[3] and (row[0].isdigit() and row[1] and not row[2] or
                                       row[:2] == ["", ""] and re.fullmatch(r"\d+-\d+", row[2])) for row in rows[1:])
@@ -493,7 +500,7 @@ def is_of_check(run, out):
     strict."""
     if run.number("--slots", None) is None:
         return faults_in(out) == 0
-    return remarks_in(out) == 0 or "--strict" not in run.words and remarks_in(out) is not None
+    return remarks_in(run, out) == 0 or "--strict" not in run.words and remarks_in(run, out) is not None
 
 
 def is_of_texts(run, out):
@@ -679,7 +686,7 @@ def output_fault(run, ran):
         right = count and (not is_seen or ran.err.startswith(b"warnc: differences: %d" % count))
         return None if right else "the rows of differences have another form or number"
     if ran.status == 1 and run.command() == "check" and ran.out:
-        faults, remarks = faults_in(ran.out), remarks_in(ran.out) if "--strict" in run.words else None
+        faults, remarks = faults_in(ran.out), remarks_in(run, ran.out) if "--strict" in run.words else None
         is_seen = run.faults == "pipe" and run.writer == "pipe"
         wanted = b"warnc: faults: %d" % faults if faults else b"warnc: remarks: %d" % remarks if remarks else None
         right = run.writer != "pipe" or wanted and (not is_seen or ran.err.startswith(wanted))
@@ -1405,7 +1412,7 @@ def rows_options(chance, command, data):
     options = {"--slots": book_options(chance, "report", data)["--slots"]}
     if chance.random() < 0.5:
         options["--strict"] = None
-    return options
+    return {**options, **(network if chance.random() < 0.4 else {})}
 
 
 def good_options(chance, command, data):

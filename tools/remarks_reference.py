@@ -1,13 +1,15 @@
 #!/usr/bin/env python3
 """Remarks on books and their runs as docs/formats.md says: a second program against which `warnc check --slots` is
-compared, and with `--start` the times of their slots. Which writes and updates a cell accepted, from which slot on, and
-with which cause one refused an order, it takes from `warnc report`; which order asked which cell, and at which slot, it
-finds by itself, as a session goes on by the replies, and so what each message reserves.
+compared, also with `--group` and `--network`, and with `--start` the times of their slots. Which writes and updates a
+cell accepted, from which slot on, and with which cause one refused an order, it takes from `warnc report`; which order
+asked which cell, and at which slot, it finds by itself, as a session goes on by the replies, and so what each message
+reserves.
 
 Usage: remarks_reference.py PROGRAM [RUNS]    random books of few slots and cells, with orders that go back in time or
                                               stop what isn't live, cells that are declared late, and identifiers and
-                                              codes that come twice; the tables, lines and statuses of both programs
-                                              have to be the same. PROGRAM is a built `warnc`
+                                              codes that come twice; every third is a network of up to three groups.
+                                              The tables, lines and statuses of both programs have to be the same.
+                                              PROGRAM is a built `warnc`
 """
 import csv
 import io
@@ -26,6 +28,7 @@ from report_reference import random_start, time_of
 TEXTS = ("Stay in!", " ", "Go up to the roof " * 8, "\n \n", "Вода поднимается, идите наверх. " * 3, "a", "x" * 186,
          "Don’t go out – " * 7, "Woda idzie, idźcie w górę! " * 2, "Don’t go", "№1 ", "€" * 60 + "…")
 NAMES = ("", ",", '"', " é")
+COLUMNS = "row name cell says".split()
 PAST, UNKNOWN = 0x0A, 0x02
 BACKGROUND = 1
 SLOT_SAID = re.compile(r"(?:done|fullest: [0-9]+ %) at slot ([0-9]+)")
@@ -36,9 +39,13 @@ CAUSES = {
 }
 
 
-def random_book(rng):
-    """Returns the rows of a book: cells, which are pairs, and orders. Lists of cells have early ones alone."""
-    cells = [(rng.randrange(1, 4), it) for it in rng.sample(range(1, 9), rng.randrange(1, 5))]
+def random_book(rng, network):
+    """Returns the rows of a book, or of a network book: cells, which are pairs, and orders. Lists of cells have early
+    ones alone."""
+    count = rng.randrange(1, 5)
+    if network:
+        count = rng.choice((3, books.GROUP, books.GROUP + 1, 2 * books.GROUP + 2)) + rng.randrange(-2, 3)
+    cells = [(rng.randrange(1, 4), it) for it in rng.sample(range(1, 400 if network else 9), count)]
     slots = [rng.randrange(0, 30) for _ in range(rng.randrange(1, 14))]
     if rng.random() < 0.7:
         slots.sort()
@@ -52,7 +59,7 @@ def random_book(rng):
                                    rng.randrange(2 if few else 1024)),
         lambda: books.Sending("en", rng.choice((0, 1, 2, 2)), rng.randrange(1, 9), rng.choice((0, 0, 1, 2, 3)),
                               rng.choice(TEXTS)),
-        lambda: None if rng.random() < 0.4 else rng.sample(early, rng.randrange(1, len(early) + 1)))
+        lambda: None if rng.random() < 0.4 else rng.sample(early, rng.randrange(1, min(len(early), 9) + 1)))
     rows = [*early, *orders]
     for cell in cells[:late]:
         rows.insert(rng.randrange(len(early), len(rows) + 1), cell)
@@ -186,9 +193,12 @@ def says_of_text(text):
         yield f"UCS-2 because of {text[lacking[0]]} at {lacking[0]}: {pages} pages in place of {without}"
 
 
-def table_of(rows, report, slots):
-    """Returns the lines of the table, and how many remarks it has. Behind the remarks is how full each cell gets."""
+def lines_of(rows, report, slots, group=None):
+    """Returns the fields of the lines, and how many remarks there are: of a book, or of the group of this number of a
+    network, whose book has the rows for some of its cells. Behind the remarks is how full each cell gets."""
     cells = [it for it in rows if isinstance(it, tuple)]
+    if group is not None:
+        cells = cells[books.GROUP * group:books.GROUP * (group + 1)]
     reported = {cell: [] for cell in cells}
     for it in csv.DictReader(io.StringIO(report, newline="")):
         reported[int(it["lac"]), int(it["ci"])].append(it)
@@ -197,19 +207,38 @@ def table_of(rows, report, slots):
     lines, declared, earlier = [], [], []
     for row, it in enumerate(rows, 1):
         if isinstance(it, tuple):
-            declared.append(it)
+            declared += [it] * (it in reported)
             continue
         named = [cell for cell in declared if it.cells is None or cell in it.cells]
+        if not named:
+            continue
         answers = {cell: walks[cell].answer(it) for cell in named}
-        lines += [books.line([row, it.alert.name, "", says]) for says in says_of(it, answers, earlier)]
+        lines += [[row, it.alert.name, "", says] for says in says_of(it, answers, earlier)]
         if it.verb == "write":
             earlier.append(((it.alert.identifier, it.alert.scope, it.alert.code), row))
-    lines += [books.line(["", "", f"{lac}-{ci}", "gets nothing"]) for lac, ci in silent]
+    lines += [["", "", f"{lac}-{ci}", "gets nothing"] for lac, ci in silent]
     count = len(lines)
     for lac, ci in cells:
         share, slot = walks[lac, ci].fullest()
-        lines.append(books.line(["", "", f"{lac}-{ci}", f"fullest: {share} % at slot {slot}"]))
-    return books.line("row name cell says".split()) + "".join(lines), count
+        lines.append(["", "", f"{lac}-{ci}", f"fullest: {share} % at slot {slot}"])
+    return lines, count
+
+
+def table_of(program, octets, rows, slots, words):
+    """Returns the table that is wanted of a book, of a network book or of its group, and how many remarks it has."""
+    def lines_by(group):
+        wanted = [] if group is None else ["--group", str(group)]
+        report = run(program, ["report", "--slots", str(slots), *wanted], octets).stdout.decode()
+        names = "" if group in (None, 0) else run(program, ["report", "--slots", "1"], b"").stdout.decode()
+        return lines_of(rows, names + report, slots, group)
+
+    if words != ["--network"]:
+        lines, count = lines_by(int(words[1]) if words else None)
+        return "".join(books.line(it) for it in [COLUMNS, *lines]), count
+    groups = max(1, -(-sum(isinstance(it, tuple) for it in rows) // books.GROUP))
+    made = [lines_by(group) for group in range(groups)]
+    lines = [[group, *line] for group, (of_group, _) in enumerate(made) for line in of_group]
+    return "".join(books.line(it) for it in [["group", *COLUMNS], *lines]), sum(count for _, count in made)
 
 
 def timed(table, start):
@@ -217,7 +246,7 @@ def timed(table, start):
     names, *lines = csv.reader(io.StringIO(table))
     made = [books.line([*names, "time"])]
     for line in lines:
-        said = SLOT_SAID.fullmatch(line[3])
+        said = SLOT_SAID.fullmatch(line[-1])
         made.append(books.line([*line, time_of(start, int(said[1])) if said else ""]))
     return "".join(made)
 
@@ -229,12 +258,14 @@ def run(program, words, octets):
 def differs(program, seed):
     """Whether both programs write different tables in this run."""
     rng = random.Random(seed)
-    rows = random_book(rng)
+    network = seed % 3 == 2
+    rows = random_book(rng, network)
     octets = "".join(books.cell_line(it) if isinstance(it, tuple) else it.line() for it in rows).encode()
     slots, strict = rng.randrange(1, 40), rng.random() < 0.3
-    report = run(program, ["report", "--slots", str(slots)], octets)
-    table, count = table_of(rows, report.stdout.decode(), slots)
-    words = ["check", "--slots", str(slots), *(["--strict"] if strict else [])]
+    groups = -(-sum(isinstance(it, tuple) for it in rows) // books.GROUP)
+    part = rng.choice((["--network"], ["--network"], ["--group", str(rng.randrange(groups))])) if network else []
+    table, count = table_of(program, octets, rows, slots, part)
+    words = ["check", "--slots", str(slots), *(["--strict"] if strict else []), *part]
     start, time = random_start(rng)
     said, with_times = run(program, words, octets), run(program, [*words, "--start", time], octets)
     status, faults = (1, f"warnc: remarks: {count}\n") if strict and count else (0, "")

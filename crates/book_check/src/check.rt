@@ -9,7 +9,7 @@ ghost use Rattle.device_ends.specs.Sink.{sink_failed, writer_of};
 ghost use Rattle.device_ends.specs.Source.{reader_of, source_failed};
 ghost use Rattle.device_ends.specs.Stream.{OutputOfInput};
 ghost use Rattle.alert_book.specs.Extent.{bounds_of, most_octets};
-ghost use Rattle.book_check.specs.Checked.{HasTold, HasWritten, IsCheckFault, IsChecked, IsCleanFor};
+ghost use Rattle.book_check.specs.Checked.{HasTold, HasWritten, IsCheckFault, IsCheckedBy, IsCleanFor};
 ghost use Rattle.book_check.specs.CheckSteps.{missing, IsCheckedWith, IsReadFault, IsToldOf, Tells};
 ghost use Rattle.book_check.specs.TableSteps.{IsTable};
 ghost use Rattle.book_check.specs.Told.{fault_row, is_told, told_of_row};
@@ -155,16 +155,16 @@ fn read_octets<R: Read>(
     Ok(octets)
 }
 
-/// The table of the faults of a book's rows.
+/// The table of the faults of the rows of a book, or of a network book.
 ///
 /// # Errors
 ///
 /// Out of memory.
-pub fn table_of(alloc: Global, octets: &[u8]) -> Result<Checked, AllocError>
-    requires { length octets.now ≤ 16777216 }
-    ensures { IfOk result (λ checked. IsChecked octets.now checked.count checked.text.items) }
+pub fn table_of(alloc: Global, bounds: Bounds, octets: &[u8]) -> Result<Checked, AllocError>
+    requires { length octets.now ≤ most_octets bounds }
+    ensures { IfOk result (λ checked. IsCheckedBy bounds octets.now checked.count checked.text.items) }
 {
-    table_within(alloc, Bounds::Book, octets)
+    table_within(alloc, bounds, octets)
 }
 
 /// The table of the faults of the rows of what is bounded so.

@@ -15,25 +15,26 @@ use Rattle.slot_times.specs.declared.start.Start.{Start}
 
 -- lines are those of their fields
 lines-of-remarks : (start : Option Start) (all : List Remark)
-    → flat_map (remark_line start) all ≡ flat_map line (map (remark_fields start) all)
+    → flat_map (remark_line None start) all ≡ flat_map line (map (remark_fields start) all)
 lines-of-remarks start [] = refl
 lines-of-remarks start (remark ∷ all) =
-    flat_map-cons (remark_line start) remark all
-    ∙ ap (λ (xs : List ℕ). remark_line start remark ++ xs) (lines-of-remarks start all)
+    flat_map-cons (remark_line None start) remark all
+    ∙ ap (λ (xs : List ℕ). remark_line None start remark ++ xs) (lines-of-remarks start all)
     ∙ sym (flat_map-cons line (remark_fields start remark) (map (remark_fields start) all))
 
 lines-of-records : (start : Option Start) (records : List Record)
-    → flat_map (fullest_line start) records ≡ flat_map line (map (run_fields start) records)
+    → flat_map (fullest_line None start) records ≡ flat_map line (map (run_fields start) records)
 lines-of-records start [] = refl
 lines-of-records start (r ∷ records) =
-    flat_map-cons (fullest_line start) r records
-    ∙ ap (λ (xs : List ℕ). fullest_line start r ++ xs) (lines-of-records start records)
+    flat_map-cons (fullest_line None start) r records
+    ∙ ap (λ (xs : List ℕ). fullest_line None start r ++ xs) (lines-of-records start records)
     ∙ sym (flat_map-cons line (run_fields start r) (map (run_fields start) records))
 
 lines-are : (start : Option Start) (all : List Remark) (records : List Record)
     → checked_run_text start all records ≡ flat_map line (fields_of_run start all records)
 lines-are start all records =
-    append_assoc (header_line start) (flat_map (remark_line start) all) (flat_map (fullest_line start) records)
+    append_assoc (header_line start) (flat_map (remark_line None start) all)
+        (flat_map (fullest_line None start) records)
     ∙ ap (λ (xs : List ℕ). header_line start ++ xs)
     (ap₂ (λ (xs ys : List ℕ). xs ++ ys) (lines-of-remarks start all) (lines-of-records start records)
     ∙ sym (flat_map-append line (map (remark_fields start) all) (map (run_fields start) records)))

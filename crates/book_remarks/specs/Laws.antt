@@ -4,7 +4,9 @@ use Rattle.std.specs.Prelude.{slice_index_or}
 use Rattle.std.specs.List.{flat_map, slice_get}
 use Rattle.alert_book.specs.declared.book.order.Order.{Order}
 use Rattle.bsc_table.specs.Record.{Record}
-use Rattle.book_check.specs.Checked.{IsChecked}
+use Rattle.alert_book.specs.declared.judging.bounds.Extent.{Extent}
+use Rattle.alert_book.specs.Extent.{bounds_of}
+use Rattle.book_check.specs.Checked.{IsCheckedBy}
 use Rattle.book_remarks.specs.declared.mark.Mark.{Mark}
 use Rattle.book_remarks.specs.declared.mark.Mark.TheVariants as marks
 use Rattle.asked_orders.specs.Asked.{names}
@@ -35,16 +37,17 @@ UnremarkedAreKept = (orders : List Order) (records : List Record) (place : ℕ) 
 -- octets have one table of remarks for a number of slots, with the times by which slot 0 begins then or with none; and
 -- as many remarks whenever it begins
 abbrev pub RemarksAreOne : Type 0
-RemarksAreOne = (slots : ℕ) (start begun : Option Start) (input output another : List ℕ) (count other : ℕ)
-    → IsRemarked slots start input count output
-    → IsRemarked slots begun input other another
+RemarksAreOne = (what : Extent) (slots : ℕ) (start begun : Option Start) (input output another : List ℕ)
+    (count other : ℕ)
+    → IsRemarked what slots start input count output
+    → IsRemarked what slots begun input other another
     → (count ≡ other) × (start ≡ begun → output ≡ another)
 
 -- and where they have one, no row has a fault
 abbrev pub RemarkedAreClean : Type 0
-RemarkedAreClean = (slots : ℕ) (start : Option Start) (input output told : List ℕ) (count faults : ℕ)
-    → IsRemarked slots start input count output
-    → IsChecked input faults told
+RemarkedAreClean = (what : Extent) (slots : ℕ) (start : Option Start) (input output told : List ℕ) (count faults : ℕ)
+    → IsRemarked what slots start input count output
+    → IsCheckedBy (bounds_of what) input faults told
     → faults ≡ 0
 
 -- the fields of the lines of a table: the columns' names, the remarks, and how full each cell gets

@@ -1,5 +1,5 @@
 -- The text of remarks, as CSV: a line for each (own).
-use Rattle.std.specs.Prelude.{ℕ, ◌==◌, if◌then◌else◌, Option, Some, None, List, [], ◌∷◌, ◌++◌, codes, encode_utf8}
+use Rattle.std.specs.Prelude.{ℕ, ◌+◌, ◌==◌, if◌then◌else◌, Option, Some, None, List, [], ◌∷◌, ◌++◌, codes, encode_utf8}
 use Rattle.std.specs.Fmt.{decimal}
 use Rattle.std.specs.List.{flat_map}
 use Rattle.csv.specs.Writing.{default_writer, row_text}
@@ -32,6 +32,11 @@ time_text start (Some slot) = slot_time start slot
 abbrev pub time_field : Option Start → (slot : Option ℕ) → List (List ℕ)
 time_field None slot = []
 time_field (Some start) slot = time_text start slot ∷ []
+
+-- where a table is of the groups of a network, a first column has the number of the group
+abbrev pub group_field : (group : Option ℕ) → List (List ℕ)
+group_field None = []
+group_field (Some group) = decimal group ∷ []
 
 -- the first line has the names of the columns
 abbrev pub column_names : Option Start → List (List ℕ)
@@ -77,11 +82,11 @@ remark_fields start (remarks.OfOrder row name said) =
 remark_fields start (remarks.NothingIn cell) =
     [] ∷ [] ∷ cell_text cell ∷ codes "gets nothing" ∷ time_field start None
 
-abbrev pub remark_line : Option Start → Remark → List ℕ
-remark_line start remark = line (remark_fields start remark)
+abbrev pub remark_line : (group : Option ℕ) → Option Start → Remark → List ℕ
+remark_line group start remark = line (group_field group ++ remark_fields start remark)
 
 abbrev pub remarks_text : Option Start → List Remark → List ℕ
-remarks_text start all = header_line start ++ flat_map (remark_line start) all
+remarks_text start all = header_line start ++ flat_map (remark_line None start) all
 
 -- How full cells get, which is no remark.
 
@@ -95,9 +100,34 @@ fullest_fields start cell fullest =
 abbrev pub run_fields : Option Start → Record → List (List ℕ)
 run_fields start r = fullest_fields start r.cell (fullest_in r)
 
-abbrev pub fullest_line : Option Start → Record → List ℕ
-fullest_line start r = line (run_fields start r)
+abbrev pub fullest_line : (group : Option ℕ) → Option Start → Record → List ℕ
+fullest_line group start r = line (group_field group ++ run_fields start r)
 
 -- what is remarked, and then how full each cell gets
 abbrev pub checked_run_text : Option Start → List Remark → List Record → List ℕ
-checked_run_text start all records = remarks_text start all ++ flat_map (fullest_line start) records
+checked_run_text start all records = remarks_text start all ++ flat_map (fullest_line None start) records
+
+-- what is remarked of a group of a network, and the records of its cells
+pub record RemarkedGroup : Type 0 where
+  pub remarks : List Remark
+  pub records : List Record
+
+abbrev pub remarked_group : List Remark → List Record → RemarkedGroup
+remarked_group remarks records = record { remarks = remarks; records = records }
+
+-- the lines of a group of this number: what is remarked, and then how full each cell gets
+abbrev pub group_lines : Option Start → (group : ℕ) → RemarkedGroup → List ℕ
+group_lines start group one =
+    flat_map (remark_line (Some group) start) one.remarks ++ flat_map (fullest_line (Some group) start) one.records
+
+-- those of groups from this number on
+abbrev pub lines_of_groups : Option Start → (group : ℕ) → List RemarkedGroup → List ℕ
+lines_of_groups start group [] = []
+lines_of_groups start group (one ∷ more) = group_lines start group one ++ lines_of_groups start (group + 1) more
+
+-- over those of a network stands the line of the columns' names
+abbrev pub network_header : Option Start → List ℕ
+network_header start = line (codes "group" ∷ column_names start)
+
+abbrev pub checked_network_text : Option Start → List RemarkedGroup → List ℕ
+checked_network_text start each = network_header start ++ lines_of_groups start 0 each

@@ -13,13 +13,18 @@ pub enum RemarkFault {
     /// This many rows have a fault. Their table was written.
     #[error("faults: {0}")]
     Faults(usize),
-    /// The book has more than 16,777,216 octets, which is a fault of no one row.
+    /// The network book has no fault, and this many groups, numbered from 0, among which the one that is asked for
+    /// isn't.
+    #[error("no such group: the network has {0}")]
+    NoGroup(u16),
+    /// The book has more than 16,777,216 octets, or the network book more than 67,108,864, which is a fault of no one
+    /// row.
     #[error("row 0: too many rows")]
     TooLong,
     /// The reader failed.
     #[error("read failed")]
     ReadFailed,
-    /// The run of the book ended early. No run is known that does.
+    /// The run of the book, or of a group's, ended early. No run is known that does.
     #[error("{0}")]
     Run(RunFault),
     /// There are this many remarks, and there are to be none. All of them were written.

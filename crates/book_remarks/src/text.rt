@@ -3,7 +3,8 @@
 ghost use Rattle.std.specs.Prelude.{◌≡◌, ◌++◌, ℕ, List, codes, IfOk, OnOk, string_bytes};
 ghost use Rattle.std.specs.List.{flat_map};
 ghost use Rattle.book_remarks.specs.TableSteps.{IsTable};
-ghost use Rattle.book_remarks.specs.RemarksText.{cell_text, cells_word, fullest_line, fullest_words, remark_line};
+ghost use Rattle.book_remarks.specs.RemarksText.{cell_text, cells_word, fullest_line, fullest_words, group_lines};
+ghost use Rattle.book_remarks.specs.RemarksText.{remark_line, remarked_group};
 ghost use Rattle.book_remarks.specs.RemarksText.{remarks_text, checked_run_text, says_text, slot_said, spaced_cell};
 
 use crate::remarks::Remark;
@@ -100,11 +101,12 @@ fn slot_said(says: &Says) -> Option<u16>
 fn push_remark(
     alloc: Global,
     table: &mut Table,
+    group: Option<u16>,
     start: Option<Start>,
     remark: &Remark,
 ) -> Result<(), AllocError>
     ensures { OnOk result ((octets : List ℕ) → IsTable table.old octets
-        → IsTable table.new (octets ++ remark_line start remark.now)) }
+        → IsTable table.new (octets ++ remark_line group start remark.now)) }
 {
     match remark {
         Remark::OfOrder { row, name, says } => {
@@ -112,6 +114,7 @@ fn push_remark(
             let said = says_text(alloc, says)?;
             let slot = slot_said(says);
             table.push_fields(
+                group,
                 start,
                 slot,
                 buffer.format(*row),
@@ -122,7 +125,7 @@ fn push_remark(
         }
         Remark::NothingIn(cell) => {
             let name = cell_text(alloc, *cell)?;
-            table.push_fields(start, None, "", "", &name, "gets nothing")
+            table.push_fields(group, start, None, "", "", &name, "gets nothing")
         }
     }
 }
@@ -131,14 +134,15 @@ fn push_remark(
 fn push_remarks(
     alloc: Global,
     table: &mut Table,
+    group: Option<u16>,
     start: Option<Start>,
     remarks: &[Remark],
 ) -> Result<(), AllocError>
     ensures { OnOk result ((octets : List ℕ) → IsTable table.old octets
-        → IsTable table.new (octets ++ flat_map (remark_line start) remarks.now)) }
+        → IsTable table.new (octets ++ flat_map (remark_line group start) remarks.now)) }
 {
     for remark in remarks {
-        push_remark(alloc, table, start, remark)?;
+        push_remark(alloc, table, group, start, remark)?;
     }
     Ok(())
 }
@@ -155,30 +159,32 @@ fn fullest_words(alloc: Global, fullest: Fullest) -> Result<String, AllocError>
 fn push_fullest(
     alloc: Global,
     table: &mut Table,
+    group: Option<u16>,
     start: Option<Start>,
     run: &CellRecord,
 ) -> Result<(), AllocError>
     ensures { OnOk result ((octets : List ℕ) → IsTable table.old octets
-        → IsTable table.new (octets ++ fullest_line start run.now)) }
+        → IsTable table.new (octets ++ fullest_line group start run.now)) }
 {
     let fullest = fullest_of(alloc, run)?;
     let name = cell_text(alloc, run.cell())?;
     let said = fullest_words(alloc, fullest)?;
-    table.push_fields(start, Some(fullest.slot), "", "", &name, &said)
+    table.push_fields(group, start, Some(fullest.slot), "", "", &name, &said)
 }
 
 /// Appends the lines of how full cells get.
 fn push_each_fullest(
     alloc: Global,
     table: &mut Table,
+    group: Option<u16>,
     start: Option<Start>,
     records: &[CellRecord],
 ) -> Result<(), AllocError>
     ensures { OnOk result ((octets : List ℕ) → IsTable table.old octets
-        → IsTable table.new (octets ++ flat_map (fullest_line start) records.now)) }
+        → IsTable table.new (octets ++ flat_map (fullest_line group start) records.now)) }
 {
     for run in records {
-        push_fullest(alloc, table, start, run)?;
+        push_fullest(alloc, table, group, start, run)?;
     }
     Ok(())
 }
@@ -198,7 +204,7 @@ pub fn text_of(
     ensures { IfOk result (λ octets. octets.items ≡ remarks_text start remarks.now) }
 {
     let mut table = Table::new(alloc, start)?;
-    push_remarks(alloc, &mut table, start, remarks)?;
+    push_remarks(alloc, &mut table, None, start, remarks)?;
     table.into_octets()
 }
 
@@ -217,7 +223,23 @@ pub fn run_text_of(
     ensures { IfOk result (λ octets. octets.items ≡ checked_run_text start remarks.now records.now) }
 {
     let mut table = Table::new(alloc, start)?;
-    push_remarks(alloc, &mut table, start, remarks)?;
-    push_each_fullest(alloc, &mut table, start, records)?;
+    push_remarks(alloc, &mut table, None, start, remarks)?;
+    push_each_fullest(alloc, &mut table, None, start, records)?;
     table.into_octets()
+}
+
+/// Appends what is remarked of the group of this number of a network, and how full each of its cells gets.
+pub(crate) fn push_group(
+    alloc: Global,
+    table: &mut Table,
+    group: u16,
+    start: Option<Start>,
+    remarks: &[Remark],
+    records: &[CellRecord],
+) -> Result<(), AllocError>
+    ensures { OnOk result ((octets : List ℕ) → IsTable table.old octets
+        → IsTable table.new (octets ++ group_lines start group (remarked_group remarks.now records.now))) }
+{
+    push_remarks(alloc, table, Some(group), start, remarks)?;
+    push_each_fullest(alloc, table, Some(group), start, records)
 }

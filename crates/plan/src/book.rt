@@ -11,7 +11,7 @@ use crate::fault::PlanRowFault;
 use crate::octets::{Octets, octets_of, texts_of};
 use crate::rows::Planned;
 use crate::rows::word::verb_of;
-use alert_book::{Judge, Verdict};
+use alert_book::{Bounds, Judge, Verdict};
 use book_check::{check_laws, table_of};
 use csv::{ByteRecord, Writer, WriterBuilder};
 use std::alloc::{AllocError, Global};
@@ -21,7 +21,7 @@ pub(crate) fn is_book(alloc: Global, octets: &[u8]) -> Result<bool, AllocError>
     requires { length octets.now ≤ 16777216 }
     ensures { IfOk result (λ is. MatchBool is (IsSomeBook octets.now) (IsSomeBook octets.now → ⊥)) }
 {
-    let checked = table_of(alloc, octets)?;
+    let checked = table_of(alloc, Bounds::Book, octets)?;
     check_laws();
     Ok(checked.count == 0)
 }

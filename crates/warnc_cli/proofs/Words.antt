@@ -31,7 +31,7 @@ of_one_input words (task.Tape wanted) asked other = tt
 of_one_input words (task.Orders wanted packets) asked other = tt
 of_one_input words task.Groups asked other = tt
 of_one_input words (task.Check what) asked other = tt
-of_one_input words (task.Remark slots start strict) asked other = tt
+of_one_input words (task.Remark what slots start strict) asked other = tt
 of_one_input words (task.Texts what pages) asked other = tt
 of_one_input words (task.Make run made) asked other = tt
 of_one_input words (task.Strict run made) asked other = tt
@@ -56,9 +56,9 @@ may_write words (task.VerifyOrders cell terms file) status asked (inr (inr diffe
 may_write words (task.Check what) status asked (inl done) = inl done
 may_write words (task.Check what) status asked (inr (inl device)) = inr (inl device)
 may_write words (task.Check what) status asked (inr (inr faults)) = inr (inr (inl (faults, inr asked.command)))
-may_write words (task.Remark slots start strict) status asked (inl done) = inl done
-may_write words (task.Remark slots start strict) status asked (inr (inl device)) = inr (inl device)
-may_write words (task.Remark slots start strict) status asked (inr (inr faults)) =
+may_write words (task.Remark what slots start strict) status asked (inl done) = inl done
+may_write words (task.Remark what slots start strict) status asked (inr (inl device)) = inr (inl device)
+may_write words (task.Remark what slots start strict) status asked (inr (inr faults)) =
     inr (inr (inl (faults, inr asked.command)))
 may_write words (task.Page language id serial form) status asked (inl done) = inl done
 may_write words (task.Page language id serial form) status asked (inr device) = inr (inl device)
@@ -143,5 +143,5 @@ writes_some words (task.Orders wanted packets) asked compile live whole plan ord
 writes_some words (task.Tapes wanted file) asked compile live whole plan orders report = tt
 writes_some words task.Groups asked compile live whole plan orders report = tt
 writes_some words (task.Check what) asked compile live whole plan orders report = tt
-writes_some words (task.Remark slots start strict) asked compile live whole plan orders report = tt
+writes_some words (task.Remark what slots start strict) asked compile live whole plan orders report = tt
 writes_some words (task.Texts what pages) asked compile live whole plan orders report = tt

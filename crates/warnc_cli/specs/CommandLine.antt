@@ -196,13 +196,16 @@ pub record GivesSlots (words : List (List ℕ)) (slots : ℕ) : Type 0 where
   pub some : 1 ≤ slots
   pub most : slots ≤ 65535
 
--- the words ask for `check` of the rows and of a run of this number of slots, by the time at which slot 0 begins or by
--- none, which is strict or not
-pub record AsksForRemarks (words : List (List ℕ)) (slots : ℕ) (start : Option SlotStart) (strict : Bool) : Type 0 where
-  pub command : slice_get words 1 ≡ Some (codes "check")
-  pub slots_given : GivesSlots words slots
-  pub start_given : GivesSlotStart words start
-  pub strict_given : strict ≡ is_given words (codes "--strict")
+-- the words ask for `check` of the rows and of a run of this number of slots, of a book, a network book or one of its
+-- groups, by the time at which slot 0 begins or by none, which is strict or not
+pub record AsksForRemarks (words : List (List ℕ)) (what : Extent) (slots : ℕ) (start : Option SlotStart)
+    (strict : Bool) : Type 0
+  where
+    pub command : slice_get words 1 ≡ Some (codes "check")
+    pub extent_given : GivesExtent words what
+    pub slots_given : GivesSlots words slots
+    pub start_given : GivesSlotStart words start
+    pub strict_given : strict ≡ is_given words (codes "--strict")
 
 -- the words give the option of this name a number, 1 to 64; it is 1 where no word begins with the option's name
 pub record GivesThreads (words : List (List ℕ)) (name : List ℕ) (number : ℕ) : Type 0 where

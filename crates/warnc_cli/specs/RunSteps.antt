@@ -24,7 +24,7 @@ MayHaveWritten (task.Make run made) status =
 MayHaveWritten (task.Verify from slots pages layout file workers) status = (status ≡ 0) ⊎ ((status ≡ 3) ⊎ (status ≡ 1))
 MayHaveWritten (task.VerifyOrders cell terms file) status = (status ≡ 0) ⊎ ((status ≡ 3) ⊎ (status ≡ 1))
 MayHaveWritten (task.Check what) status = (status ≡ 0) ⊎ ((status ≡ 3) ⊎ (status ≡ 1))
-MayHaveWritten (task.Remark slots start strict) status = (status ≡ 0) ⊎ ((status ≡ 3) ⊎ (status ≡ 1))
+MayHaveWritten (task.Remark what slots start strict) status = (status ≡ 0) ⊎ ((status ≡ 3) ⊎ (status ≡ 1))
 MayHaveWritten other status = (status ≡ 0) ⊎ (status ≡ 3)
 
 -- a task reads no book, orders or table beside its input
@@ -40,7 +40,7 @@ IsSilent (task.Verify from slots pages layout file workers) = ⊥
 IsSilent (task.VerifyOrders cell terms file) = ⊥
 IsSilent (task.Tapes wanted file) = ⊥
 IsSilent (task.Check what) = ⊥
-IsSilent (task.Remark slots start strict) = ⊥
+IsSilent (task.Remark what slots start strict) = ⊥
 IsSilent other = ⊤
 
 -- what status 0 says of a task of one input
@@ -74,13 +74,13 @@ WroteFaultsBy what status left held first old new = (status ≡ 1
 
 -- and of what `check --slots` wrote: with 1 the faults or the remarks, or nothing of a book that is too long or has no
 -- run, and with 4 nothing
-abbrev pub WroteRemarksBy : {R W : Type 0} → (slots : ℕ) (start : Option Start) (strict : Bool) (status : ℕ)
+abbrev pub WroteRemarksBy : {R W : Type 0} → Extent → (slots : ℕ) (start : Option Start) (strict : Bool) (status : ℕ)
     (left : R → Option (List ℕ))
     (held : W → Option (List ℕ)) → (first : Source R) → (old new : Sink W) → Type 0
-WroteRemarksBy slots start strict status left held first old new = (status ≡ 1
-    → KeepsUnseen (task.Remark slots start strict) None (left (reader_of first)) (held (writer_of old))
+WroteRemarksBy what slots start strict status left held first old new = (status ≡ 1
+    → KeepsUnseen (task.Remark what slots start strict) None (left (reader_of first)) (held (writer_of old))
     (held (writer_of new))
-    ⊎ WritesDifferences (task.Remark slots start strict) None (left (reader_of first)) (held (writer_of old))
+    ⊎ WritesDifferences (task.Remark what slots start strict) None (left (reader_of first)) (held (writer_of old))
     (held (writer_of new)))
     × (status ≡ 4 → Writes held Keeps old new)
 

@@ -117,6 +117,7 @@ status_of_check_fault check.WriteFailed = 3
 -- that of `check --slots`, 1 if there are faults, or remarks where there are to be none
 abbrev pub status_of_remark_fault : RemarkFault → ℕ
 status_of_remark_fault (remark.Faults count) = 1
+status_of_remark_fault (remark.NoGroup groups) = 1
 status_of_remark_fault remark.TooLong = 1
 status_of_remark_fault remark.ReadFailed = 3
 status_of_remark_fault (remark.Run f) = 1

@@ -11,7 +11,7 @@ use Rattle.alert_book.specs.Network.{HasGroups, IsGroupBook, IsWrongNetwork, max
 use Rattle.alert_book.specs.Origin.{IsBookFrom}
 use Rattle.asked_orders.specs.Lacks.{lacks_of, no_lacks}
 use Rattle.bsc_table.specs.Record.{Record}
-use Rattle.book_check.specs.Checked.{HasFaults, HasFaultsBy, IsCleanFor, LacksGroup}
+use Rattle.book_check.specs.Checked.{HasFaultsBy, IsCleanFor, LacksGroup}
 use Rattle.book_remarks.specs.Remarked.{HasRemarks, IsRemarkedFor, IsStopped}
 use Rattle.book_texts.specs.TextsOutput.{IsTextsOutput}
 use Rattle.cell_orders.specs.declared.row.OrderRow.{OrderRow}
@@ -81,7 +81,7 @@ IsTaskOf words (task.Tapes wanted file) = AsksForTapes words wanted file.now
 IsTaskOf words (task.Orders wanted packets) = AsksForOrders words wanted packets
 IsTaskOf words task.Groups = AsksForGroups words
 IsTaskOf words (task.Check what) = AsksForCheck words what
-IsTaskOf words (task.Remark slots start strict) = AsksForRemarks words slots start strict
+IsTaskOf words (task.Remark what slots start strict) = AsksForRemarks words what slots start strict
 IsTaskOf words task.Plan = AsksForPlan words
 IsTaskOf words (task.Texts what pages) = AsksForTexts words what pages
 IsTaskOf words (task.Make run made) = AsksForRun words run made
@@ -106,7 +106,7 @@ Means (task.Orders wanted packets) =
     λ input output. (passed : PassedOver) × IsOrdersOutput wanted packets passed input output
 Means task.Groups = IsGroupCount
 Means (task.Check what) = IsCleanFor what
-Means (task.Remark slots start strict) = IsRemarkedFor slots start strict
+Means (task.Remark what slots start strict) = IsRemarkedFor what slots start strict
 Means task.Plan = IsPlanOutput
 Means (task.Texts what pages) = IsTextsOutput what pages
 Means (task.Make run made) = IsMadeBy run made
@@ -187,10 +187,6 @@ abbrev pub IsNoBook : (input : List ℕ) → Type 0
 IsNoBook input = (max_book < length input)
     ⊎ ((f : BookFault) × IsWrong input f × (status_of_book_fault f ≡ 1))
 
--- the input is refused: it has more octets than a book may have, or a row with a fault
-abbrev pub IsNotClean : (input : List ℕ) → Type 0
-IsNotClean input = (max_book < length input) ⊎ ((count : ℕ) × (output : List ℕ) × HasFaults count input output)
-
 -- nothing can be said of the input: it is too long, or the network has no such group
 abbrev pub IsUnchecked : Extent → (input : List ℕ) → Type 0
 IsUnchecked what input =
@@ -201,10 +197,10 @@ abbrev pub IsNotCleanFor : Extent → (input : List ℕ) → Type 0
 IsNotCleanFor what input =
     IsUnchecked what input ⊎ ((count : ℕ) × (output : List ℕ) × HasFaultsBy (bounds_of what) count input output)
 
--- the input is refused: it isn't clean; or its run ends early; or it is strict, and there is a remark
-abbrev pub IsRemarkable : (slots : ℕ) (start : Option Start) (strict : Bool) (input : List ℕ) → Type 0
-IsRemarkable slots start strict input = IsNotClean input ⊎ (((f : RunFault) × IsStopped slots input f)
-    ⊎ ((strict ≡ true) × ((count : ℕ) × (output : List ℕ) × HasRemarks slots start count input output)))
+-- the input is refused: it isn't clean; or a run of it ends early; or it is strict, and there is a remark
+abbrev pub IsRemarkable : Extent → (slots : ℕ) (start : Option Start) (strict : Bool) (input : List ℕ) → Type 0
+IsRemarkable what slots start strict input = IsNotCleanFor what input ⊎ (((f : RunFault) × IsStopped what slots input f)
+    ⊎ ((strict ≡ true) × ((count : ℕ) × (output : List ℕ) × HasRemarks what slots start count input output)))
 
 -- the input is refused: it has more octets than it may have, or a row with a fault, or the network has no such group
 abbrev pub IsNoRows : Extent → (input : List ℕ) → Type 0
@@ -307,7 +303,7 @@ RefusesOne (task.Tapes wanted file) = λ input. ⊥
 RefusesOne (task.Orders wanted packets) = IsNoOrders wanted
 RefusesOne task.Groups = IsNoNetwork 0
 RefusesOne (task.Check what) = IsNotCleanFor what
-RefusesOne (task.Remark slots start strict) = IsRemarkable slots start strict
+RefusesOne (task.Remark what slots start strict) = IsRemarkable what slots start strict
 RefusesOne task.Plan = IsNoPlan
 RefusesOne (task.Texts what pages) = IsNoRows what
 RefusesOne (task.Make run made) = IsNoRunOf run.books run.slots run.sessions.number
@@ -326,9 +322,9 @@ Refuses other book input = IfSome input (RefusesOne other)
 
 -- What may be written with status 1 and 4.
 
--- nothing can be said of a book: it is too long, or its run ends early
-abbrev pub IsUnremarked : (slots : ℕ) (input : List ℕ) → Type 0
-IsUnremarked slots input = (max_book < length input) ⊎ ((f : RunFault) × IsStopped slots input f)
+-- nothing can be said of what is to be run: it is too long, or the network has no such group, or a run of it ends early
+abbrev pub IsUnremarked : Extent → (slots : ℕ) (input : List ℕ) → Type 0
+IsUnremarked what slots input = IsUnchecked what input ⊎ ((f : RunFault) × IsStopped what slots input f)
 
 -- a task refuses what it reads and has no table to write of it: `verify` has no run, no orders or no tapes, and a book
 -- is too long for `check`, or has no run with `--slots`, or a network has no such group. Other commands never write a
@@ -338,7 +334,7 @@ RefusesUnseen (task.Verify from slots pages layout file workers) book input =
     IfSome book (λ octets. IfSome input (IsUnverified from slots octets))
 RefusesUnseen (task.VerifyOrders cell terms file) book input = IfSome book (λ octets. IfSome input (AreUnjudged octets))
 RefusesUnseen (task.Check what) book input = IfSome input (IsUnchecked what)
-RefusesUnseen (task.Remark slots start strict) book input = IfSome input (IsUnremarked slots)
+RefusesUnseen (task.Remark what slots start strict) book input = IfSome input (IsUnremarked what slots)
 RefusesUnseen other book input = ⊤
 
 -- so nothing was written
@@ -360,7 +356,7 @@ WritesDifferences (task.VerifyOrders cell terms file) book input old new =
     WritesOutputOfBoth (HasOrderDifferences cell terms) book input old new
 WritesDifferences (task.Check what) book input old new =
     (count : ℕ) × WritesOutput (HasFaultsBy (bounds_of what) count) input old new
-WritesDifferences (task.Remark slots start strict) book input old new =
-    ((count : ℕ) × WritesOutput (HasFaults count) input old new)
-    ⊎ ((count : ℕ) × WritesOutput (HasRemarks slots start count) input old new)
+WritesDifferences (task.Remark what slots start strict) book input old new =
+    ((count : ℕ) × WritesOutput (HasFaultsBy (bounds_of what) count) input old new)
+    ⊎ ((count : ℕ) × WritesOutput (HasRemarks what slots start count) input old new)
 WritesDifferences other book input old new = ⊥

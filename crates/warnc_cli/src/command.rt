@@ -81,6 +81,8 @@ pub enum Task<'a> {
     },
     /// `check` of the rows and of a run.
     Remark {
+        /// What is checked and run.
+        what: Extent,
         /// How many slots each cell's run has, at least 1.
         slots: u16,
         /// When slot 0 begins, if times are wanted.
@@ -341,12 +343,12 @@ fn check_in<'a, S: AsStr>(words: &'a [S]) -> Option<Task<'a>>
     requires { slice_get (map S.text words.now) 1 ≡ Some (codes "check") }
     ensures { IfSome result (IsTaskOf (map S.text words.now)) }
 {
+    let what = extent_in(words)?;
     if !is_given(words, "--slots") {
-        return Some(Task::Check {
-            what: extent_in(words)?,
-        });
+        return Some(Task::Check { what });
     }
     Some(Task::Remark {
+        what,
         slots: slots_in(words)?,
         start: slot_start_in(words)?,
         strict: is_given(words, "--strict"),

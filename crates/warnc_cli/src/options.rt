@@ -7,7 +7,7 @@ use parallel_compile::MAX_WORKERS;
 use std::alloc::{AllocError, Global};
 
 /// The version of the program, and on a line of its own what `rt version` says of the toolchain that proved it.
-const VERSION: &str = "1.19.0\nrattle-kit-13f logic dac8208d650f15bf";
+const VERSION: &str = "1.20.0\nrattle-kit-13b logic dac8208d650f15bf";
 
 /// The words for the channel that packets name.
 const CHANNEL_TYPES: &[&str] = &["cbch", "sdcch"];
@@ -184,7 +184,7 @@ fn check<'a>(alloc: Global) -> Result<Command<'a>, AllocError> {
             "Reads a book of alerts, as CSV, and writes every row that has a\nfault, its column, and what is wanted there, as CSV",
         )
         .after_help("Example: warnc check --slots 4096 < book.csv")
-        .arg(checked_slots(alloc)?)?
+        .arg(checked_slots(alloc))?
         .arg(checked_group(alloc))?
         .arg(whole_network(alloc)?)?
         .arg(checked_clock(alloc)?)?
@@ -385,7 +385,7 @@ fn checked_group<'a>(alloc: Global) -> Arg<'a> {
         alloc,
         "group",
         "GROUP",
-        "Takes the book for a network book, which is to have\nthe group of this number, 0 to 65535",
+        "Takes the book for a network book, which is to have\nthe group of this number, 0 to 65535: with --slots runs\nthat group",
     )
     .value_parser(value_parser!(u16))
 }
@@ -462,7 +462,7 @@ fn charted_language<'a>(alloc: Global) -> Arg<'a> {
 }
 
 /// The option of the number of slots of a run that is checked.
-fn checked_slots<'a>(alloc: Global) -> Result<Arg<'a>, AllocError> {
+fn checked_slots<'a>(alloc: Global) -> Arg<'a> {
     optional(
         alloc,
         "slots",
@@ -470,8 +470,6 @@ fn checked_slots<'a>(alloc: Global) -> Result<Arg<'a>, AllocError> {
         "Runs a book without a fault for this many slots,\n1 to 65535, and writes what is remarked of the run\nand how full each cell gets",
     )
     .value_parser(value_parser!(u16).range(1..=65535))
-    .conflicts_with("group")?
-    .conflicts_with("network")
 }
 
 /// The option by which there are to be no remarks.

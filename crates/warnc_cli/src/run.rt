@@ -237,10 +237,11 @@ fn run_task<T: AllocGlobal + Threads + Wait + Sync, B: Read, R: Read, W: Write, 
         Task::Groups => run_groups(rt, source, sink, faults),
         Task::Check { what } => run_check(alloc, what, source, sink, faults),
         Task::Remark {
+            what,
             slots,
             start,
             strict,
-        } => run_remark(rt, slots, start, strict, source, sink, faults),
+        } => run_remark(rt, what, slots, start, strict, source, sink, faults),
         Task::Plan => run_plan(alloc, source, sink, faults),
         Task::Texts { what, pages } => run_texts(alloc, what, pages, source, sink, faults),
         Task::Make { run, made } => run_books(rt, run, made, source, sink, faults),
@@ -510,6 +511,7 @@ fn run_check<R: Read, W: Write, F: Write>(
 /// Runs `check --slots`, and returns the status.
 fn run_remark<T: AllocGlobal + Threads + Wait + Sync, R: Read, W: Write, F: Write>(
     rt: &T,
+    what: Extent,
     slots: u16,
     start: Option<Start>,
     strict: bool,
@@ -517,14 +519,14 @@ fn run_remark<T: AllocGlobal + Threads + Wait + Sync, R: Read, W: Write, F: Writ
     sink: &mut Sink<W>,
     faults: &mut F,
 ) -> u8
-    ensures done { IsDoneBy (Task.Remark slots start strict) result R.remaining W.contents source.old sink.old
+    ensures done { IsDoneBy (Task.Remark what slots start strict) result R.remaining W.contents source.old sink.old
         sink.new }
-    ensures wrote { WroteSomeBy (Task.Remark slots start strict) result W.contents sink.old sink.new }
-    ensures refused { IsRefusedBy (Task.Remark slots start strict) result R.remaining source.old }
-    ensures told { WroteRemarksBy slots start strict result R.remaining W.contents source.old sink.old sink.new }
-    ensures ends { IsRunBetween (Task.Remark slots start strict) result W.contents source.new sink.old sink.new }
+    ensures wrote { WroteSomeBy (Task.Remark what slots start strict) result W.contents sink.old sink.new }
+    ensures refused { IsRefusedBy (Task.Remark what slots start strict) result R.remaining source.old }
+    ensures told { WroteRemarksBy what slots start strict result R.remaining W.contents source.old sink.old sink.new }
+    ensures ends { IsRunBetween (Task.Remark what slots start strict) result W.contents source.new sink.old sink.new }
 {
-    match remark_stream(rt, source, sink, slots, start, strict) {
+    match remark_stream(rt, source, sink, what, slots, start, strict) {
         Ok(()) => DONE,
         Err(fault) => failed(&fault, faults),
     }

@@ -225,8 +225,8 @@ impl Fault for RemarkFault {
 
     fn status(&self) -> u8 {
         match *self {
-            RemarkFault::Faults(_) | RemarkFault::TooLong => REFUSED_INPUT,
-            RemarkFault::Run(_) | RemarkFault::Remarks(_) => REFUSED_INPUT,
+            RemarkFault::Faults(_) | RemarkFault::NoGroup(_) => REFUSED_INPUT,
+            RemarkFault::TooLong | RemarkFault::Run(_) | RemarkFault::Remarks(_) => REFUSED_INPUT,
             RemarkFault::ReadFailed | RemarkFault::WriteFailed => DEVICE,
             RemarkFault::Refused => MEMORY,
         }

@@ -222,14 +222,71 @@ err -> warnc: write failed
 all -> 30 of 118
 args check --group 0 --network
 usage -> 2 error:
-args check --slots 24 --group 0
-usage -> 2 error:
-args check --slots 24 --network
+args check --slots 24 --group 0 --network
 usage -> 2 error:
 args texts --network --group 0
 usage -> 2 error:
 args texts --group 65536
 usage -> 2 error:
+";
+
+/// Runs of network books, and of a group of one.
+const RUN_NETWORKS: &str = "
+args check --slots 24 --network
+in cell,1,1
+in write,0,a,4370,0,1,en,2,2,0,*,One
+in stop,30,a,*
+run -> 0
+out -> group,row,name,cell,says
+out -> 0,3,a,,past the end
+out -> 0,,,1-1,fullest: 50 % at slot 0
+args check --slots 24 --network --strict
+run -> 1
+out -> group,row,name,cell,says
+out -> 0,3,a,,past the end
+out -> 0,,,1-1,fullest: 50 % at slot 0
+err -> warnc: remarks: 1
+args check --slots 31 --network --strict --start 2026-11-29T18:30:00Z
+run -> 0
+out -> group,row,name,cell,says,time
+out -> 0,,,1-1,fullest: 50 % at slot 0,2026-11-29T18:30:00.000Z
+reads 0 55 -> 3 warnc: read failed
+args check --slots 24 --group=0
+run -> 0
+out -> row,name,cell,says
+out -> 3,a,,past the end
+out -> ,,1-1,fullest: 50 % at slot 0
+args check --slots 24 --group 0 --strict
+run -> 1
+out -> row,name,cell,says
+out -> 3,a,,past the end
+out -> ,,1-1,fullest: 50 % at slot 0
+err -> warnc: remarks: 1
+args check --slots 24 --group 1
+fails -> 1 warnc: no such group: the network has 1
+args check --slots 24 --network
+worked group,row,name,cell,says
+worked 0,3,a,,past the end
+worked 0,,,1-1,fullest: 50 % at slot 0
+writer 10 3
+run -> 3
+err -> warnc: write failed
+all -> 30 of 77
+
+# faults are those of the network, whichever group is asked for
+in cell,1
+in stop,0,b,*
+run -> 1
+out -> row,line,column,field,value,says
+out -> 1,1,1,VERB,cell,\"2 columns, cell has 3\"
+out -> 2,2,3,NAME,b,no earlier row writes this name
+err -> warnc: faults: 2
+args check --slots 24 --group 65535
+run -> 1
+out -> row,line,column,field,value,says
+out -> 1,1,1,VERB,cell,\"2 columns, cell has 3\"
+out -> 2,2,3,NAME,b,no earlier row writes this name
+err -> warnc: faults: 2
 ";
 
 #[test]
@@ -254,5 +311,10 @@ fn texts_are_costed(rt: HostRuntime) -> Result<(), Fail> {
 
 #[test]
 fn networks_are_checked(rt: HostRuntime) -> Result<(), Fail> {
-    expect_rows(&rt, NETWORKS, 52)
+    expect_rows(&rt, NETWORKS, 50)
+}
+
+#[test]
+fn networks_are_run(rt: HostRuntime) -> Result<(), Fail> {
+    expect_rows(&rt, RUN_NETWORKS, 53)
 }

@@ -19,6 +19,8 @@ use Rattle.alert_book.specs.Book.{Contents}
 use Rattle.alert_book.specs.Network.{HasGroups, IsGroupBook, IsNoNetworkBook, MeansNetwork, NetworkRows, read_in}
 use Rattle.alert_book.specs.Network.{RefusesNetwork}
 use Rattle.warnc_run.specs.declared.fault.RunFault.{RunFault}
+use Rattle.warnc_run.specs.declared.fault.RunFault.TheVariants as run
+use Rattle.warnc_run.specs.Faults.{IsOfBook}
 use Rattle.warnc_run.specs.declared.product.ProductFault.{ProductFault}
 use Rattle.warnc_run.specs.declared.product.ProductFault.TheVariants as fault
 use Rattle.warnc_run.specs.declared.parts.Part.{Part}
@@ -303,6 +305,18 @@ refused_network first last input f read (inr (inr wrong)) = record {
 -- a group's book is some book
 pub a_book : (group : ℕ) (input : List ℕ) (book : Contents) → IsGroupBook group input book → IsSomeBook book
 a_book group input book is = (origin.Group group, input, is)
+
+-- a run of it that ended early made no part
+pub no_part : (slots parts group : ℕ) (input : List ℕ) (book : Contents) (f : RunFault) → IsGroupBook group input book
+    → IsOfBook book slots parts f
+    → HasNoPart slots parts group input f
+no_part slots parts group input book (run.Book f) is of = (book, is, of)
+no_part slots parts group input book (run.NoGroup groups) is of = (book, is, of)
+no_part slots parts group input book (run.Desk f) is of = (book, is, of)
+no_part slots parts group input book (run.Settle f) is of = (book, is, of)
+no_part slots parts group input book (run.Compile f) is of = (book, is, of)
+no_part slots parts group input book (run.Write failed) is of = (book, is, of)
+no_part slots parts group input book run.Refused is of = tt
 
 -- no tape of a part is empty
 pub no_empty_tape : (runs : GroupRuns) (group : ℕ) (input : List ℕ) (came : Result Part RunFault)

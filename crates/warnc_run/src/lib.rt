@@ -6,7 +6,8 @@
 //! records: their tapes, the report of what became of each order, or their chart. Several workers play the cells and
 //! hand on their pages, of which the tapes are put together while the desk is open, and compared with the records when
 //! it is settled; one worker hands on nothing: each tape is made of its record when it is written.
-//! [`live_stream`] and [`compile_stream`] are that for the tapes of a book, and [`run_book`] gives the records.
+//! [`live_stream`] and [`compile_stream`] are that for the tapes of a book, [`run_book`] gives the records, and
+//! [`run_with_book`] and [`run_group`] give them with the book or with that of a group.
 //! [`run_strictly`] writes only of a run in which every order was done.
 //!
 //! What was written is said by definitions of the book's octets alone (`IsMadeBy`), which know of no worker: which
@@ -39,6 +40,6 @@ pub use groups::groups_stream;
 pub use laws::{first_shown_law, output_laws, report_column_laws, whole_laws};
 pub use live::{compile_stream, live_stream};
 pub use product::{Product, ProductFault, run_product};
-pub use records::run_book;
+pub use records::{RanBook, run_book, run_group, run_with_book};
 pub use run::{BookRun, Books, Run, Sessions, Workers};
 pub use strict::{StrictFault, run_strictly};

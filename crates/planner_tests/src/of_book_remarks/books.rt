@@ -200,6 +200,42 @@ writes 2 stop,30,fire,*| -> WriteFailed, true, 20
 writes 3 sell| -> WriteFailed, true, 30
 ";
 
+/// Network books: each group is run by itself, and rows keep the numbers of the network.
+const NETWORKS: &str = "
+# Of 66 cells the second group has 1-64 and 1-65. Row 67 writes in one of each group.
+cells 66
+group 1
+full write,0,fire,4370,0,1,en,2,4,0,1-0 1-64,Stay in!|stop,8,fire,*| -> 68,fire,,leaves out 1-65|,,1-65,gets nothing|\
+    ,,1-64,fullest: 25 % at slot 0|,,1-65,fullest: 0 % at slot 0
+table write,0,fire,4370,0,1,en,2,4,0,1-65 1-64,Stay in!| -> row,name,cell,says|,,1-64,fullest: 25 % at slot 0|\
+    ,,1-65,fullest: 25 % at slot 0
+strict write,0,fire,4370,0,1,en,2,4,0,1-64,Stay in!| -> Remarks(1) ,,1-65,gets nothing
+group 2
+writes 9 -> NoGroup(2), false, 0
+line  -> no such group: the network has 2
+run stop,0,b,*| -> Faults(1) row,line,column,field,value,says|67,67,3,NAME,b,no earlier row writes this name
+network
+run write,0,fire,4370,0,1,en,2,4,0,*,Stay in!| -> none
+strict write,0,fire,4370,0,1,en,2,4,0,*,Stay in!| -> none
+run write,0,fire,4370,0,1,en,2,4,0,*,Stay in!|stop,30,fire,1-65 1-3|update,8,fire,en,2,4,0,*,Out!| -> \
+    0,68,fire,,past the end|0,69,fire,,past the end|1,68,fire,,past the end|1,69,fire,,past the end
+strict write,0,fire,4370,0,1,en,2,4,0,*,Stay in!|stop,30,fire,1-65 1-3|update,8,fire,en,2,4,0,1-1,Out!| -> \
+    Remarks(2) 0,68,fire,,past the end|1,68,fire,,past the end
+run stop,0,b,*| -> Faults(1) row,line,column,field,value,says|67,67,3,NAME,b,no earlier row writes this name
+
+# A network without cells has one group; one of a group has its cells alone, with times and without.
+cells 0
+table  -> group,row,name,cell,says
+before cell,1,1|cell,1,2|write,20,fire,4370,0,1,en,2,4,0,1-1,Stay in!|
+table write,4,storm,4371,0,2,en,2,4,0,1-1,Go| -> group,row,name,cell,says|0,4,storm,,done at slot 20|\
+    0,,,1-2,gets nothing|0,,,1-1,fullest: 50 % at slot 20|0,,,1-2,fullest: 0 % at slot 0
+start 1795977000000000
+table write,4,storm,4371,0,2,en,2,4,0,1-1,Go| -> group,row,name,cell,says,time|\
+    0,4,storm,,done at slot 20,2026-11-29T18:30:37.661Z|0,,,1-2,gets nothing,|\
+    0,,,1-1,fullest: 50 % at slot 20,2026-11-29T18:30:37.661Z|\
+    0,,,1-2,fullest: 0 % at slot 0,2026-11-29T18:30:00.000Z
+";
+
 #[test]
 fn mistakes_are_remarked(rt: HostRuntime) -> Result<(), Fail> {
     expect_rows(&rt, MISTAKES, 39)
@@ -223,4 +259,9 @@ fn remarks_have_times(rt: HostRuntime) -> Result<(), Fail> {
 #[test]
 fn faults_and_failed_ends_are_told(rt: HostRuntime) -> Result<(), Fail> {
     expect_rows(&rt, FAULTS, 16)
+}
+
+#[test]
+fn networks_are_remarked(rt: HostRuntime) -> Result<(), Fail> {
+    expect_rows(&rt, NETWORKS, 14)
 }

@@ -1,5 +1,6 @@
 //! Books that are remarked short of memory: growths are refused one after the other.
 
+use alert_book::Extent;
 use book_remarks::{RemarkFault, remark_stream};
 use device_ends::memory::MemoryReader;
 use device_ends::{Sink, Source};
@@ -27,9 +28,19 @@ const REMARKS: &str = "row,name,cell,says,time\n\
 ,,1-1,fullest: 50 % at slot 0,2026-11-29T18:30:00.000Z\n\
 ,,1-2,fullest: 0 % at slot 0,2026-11-29T18:30:00.000Z\n";
 
+/// The same of the network book of one group that it is.
+const NETWORK_REMARKS: &str = "group,row,name,cell,says,time\n\
+0,4,b,,refused in 1 cell: BSC capacity exceeded,\n\
+0,5,a,,leaves out 1-2,\n\
+0,6,b,,orders nothing,\n\
+0,,,1-2,gets nothing,\n\
+0,,,1-1,fullest: 50 % at slot 0,2026-11-29T18:30:00.000Z\n\
+0,,,1-2,fullest: 0 % at slot 0,2026-11-29T18:30:00.000Z\n";
+
 /// What comes of the book, whose output takes no memory: the fault, and how many octets are out.
 fn outcome_of<T: AllocGlobal + Threads + Wait + Sync>(
     rt: &T,
+    what: Extent,
     output: &mut [u8],
 ) -> (Option<RemarkFault>, usize) {
     let mut reader = MemoryReader::new(BOOK, 100, None);
@@ -39,6 +50,7 @@ fn outcome_of<T: AllocGlobal + Threads + Wait + Sync>(
         rt,
         &mut Source::new(&mut reader),
         &mut Sink::new(&mut left),
+        what,
         8,
         Start::new(1_795_977_000_000_000),
         true,
@@ -50,18 +62,22 @@ fn outcome_of<T: AllocGlobal + Threads + Wait + Sync>(
 fn is_told<T: AllocGlobal + Threads + Wait + Sync>(
     rt: &T,
     room: &mut Room,
+    what: Extent,
     blocks: Option<u16>,
 ) -> Result<bool, Fail> {
     let mut output = [0; SIZE];
     if let Some(blocks) = blocks {
         room.leave(rt.alloc(), blocks);
     }
-    let (fault, count) = outcome_of(rt, &mut output);
+    let (fault, count) = outcome_of(rt, what, &mut output);
     room.end();
+    let wanted = if what == Extent::Network {
+        NETWORK_REMARKS
+    } else {
+        REMARKS
+    };
     match fault {
-        Some(RemarkFault::Remarks(4)) if &output[..count.min(SIZE)] == REMARKS.as_bytes() => {
-            Ok(true)
-        }
+        Some(RemarkFault::Remarks(4)) if &output[..count.min(SIZE)] == wanted.as_bytes() => Ok(true),
         Some(RemarkFault::Refused) if count == 0 => Ok(false),
         _ => Err(Fail::new("another fault, or another table")),
     }
@@ -69,24 +85,40 @@ fn is_told<T: AllocGlobal + Threads + Wait + Sync>(
 
 /// How often a book is refused memory until its remarks are written, in rooms of more and more memory. After each
 /// refusal they are written with all memory.
-fn refusals<T: AllocGlobal + Threads + Wait + Sync>(rt: &T, room: &mut Room) -> Result<u16, Fail> {
+fn refusals<T: AllocGlobal + Threads + Wait + Sync>(
+    rt: &T,
+    room: &mut Room,
+    what: Extent,
+) -> Result<u16, Fail> {
     for blocks in 0..Room::MOST {
-        if is_told(rt, room, Some(blocks))? {
+        if is_told(rt, room, what, Some(blocks))? {
             return Ok(blocks);
         }
-        if !is_told(rt, room, None)? {
+        if !is_told(rt, room, what, None)? {
             return Err(Fail::new("no memory, with all memory"));
         }
     }
     Err(Fail::new("no remarks are written"))
 }
 
+/// How often it is refused memory, looked at so.
+fn refusals_of<T: AllocGlobal + Threads + Wait + Sync>(rt: &T, what: Extent) -> Result<u16, Fail> {
+    let mut room = Room::new(rt.alloc())?;
+    let refused = refusals(rt, &mut room, what);
+    drop(room);
+    refused
+}
+
 #[test]
 fn refused_memory_is_reported(rt: HostRuntime) -> Result<(), Fail> {
-    let mut room = Room::new(rt.alloc())?;
-    let refused = refusals(&rt, &mut room);
-    drop(room);
-    let refused = refused?;
+    let refused = refusals_of(&rt, Extent::Book)?;
+    assert!(rt; refused >= 100, "{refused}");
+    Ok(())
+}
+
+#[test]
+fn refused_memory_of_networks_is_reported(rt: HostRuntime) -> Result<(), Fail> {
+    let refused = refusals_of(&rt, Extent::Network)?;
     assert!(rt; refused >= 100, "{refused}");
     Ok(())
 }

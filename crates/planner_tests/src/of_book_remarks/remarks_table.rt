@@ -6,7 +6,9 @@
 //! - `slots NUMBER`: a run has that many slots; `most NUMBER`: a read gives, and a write takes, that many octets at
 //!   most;
 //! - `start NUMBER`: slot 0 begins so many microseconds after 1970-01-01T00:00:00Z; remarks have no times before one is
-//!   given.
+//!   given;
+//! - `network`: the book is a network book; `group NUMBER`: it is one of which this group is run; `cells NUMBER`: the
+//!   rows of that many cells stand before those of each book that follows, from 1-0 on.
 //!
 //! What comes of a book:
 //!
@@ -20,16 +22,19 @@
 
 use crate::octets::add_rows;
 use crate::of_book_remarks::runs::{Manner, Outcome, outcome_of};
+use alert_book::Extent;
 use slot_times::Start;
 use std::alloc::{AllocGlobal, Global};
+use std::io::Write;
 use std::process::Abort;
 use std::sync::Wait;
 use std::test::Fail;
 use std::thread::Threads;
 use test_support::Row;
 
-/// The columns' names, which stand before all that is remarked.
+/// The columns' names, which stand before all that is remarked of a book, and of a network.
 const NAMES: &str = "row,name,cell,says\n";
+const NETWORK_NAMES: &str = "group,row,name,cell,says\n";
 
 /// What a table has said about the books that follow.
 #[derive(Drop)]
@@ -42,6 +47,20 @@ struct Given {
     told: String,
 }
 
+/// Has the rows of this many cells stand before those of each book.
+fn set_cells(before: &mut Vec<u8>, count: u16) -> Result<(), Fail> {
+    before.clear();
+    for number in 0..count {
+        writeln!(before, "cell,1,{number}")?;
+    }
+    Ok(())
+}
+
+/// Whether a word says something of the books that follow.
+fn is_setting(verb: &str) -> bool {
+    matches!(verb, "before" | "slots" | "start" | "most" | "network" | "group" | "cells")
+}
+
 /// Has what a row says of the books that follow.
 fn set(given: &mut Given, verb: &str, rest: &str) -> Result<(), Fail> {
     match verb {
@@ -49,6 +68,9 @@ fn set(given: &mut Given, verb: &str, rest: &str) -> Result<(), Fail> {
             given.before.clear();
             add_rows(&mut given.before, rest)?;
         }
+        "network" => given.manner.what = Extent::Network,
+        "group" => given.manner.what = Extent::Group(rest.parse::<u16>()?),
+        "cells" => set_cells(&mut given.before, rest.parse::<u16>()?)?,
         "slots" => given.manner.slots = rest.parse::<u16>()?,
         "start" => given.manner.start = Start::new(rest.parse::<u64>()?),
         _ => given.manner.most = rest.parse::<usize>()?,
@@ -66,7 +88,7 @@ fn tell_lines(told: &mut String, lines: &str) -> Result<(), Fail> {
 
 /// Whether a line says how full a cell gets.
 fn is_fullest(line: &str) -> bool {
-    line.starts_with(",,") && line.contains(",fullest: ")
+    line.contains(",fullest: ")
 }
 
 /// Tells the lines of remarks, without those of how full cells get.
@@ -91,7 +113,11 @@ fn tell_remarks(told: &mut String, lines: &str) -> Result<(), Fail> {
 /// Tells what was written: of remarks what stands below the columns' names.
 fn tell_text(told: &mut String, verb: &str, text: &[u8]) -> Result<(), Fail> {
     let text = std::str::from_utf8(text).map_err(|_| Fail::new("the table isn't UTF-8"))?;
-    match text.strip_prefix(NAMES) {
+    let below = match text.strip_prefix(NAMES) {
+        Some(lines) => Some(lines),
+        None => text.strip_prefix(NETWORK_NAMES),
+    };
+    match below {
         Some(lines) if verb == "full" => tell_lines(told, lines),
         Some(lines) if verb != "table" => tell_remarks(told, lines),
         _ => tell_lines(told, text),
@@ -152,7 +178,7 @@ fn carry_out<T: AllocGlobal + Threads + Wait + Sync>(
 ) -> Result<(), Fail> {
     given.told.clear();
     let (verb, rest) = action.split_once(' ').unwrap_or((action, ""));
-    if verb == "before" || verb == "slots" || verb == "start" || verb == "most" {
+    if is_setting(verb) {
         return set(given, verb, rest);
     }
     let mut octets = Vec::new(rt.alloc());
@@ -189,6 +215,7 @@ fn nothing_given(alloc: Global) -> Given {
     Given {
         before: Vec::new(alloc),
         manner: Manner {
+            what: Extent::Book,
             slots: 24,
             start: None,
             strict: false,

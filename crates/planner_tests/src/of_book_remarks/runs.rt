@@ -1,5 +1,6 @@
 //! How tests have books remarked.
 
+use alert_book::Extent;
 use book_remarks::{RemarkFault, remark_stream};
 use device_ends::memory::{MemoryReader, MemoryWriter};
 use device_ends::{Sink, Source};
@@ -8,11 +9,13 @@ use std::alloc::{AllocError, AllocGlobal};
 use std::sync::Wait;
 use std::thread::Threads;
 
-/// How a book is remarked: in runs of how many slots, with which time of slot 0, whether there are to be no remarks,
-/// how many octets a read gives and a write takes at most, one at least, and after how many calls each end fails, if it
-/// does.
+/// How a book is remarked: as a book, as a network book or for a group of one; in runs of how many slots, with which
+/// time of slot 0, whether there are to be no remarks, how many octets a read gives and a write takes at most, one at
+/// least, and after how many calls each end fails, if it does.
 #[derive(Clone, Copy)]
 pub struct Manner {
+    /// What is looked at.
+    pub what: Extent,
     /// How many slots a run has.
     pub slots: u16,
     /// When slot 0 begins, if remarks have times.
@@ -55,6 +58,7 @@ pub fn outcome_of<T: AllocGlobal + Threads + Wait + Sync>(
         rt,
         &mut source,
         &mut sink,
+        manner.what,
         manner.slots,
         manner.start,
         manner.strict,

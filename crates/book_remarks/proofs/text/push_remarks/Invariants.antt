@@ -7,4 +7,4 @@ use Rattle.book_remarks.proofs.text.push_remarks.Given as goal
 abbrev pub invariant-loop-remark : goal.invariant-loop-remark
 invariant-loop-remark l =
     (octets : List ℕ) → IsTable l.fn.table octets
-    → IsTable l.table (octets ++ flat_map (remark_line l.start) (take l.remark-index l.remarks))
+    → IsTable l.table (octets ++ flat_map (remark_line l.group l.start) (take l.remark-index l.remarks))

@@ -1,4 +1,4 @@
-use Rattle.std.proofs.Common.{◌≤◌, ◌≡◌, Err, None, refl, rules}
+use Rattle.std.proofs.Common.{◌≤◌, ◌≡◌, Err, None, refl, rules, sym}
 use native.Mathlib.Omega.{arith}
 use Rattle.std.proofs.KnownBytes.{Keeps-refl}
 use Rattle.std.proofs.lemmas.Result.{IfErr-weaker, IfOk-weaker}
@@ -8,22 +8,27 @@ use Rattle.warnc_run.specs.Products.{untimed}
 use Rattle.warnc_run.specs.declared.product.Product.TheVariants as product
 use Rattle.warnc_run.proofs.Written.{fault_of_reading, fault_of_run, of_any_product, of_no_product, run_of_book}
 use Rattle.warnc_run.proofs.Written.{where_it_is}
-use Rattle.warnc_run.proofs.records.run_book.Goals as goal
+use Rattle.warnc_run.proofs.records.run_with_book.Goals as goal
 
 pub returns-clause-ok : goal.returns-clause-ok
+unfolding run_of_book
 returns-clause-ok g c =
     let read = c.in_ok-book.ensures.ok in
     let few : c.args.slots ≤ 65535 = omega (arith, c.ranges.slots.fits) in
-    IfOk-weaker c.records_of_run.result _ _
-    (λ records live. record {
+    IfOk-weaker c.run_alone.result _ _
+    (λ ran is. record {
       input = read.input;
       read = read.consumed;
       ended = read.ended;
-      made = run_of_book c.session_laws.ensures.shown c.session_laws.ensures.accepted
-          c.legal_histories.ensures.legal_histories_are_served c.args.origin read.input c.in_ok-book.book c.args.slots 1
-          _ few read.meant live;
+      made = record {
+        run = run_of_book c.session_laws.ensures.shown c.session_laws.ensures.accepted
+            c.legal_histories.ensures.legal_histories_are_served c.args.origin read.input c.in_ok-book.book
+                c.args.slots 1
+            _ few read.meant is.1;
+        of_book = sym is.0;
+      };
     })
-    c.records_of_run.ensures.ok
+    c.run_alone.ensures.ok
 
 pub returns-clause-err : goal.returns-clause-err
 returns-clause-err g c =
@@ -35,7 +40,7 @@ returns-clause-err g c =
       ended = read.ended;
       is_book = read.meant;
     } in
-    IfErr-weaker c.records_of_run.result _ _
+    IfErr-weaker c.run_alone.result _ _
     (λ fault of_book.
     let other = of_any_product c.in_ok-book.book c.args.slots 1 (product.Report (untimed columns.Plain)) fault of_book
     in (
@@ -43,7 +48,7 @@ returns-clause-err g c =
       fault_of_run c.args.origin c.args.slots 1 (λ input output. ⊥) _ _ None None c.in_ok-book.book fault whole refl
           other.1 (Keeps-refl None),
     ))
-    c.records_of_run.ensures.err
+    c.run_alone.ensures.err
 
 pub returns-in_err-book-clause-err : goal.returns-in_err-book-clause-err
 returns-in_err-book-clause-err g c =
