@@ -86,8 +86,11 @@ one_told network slots start group count more book remarks records old new is ar
       remarked = λ input means.
           let run = is input means in
           remarked_after slots input 0 group before.each one place (before.remarked input means)
-          (record { run = run.run; remarked = are ∙ ap (λ (b : Contents). remarks_in b.orders records)
-              (sym run.of_book) });
+          (record {
+            run = run.run;
+            remarked = are ∙ ap (λ (b : Contents). remarks_in b.orders records)
+                (sym run.of_book);
+          });
       counted = counted one refl;
       told = subst (IsTable new)
           (append_assoc (network_header start) (lines_of_groups start 0 before.each) (group_lines start group one)

@@ -55,14 +55,14 @@ groups_are_one books_one runs law slots input group (own ∷ each) (other ∷ ot
 pub remarks_are_one : BooksAreOne → RunsAreOne → OneSessionIsARun → CountsAreOne → RemarksAreOne
 remarks_are_one books_one runs law counts extent.Book slots start begun input output another count other one two =
     let same = run_is_one books_one runs law origin.Book slots input one.all two.all one.records two.records
-        one.remarked
+    one.remarked
     two.remarked in (
       sym one.counted ∙ ap length same.0 ∙ two.counted,
       λ begins. one.written ∙ ap (λ (s : Option Start). checked_run_text s one.all one.records) begins
           ∙ ap₂ (checked_run_text begun) same.0 same.1 ∙ sym two.written,
     )
 remarks_are_one books_one runs law counts (extent.Group group) slots start begun input output another count other one
-  two =
+    two =
     let same = run_is_one books_one runs law (origin.Group group) slots input one.all two.all one.records two.records
     one.remarked two.remarked in (
       sym one.counted ∙ ap length same.0 ∙ two.counted,

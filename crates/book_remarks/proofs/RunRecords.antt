@@ -11,7 +11,6 @@ use Rattle.bsc_table.specs.Record.{Record}
 use Rattle.order_desk.specs.declared.fault.DeskFault.TheVariants as desk
 use Rattle.order_desk.specs.declared.settle.SettleFault.TheVariants as settle
 use Rattle.warnc_run.specs.Faults.{HasReadFrom, StopsRun}
-use Rattle.warnc_run.specs.Network.{HasNoPart}
 use Rattle.warnc_run.specs.Records.{HasNoRunOfGroup, HasRunWith, IsRecordsFault, IsRunWith}
 use Rattle.warnc_run.specs.declared.fault.RunFault.{RunFault}
 use Rattle.warnc_run.specs.declared.fault.RunFault.TheVariants as run

@@ -34,7 +34,7 @@ lines-are : (start : Option Start) (all : List Remark) (records : List Record)
     → checked_run_text start all records ≡ flat_map line (fields_of_run start all records)
 lines-are start all records =
     append_assoc (header_line start) (flat_map (remark_line None start) all)
-        (flat_map (fullest_line None start) records)
+    (flat_map (fullest_line None start) records)
     ∙ ap (λ (xs : List ℕ). header_line start ++ xs)
     (ap₂ (λ (xs ys : List ℕ). xs ++ ys) (lines-of-remarks start all) (lines-of-records start records)
     ∙ sym (flat_map-append line (map (remark_fields start) all) (map (run_fields start) records)))

@@ -14,7 +14,7 @@ use Rattle.order_desk.specs.declared.settle.SettleFault.TheVariants as settle
 use Rattle.warnc_run.specs.declared.fault.RunFault.{RunFault}
 use Rattle.warnc_run.specs.declared.fault.RunFault.TheVariants as run
 use Rattle.book_check.specs.Checked.{HasFaultsBy, IsCheckedBy, LacksGroup}
-use Rattle.book_remarks.specs.Remarked.{AreRemarkedGroups, IsRemarkedRun, IsStopped, remarks_count}
+use Rattle.book_remarks.specs.Remarked.{AreRemarkedGroups, IsStopped, remarks_count}
 use Rattle.book_remarks.specs.RemarksText.{RemarkedGroup, checked_network_text}
 use Rattle.book_remarks.specs.TableSteps.{IsTable}
 use Rattle.book_remarks.specs.declared.fault.RemarkFault.{RemarkFault}

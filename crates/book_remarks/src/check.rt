@@ -294,11 +294,16 @@ fn tell_group<T: AllocGlobal + Threads + Wait + Sync>(
         → IsStop extents.Network slots input stop) }
 {
     let alloc = rt.alloc();
-    let RanBook { book, records } =
-        match run_group(rt, network, group, slots, Workers { number: 1 }) {
-            Ok(ran) => ran,
-            Err(fault) => return Err(stop_of(fault)),
-        };
+    let RanBook { book, records } = match run_group(
+        rt,
+        network,
+        group,
+        slots,
+        Workers { number: 1 },
+    ) {
+        Ok(ran) => ran,
+        Err(fault) => return Err(stop_of(fault)),
+    };
     let Ok(remarks) = remarks_of(alloc, book.given(), &records) else {
         return Err(RemarkFault::Refused);
     };

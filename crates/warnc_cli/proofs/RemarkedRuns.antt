@@ -268,19 +268,19 @@ pub of_remark : {B R W : Type 0} (what : Extent) (slots : ℕ) (start : Option S
     → HasRun (task.Remark what slots start strict) status book_left left held book book first last old new
 of_remark what slots start strict status book_left left held book first last old new done wrote refused told ends =
     record {
-  statuses = ends.statuses;
-  understood = ends.understood;
-  done = done;
-  wrote = wrote;
-  refused = refused;
-  nothing_written = ends.nothing_written;
-  untouched = ends.untouched;
-  of_refused = λ is. faults (told.0 is);
-  of_memory = λ is. inl (told.1 is);
-  device = λ is. inr (ends.device is);
-  failed = λ sound input sink failed. by_end sound sink failed;
-  no_book = λ none. refl;
-}
+      statuses = ends.statuses;
+      understood = ends.understood;
+      done = done;
+      wrote = wrote;
+      refused = refused;
+      nothing_written = ends.nothing_written;
+      untouched = ends.untouched;
+      of_refused = λ is. faults (told.0 is);
+      of_memory = λ is. inl (told.1 is);
+      device = λ is. inr (ends.device is);
+      failed = λ sound input sink failed. by_end sound sink failed;
+      no_book = λ none. refl;
+    }
   where
     faults : KeepsUnseen (task.Remark what slots start strict) None (left (reader_of first)) (held (writer_of old))
         (held (writer_of new))

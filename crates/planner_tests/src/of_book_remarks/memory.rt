@@ -77,7 +77,9 @@ fn is_told<T: AllocGlobal + Threads + Wait + Sync>(
         REMARKS
     };
     match fault {
-        Some(RemarkFault::Remarks(4)) if &output[..count.min(SIZE)] == wanted.as_bytes() => Ok(true),
+        Some(RemarkFault::Remarks(4)) if &output[..count.min(SIZE)] == wanted.as_bytes() => Ok(
+            true,
+        ),
         Some(RemarkFault::Refused) if count == 0 => Ok(false),
         _ => Err(Fail::new("another fault, or another table")),
     }

@@ -34,6 +34,7 @@ use test_support::Row;
 
 /// The columns' names, which stand before all that is remarked of a book, and of a network.
 const NAMES: &str = "row,name,cell,says\n";
+
 const NETWORK_NAMES: &str = "group,row,name,cell,says\n";
 
 /// What a table has said about the books that follow.
@@ -58,7 +59,10 @@ fn set_cells(before: &mut Vec<u8>, count: u16) -> Result<(), Fail> {
 
 /// Whether a word says something of the books that follow.
 fn is_setting(verb: &str) -> bool {
-    matches!(verb, "before" | "slots" | "start" | "most" | "network" | "group" | "cells")
+    matches!(
+        verb,
+        "before" | "slots" | "start" | "most" | "network" | "group" | "cells"
+    )
 }
 
 /// Has what a row says of the books that follow.

@@ -16,7 +16,7 @@ returns-then-not-strict-clause-ok g c =
     c.deref.ensures.value
     c.in-Ok.ensures.ok in
     wrote (IsRemarkedFor c.args.what c.args.slots c.args.start c.args.strict) _ _ _ octets output
-        c.in_ok-octets.ensures.all
+    c.in_ok-octets.ensures.all
     (lax c.args.what c.args.slots c.args.start c.args.strict c.in-Ok.remarked.count octets output is remarked)
     (subst (λ (xs : List ℕ). Appends (g.W.Write.contents (writer_of c.args.sink.now))
     (g.W.Write.contents (writer_of c.write_all.new.sink)) xs) c.deref-2.ensures.value
@@ -33,7 +33,7 @@ returns-in-0-clause-ok g c =
     c.deref.ensures.value
     c.in-Ok.ensures.ok) in
     wrote (IsRemarkedFor c.args.what c.args.slots c.args.start c.args.strict) _ _ _ octets output
-        c.in_ok-octets.ensures.all
+    c.in_ok-octets.ensures.all
     (unremarked c.args.what c.args.slots c.args.start c.args.strict octets output remarked)
     (subst (λ (xs : List ℕ). Appends (g.W.Write.contents (writer_of c.args.sink.now))
     (g.W.Write.contents (writer_of c.write_all.new.sink)) xs) c.deref-2.ensures.value

@@ -11,7 +11,7 @@ pub loop-run-preserved : goal.loop-run-preserved
 loop-run-preserved c octets table =
     subst (λ (xs : List ℕ). IsTable c.push_fullest.new.table xs)
     (flat_map-next (fullest_line c.args.group c.args.start) c.args.records.now c.loop-run.run-index c.run-item.result
-        octets
+    octets
     (omega arith) c.run-item.is)
     (c.in_ok-push_fullest.ensures
     (octets ++ flat_map (fullest_line c.args.group c.args.start) (take c.loop-run.run-index c.args.records.now))
@@ -20,6 +20,6 @@ loop-run-preserved c octets table =
 pub returns : goal.returns
 returns c octets table =
     subst (λ (records : List Record). IsTable c.loop-run.table
-        (octets ++ flat_map (fullest_line c.args.group c.args.start) records))
+    (octets ++ flat_map (fullest_line c.args.group c.args.start) records))
     (take_all c.loop-run.run-index c.args.records.now (omega arith))
     (c.loop-run.invariant octets table)

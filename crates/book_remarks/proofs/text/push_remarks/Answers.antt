@@ -11,7 +11,7 @@ pub loop-remark-preserved : goal.loop-remark-preserved
 loop-remark-preserved c octets table =
     subst (λ (xs : List ℕ). IsTable c.push_remark.new.table xs)
     (flat_map-next (remark_line c.args.group c.args.start) c.args.remarks.now c.loop-remark.remark-index
-        c.remark-item.result octets
+    c.remark-item.result octets
     (omega arith) c.remark-item.is)
     (c.in_ok-push_remark.ensures
     (octets ++ flat_map (remark_line c.args.group c.args.start) (take c.loop-remark.remark-index c.args.remarks.now))

@@ -30,7 +30,7 @@ returns-in-Err-clause-told g c =
 pub returns-in-Err-clause-ends : goal.returns-in-Err-clause-ends
 returns-in-Err-clause-ends g c =
     remark_between c.args.what c.args.slots c.args.start c.args.strict c.in-Err.fault c.failed.result
-        g.W.Write.contents _ _ _
+    g.W.Write.contents _ _ _
     c.failed.ensures (record {
       read_failed = c.in-Err.ensures.read_failed;
       write_failed = c.in-Err.ensures.write_failed;

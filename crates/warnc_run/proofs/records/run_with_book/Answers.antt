@@ -23,7 +23,7 @@ returns-clause-ok g c =
       made = record {
         run = run_of_book c.session_laws.ensures.shown c.session_laws.ensures.accepted
             c.legal_histories.ensures.legal_histories_are_served c.args.origin read.input c.in_ok-book.book
-                c.args.slots 1
+            c.args.slots 1
             _ few read.meant is.1;
         of_book = sym is.0;
       };
