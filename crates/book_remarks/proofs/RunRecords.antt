@@ -88,6 +88,7 @@ stops_at from slots octets last (run.Compile f) why = tt
 stops_at from slots octets last (run.Write failed) why = tt
 stops_at from slots octets last run.Refused why = tt
 
+-- the same of a reader that has these octets
 pub stopped : (from : Origin) (slots : ℕ) (octets : List ℕ) (first last : Option (List ℕ)) (f : RunFault)
     → IsRecordsFault from slots first last f
     → first ≡ Some octets

@@ -24,7 +24,8 @@ returns-clause-ok g c count before =
     let again : c.deref-3.result.now ≡ records = search rules in
     let many : c.len.result ≡ length remarks = search rules in
     one_told c.args.network.now c.args.slots c.args.start c.args.group count c.len.result c.in-Ok.ran.book remarks
-    records c.args.table.now c.push_group.new.table c.in-Ok.ensures.ok (c.in-Ok-remarks_of.ensures ∙ ap₂ remarks_in given first)
+    records c.args.table.now c.push_group.new.table c.in-Ok.ensures.ok
+    (c.in-Ok-remarks_of.ensures ∙ ap₂ remarks_in given first)
     many
     (λ octets table.
     subst (λ (one : RemarkedGroup).
