@@ -53,9 +53,10 @@ nav a:hover{background:var(--lane)}
 nav a>*{overflow:hidden;text-overflow:ellipsis;white-space:nowrap}
 nav i{color:var(--faint);font-size:.85em;font-style:normal}
 div{align-items:center;display:grid;gap:.8em;grid-template-columns:minmax(8em,26em) 1fr;margin:.15em 0}
-div p{display:flex;gap:.3em;margin:0;overflow:hidden;white-space:nowrap}
+div p{display:flex;flex-wrap:wrap;gap:0 .3em;margin:0;overflow:hidden;white-space:nowrap}
 div b{max-width:14em;overflow:hidden;text-overflow:ellipsis}
-div bdi,.cause{flex:1;min-width:0;overflow:hidden;text-overflow:ellipsis}
+div bdi{flex:1;min-width:0;overflow:hidden;text-overflow:ellipsis}
+.cause{white-space:normal}
 div:hover p,div p:active{white-space:normal}
 div i,div small{color:var(--faint);font-size:1em}
 details{contain-intrinsic-size:auto 40em;content-visibility:auto}
@@ -84,10 +85,8 @@ body{margin:1em}
 nav a{gap:.1em .5em;grid-template-columns:1fr auto;margin:.2em 0}
 nav .loads{grid-column:1/3;grid-row:2}
 div{gap:.1em;grid-template-columns:minmax(0,1fr);margin:.5em 0}
-div p{flex-wrap:wrap;gap:0 .3em}
 div p.axis{font-size:.75em}
 div bdi,.cause{flex-basis:100%}
-.cause{white-space:normal}
 }
 @media print{
 :root{--lane:#fff}

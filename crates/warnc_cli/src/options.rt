@@ -7,7 +7,7 @@ use parallel_compile::MAX_WORKERS;
 use std::alloc::{AllocError, Global};
 
 /// The version of the program, and on a line of its own what `rt version` says of the toolchain that proved it.
-const VERSION: &str = "1.20.0\nrattle-kit-13b logic dac8208d650f15bf";
+const VERSION: &str = "1.20.1\nrattle-kit-13b logic dac8208d650f15bf";
 
 /// The words for the channel that packets name.
 const CHANNEL_TYPES: &[&str] = &["cbch", "sdcch"];
@@ -186,7 +186,7 @@ fn check<'a>(alloc: Global) -> Result<Command<'a>, AllocError> {
         .after_help("Example: warnc check --slots 4096 < book.csv")
         .arg(checked_slots(alloc))?
         .arg(checked_group(alloc))?
-        .arg(whole_network(alloc)?)?
+        .arg(checked_network(alloc)?)?
         .arg(checked_clock(alloc)?)?
         .arg(strict(alloc)?)
 }
@@ -388,6 +388,16 @@ fn checked_group<'a>(alloc: Global) -> Arg<'a> {
         "Takes the book for a network book, which is to have\nthe group of this number, 0 to 65535: with --slots runs\nthat group",
     )
     .value_parser(value_parser!(u16))
+}
+
+/// The option of a network book that is checked.
+fn checked_network<'a>(alloc: Global) -> Result<Arg<'a>, AllocError> {
+    flag(
+        alloc,
+        "network",
+        "Takes the book for a network book: with --slots runs\neach of its groups, in order",
+    )
+    .conflicts_with("group")
 }
 
 /// The option of a network book as a whole.
