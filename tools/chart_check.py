@@ -12,11 +12,11 @@ and the ticks of the axes have to be at round times.
 No two sections may have the same contents, and the overview has to have a strip for each, with the numbers that its
 heading has. In the chart of a network each group has to hold its own cells. Chromium, where it is installed, opens each
 page: it has to find the same bars, and no element that the program didn't write, whatever the texts say; and at three
-widths nothing may be wider than the window. The chart of a part of the run, by `--from` and `--to`, has to have the
-bars, marks and loads of the run that are in it, which are put together of parts so short that they have all marks. A
-message has marks, or their number, by the rule of docs/formats.md. A third of the charts has the times of the day, by
-`--start`, and ticks at round ones of these. The page in German has to have the same elements and
-numbers, the German words that the page for browsers has, and none of the English ones. What titles say that identifiers
+widths nothing may be wider than the window, and no cause of a refusal may be cut off. The chart of a part of the run,
+by `--from` and `--to`, has to have the bars, marks and loads of the run that are in it, which are put together of parts
+so short that they have all marks. A message has marks, or their number, by the rule of docs/formats.md. A third of the
+charts has the times of the day, by `--start`, and ticks at round ones of these. The page in German has to have the same
+elements and numbers, the German words that the page for browsers has, and none of the English ones. What titles say that identifiers
 mean has to be what Wireshark says, where it is installed. Contrasts have to be as chart_contrast.py asks, and the
 charts of ten books of 64 cells have to have three million octets at most, in a run of 4,096 slots and in the longest.
 """
@@ -426,19 +426,24 @@ def wrong_facts(page, time_of):
             yield f"{section['name']}: the overview has {strips}"
 
 
-def too_wide(browser, path):
-    """Yields at which widths of a window something in the page is wider."""
+# what a browser says of each frame: how wide its page is, and how many causes of refusals are cut off
+MEASURED = """[...document.querySelectorAll('iframe')].map((it) => it.contentDocument).map((page) =>
+[page.documentElement.scrollWidth, [...page.querySelectorAll('.cause')].filter((it) => it.scrollWidth > it.clientWidth
+|| it.getBoundingClientRect().right > it.parentElement.getBoundingClientRect().right + 1).length]).join(' ')"""
+
+
+def wrong_widths(browser, path):
+    """Yields at which widths of a window something in the page is wider, or a cause isn't whole."""
     frames = "".join(f'<iframe src="file://{path}" width="{width}" height="600" style="border:0"></iframe>'
                      for width in WIDTHS)
-    said = "[...document.querySelectorAll('iframe')].map((it) => it.contentDocument.documentElement.scrollWidth).join()"
     with tempfile.TemporaryDirectory() as folder:
         frame = os.path.join(folder, "frames.html")
         with open(frame, "w", encoding="utf-8") as file:
-            file.write(f"{frames}<script>onload = () => {{ document.title = {said}; }};</script>")
+            file.write(f"{frames}<script>onload = () => {{ document.title = {MEASURED}; }};</script>")
         dom = dom_of(browser, frame, "--allow-file-access-from-files", "--hide-scrollbars")
-    found_widths = re.search(r"<title>([\d,]*)</title>", dom)
-    if not found_widths or found_widths[1] != ",".join(map(str, WIDTHS)):
-        yield f"windows of {WIDTHS} pixels have pages of {found_widths and found_widths[1]}"
+    measured = re.search(r"<title>([\d, ]*)</title>", dom)
+    if not measured or measured[1] != " ".join(f"{width},0" for width in WIDTHS):
+        yield f"windows of {WIDTHS} pixels have pages, and causes that are cut off, of {measured and measured[1]}"
 
 
 def wrong_loads(page, slots):
@@ -498,7 +503,7 @@ def differences(program, browser, book, options, slots, clock):
             with open(path, "wb") as file:
                 file.write(chart)
             pages.append(("the browser", Page(dom_of(browser, path))))
-            yield from too_wide(browser, path)
+            yield from wrong_widths(browser, path)
     lasting = Clock().time_of(slots)
     if f"<p>A run of {slots} slots of 1.883 s, {lasting} (h:mm:ss).{clock.sentence()}</p>" not in chart.decode():
         yield f"the chart doesn't say that {slots} slots are {lasting}, or when it begins"
