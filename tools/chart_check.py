@@ -16,9 +16,10 @@ widths nothing may be wider than the window, and no cause of a refusal may be cu
 by `--from` and `--to`, has to have the bars, marks and loads of the run that are in it, which are put together of parts
 so short that they have all marks. A message has marks, or their number, by the rule of docs/formats.md. A third of the
 charts has the times of the day, by `--start`, and ticks at round ones of these. The page in German has to have the same
-elements and numbers, the German words that the page for browsers has, and none of the English ones. What titles say that identifiers
-mean has to be what Wireshark says, where it is installed. Contrasts have to be as chart_contrast.py asks, and the
-charts of ten books of 64 cells have to have three million octets at most, in a run of 4,096 slots and in the longest.
+elements and numbers, the German words that the page for browsers has, and none of the English ones. What titles say
+that identifiers mean has to be what Wireshark says, where it is installed. Contrasts have to be as chart_contrast.py
+asks, and the charts of ten books of 64 cells have to have three million octets at most, in a run of 4,096 slots and in
+the longest.
 """
 import csv
 import datetime
