@@ -64,25 +64,4 @@ function run(words, input = "") {
     return { status, out: joined(written[1]), says: decode(joined(written[2])).trim().replace(/^warnc: /, "") };
 }
 
-// The octets of signs of seven bits each: `=` and a sign that is 64 higher stand for one that a page can't have.
-function octetsOf(signs) {
-    const octets = new Uint8Array(signs.length);
-    let held = 0, bits = 0, count = 0;
-    for (let at = 0; at < signs.length; at += 1) {
-        const escapes = signs.charCodeAt(at) === 61;
-        if (escapes) at += 1;
-        held = ((held << 7) | (signs.charCodeAt(at) - (escapes ? 64 : 0))) & 0x7fff;
-        bits += 7;
-        if (bits >= 8) {
-            bits -= 8;
-            octets[count] = held >> bits;
-            count += 1;
-        }
-    }
-    return octets.subarray(0, count);
-}
-
-async function compiled(packed) {
-    const stream = new Blob([octetsOf(packed)]).stream().pipeThrough(new DecompressionStream("gzip"));
-    return WebAssembly.compile(await new Response(stream).arrayBuffer());
-}
+const compiled = (packed) => WebAssembly.compileStreaming(unpacked(packed, "application/wasm"));

@@ -1,6 +1,6 @@
 "use strict";
 const $ = (id) => document.getElementById(id);
-const opened = performance.now(), times = { first: 0, firstBook: 0, text: 0, book: 0 };
+const times = { first: 0, firstBook: 0, text: 0, book: 0 };
 let language = /^de/.test(navigator.language) ? 1 : 0;
 // What is filled in stands as it is ({0}), or is a time ({t0}), the length of a list ({n0}) or words again ({w0}).
 const FILLINGS = { "": (it) => it, t: (it) => timeText(+it), n: (it) => it.split(" ").length, w: (it) => say(it) };
@@ -142,7 +142,6 @@ class Desk {
     }
 }
 const textDesk = new Desk(), bookDesk = new Desk();
-const started = textDesk.ask("start", { packed: $("packed").textContent });
 
 // The state: the book is its text, of which table and CSV are two views; `done` is the text of the last good book.
 const state = {

@@ -42,10 +42,11 @@ PAGE = os.path.join(release.DIST, "warnc.html")
 EXAMPLE = os.path.join("examples", "flood.csv")
 # the parts of the page, in the order in which they stand in its two scripts and in its workers
 SCRIPT = ("csv.js", "words.js", "page.js", "text.js", "book.js", "air.js")
-WORKER = ("csv.js", "host.js", "unsaid.js", "work.js")
+WORKER = ("csv.js", "unpack.js", "host.js", "unsaid.js", "work.js")
+START = ("unpack.js", "start.js")
 SOURCES_OF = {
     "wasm": [os.path.join("browser", it) for it in ("host.c", "heap.c")] + [os.path.join("tools", "browser.py")],
-    "page": [os.path.join("browser", it) for it in ("page.html", "style.css", "start.js", *sorted({*SCRIPT, *WORKER}))]
+    "page": [os.path.join("browser", it) for it in ("page.html", "style.css", *sorted({*START, *SCRIPT, *WORKER}))]
     + [EXAMPLE],
 }
 TARGET = "wasm64-unknown-unknown"
@@ -54,9 +55,8 @@ PROCESSOR = "lime1"
 STACK = 1 << 20
 # -O3 makes the program a quarter larger, which a browser takes longer to compile, and runs are no faster
 LEVEL = "-O2"
-# the signs of seven bits that a script in a page can't have, or that could end it, and that which stands for them
-ESCAPE = ord("=")
-NO_SIGNS = (0, ord("\r"), ord("<"), ESCAPE)
+# the signs of seven bits that a text in a page can't have, or that could end it, and those that stand for them
+INSTEAD = {"\0": "\u0100", "\r": "\u010d", "<": "\u013c"}
 # What is changed in the module: a pattern, what stands there then, and whether it has to be there.
 RETARGETED = (
     (r'^target datalayout = .*$',
@@ -207,8 +207,8 @@ def hash_of(text):
 
 
 def signs_of(octets):
-    """Returns octets as signs of seven bits each, in the order of their bits: `=` and a sign that is 64 higher stand
-    for each of those that a script in a page can't have, or that could end it.
+    """Returns octets as signs of seven bits each, in the order of their bits. For one that a script in a page can't
+    have, or that could end it, stands a sign that is higher by a multiple of 128.
     """
     bits, held, signs = 0, 0, bytearray()
     for octet in octets + b"\0":
@@ -216,31 +216,28 @@ def signs_of(octets):
         while bits >= 7:
             bits -= 7
             signs.append(held >> bits & 0x7f)
-    signs = signs[:-(-len(octets) * 8 // 7)]
-    return b"".join(b"=%c" % (it + 64) if it in NO_SIGNS else b"%c" % it for it in signs).decode("ascii")
+    text = signs[:-(-len(octets) * 8 // 7)].decode("ascii")
+    return re.sub(r"[\0\r]|<(?=[/!]|$)", lambda it: INSTEAD[it[0]], text)
 
 
 def octets_of(signs):
     """Returns the octets of such signs."""
-    bits, held, octets, after = 0, 0, bytearray(), 0
-    for sign in signs.encode("ascii"):
-        if sign == ESCAPE and not after:
-            after = 64
-            continue
-        held, bits, after = (held << 7 | sign - after) & 0x7fff, bits + 7, 0
+    bits, held, octets = 0, 0, bytearray()
+    for sign in signs:
+        held, bits = (held << 7 | ord(sign) & 0x7f) & 0x7fff, bits + 7
         if bits >= 8:
             bits -= 8
             octets.append(held >> bits & 0xff)
     return bytes(octets)
 
 
-def packed(wasm):
-    """Returns the program as it stands in a page: packed, by zopfli if it is here, and in signs that end no script."""
+def packed(octets):
+    """Returns octets as they stand in a page: packed, by zopfli if it is here, and in signs that end no script."""
     if shutil.which("zopfli") is None:
         print("browser: zopfli isn't here: the page is larger by a twentieth", file=sys.stderr)
-        return signs_of(gzip.compress(wasm, 9, mtime=0))
-    with tempfile.NamedTemporaryFile(suffix=".wasm") as file:
-        file.write(wasm)
+        return signs_of(gzip.compress(octets, 9, mtime=0))
+    with tempfile.NamedTemporaryFile() as file:
+        file.write(octets)
         file.flush()
         return signs_of(subprocess.run(["zopfli", "-c", file.name], stdout=subprocess.PIPE, check=True).stdout)
 
@@ -251,22 +248,25 @@ def shortened(text):
     return "".join(f"{it}\n" for it in lines if it and not it.startswith("//"))
 
 
-def made_page(text):
-    """Makes the page of the program as it stands in it."""
-    parts = {"start": part("start.js"), "style": shortened(part("style.css")), "packed": text,
+def joined(names):
+    return shortened("".join(map(part, names)))
+
+
+def made_page(texts):
+    """Makes the page of what is packed in it: `packed`, the program, and `page`, the page's own script."""
+    parts = {**texts, "start": joined(START), "worker": joined(WORKER), "style": joined(["style.css"]),
              "flood": read(EXAMPLE).decode()}
-    parts["script"], parts["worker"] = (shortened("".join(map(part, it))) for it in (SCRIPT, WORKER))
-    for name in ("start", "script", "style"):
-        parts[f"{name}_hash"] = hash_of(parts[name])
+    for name, text in {"start": parts["start"], "style": parts["style"], "script": joined(SCRIPT)}.items():
+        parts[f"{name}_hash"] = hash_of(text)
     ending = [name for name, it in parts.items() if re.search(r"</(script|style)|<!--", it, re.I)]
     if ending:
         raise Unmade(f"{ending[0]} would end the script that it stands in")
     return re.sub(r"\{\{(\w+)\}\}", lambda it: parts[it[1]], part("page.html")).encode()
 
 
-def packed_in(page):
-    """Returns the program as it stands in a page."""
-    found = re.search(r'<script type="text/plain" id="packed">([^<]*)</script>', page.decode())
+def packed_in(page, name):
+    """Returns what is packed in a page under this name."""
+    found = re.search(rf'<script type="text/plain" id="{name}">(.*?)</script>', page.decode(), re.S)
     return found[1] if found else ""
 
 
@@ -284,7 +284,7 @@ def write(has_wasm):
     if has_wasm and faults("wasm"):
         raise Unmade(faults("wasm")[0])
     wasm = release.read(WASM) if has_wasm else made_wasm()
-    page = made_page(packed(wasm))
+    page = made_page({"packed": packed(wasm), "page": packed(joined(SCRIPT).encode())})
     if not has_wasm:
         put(WASM, wasm)
         said.update(wasm=release.sum_of(wasm), wasm_program=said["program"], wasm_sources=sum_of_sources("wasm"))
@@ -318,15 +318,16 @@ def stale():
 def check(top=TOP):
     """Makes both once more, and says whether they are those of dist/; returns whether they are.
 
-    The page is made with the program as the page of dist/ has it, since two versions of zlib pack otherwise.
+    The page is made with what is packed as the page of dist/ has it, since two versions of zlib pack otherwise.
     """
     found = faults()
     if found:
         print(f"browser: {found[0]}")
         return False
     wasm, page = release.read(WASM), release.read(PAGE)
-    text = packed_in(page)
-    are_equal = {"page": gzip.decompress(octets_of(text)) == wasm and made_page(text) == page}
+    texts = {name: packed_in(page, name) for name in ("packed", "page")}
+    held = {name: gzip.decompress(octets_of(it)) for name, it in texts.items()}
+    are_equal = {"page": held == {"packed": wasm, "page": joined(SCRIPT).encode()} and made_page(texts) == page}
     try:
         are_equal["program"] = made_wasm(top) == wasm
     except Unmade as why:
