@@ -89,8 +89,8 @@ pub(crate) fn facts_of(rows: &[Row], from: u16, loads: &[u64]) -> Facts
     }
 }
 
-/// How many hundredths of a cell a load takes, rounded up.
-pub(crate) fn hundredths(load: u64) -> u64
+/// How many hundredths of a cell a load takes, in parts of [`SCALE`], rounded up.
+pub fn hundredths(load: u64) -> u64
     requires { load ≤ SCALE }
     ensures { result ≡ hundredths load }
 {

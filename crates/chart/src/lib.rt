@@ -2,7 +2,7 @@
 //! refused order a mark, and the loads that a cell has reserved a line.
 //!
 //! [`chart_octets`] makes it, and [`part_octets`] makes the part of a network's group.
-//! [`fullest_of`] says how full a cell gets, for other tables.
+//! [`fullest_of`] says how full a cell gets, and [`run_loads`] how full it is at each slot, for other tables.
 //! `specs/ChartText.antt` says which octets: of each cell the lines are those of the rows of its report, in order, and
 //! every text of a message goes through `specs/Escape.antt`. Cells that look the same have one section
 //! (`specs/Panels.antt`). All words are in tables, one for each language (`specs/Words.antt`).
@@ -29,7 +29,8 @@ pub mod view;
 pub mod word;
 
 pub use chart::{chart_octets, part_octets};
-pub use fullest::{Fullest, fullest_of};
+pub use facts::hundredths;
+pub use fullest::{Fullest, fullest_of, fullest_slot, run_loads};
 pub use laws::chart_laws;
 pub use view::{Part, View};
 pub use word::{Language, Wording};
