@@ -131,10 +131,14 @@ class Walk:
             slot, start, sending.period, start + sending.broadcasts * sending.period if sending.broadcasts else None,
             0 if sending.category == BACKGROUND else load, behind)
 
+    def loads(self):
+        """Returns the share of the cell that is reserved at each slot."""
+        return [sum(it.at(slot) for it in self.reserved.values()) for slot in range(self.slots)]
+
     def fullest(self):
         """Returns the greatest share of the cell that is reserved at a slot, in hundredths, and the first such slot."""
-        loads = [sum(it.at(slot) for it in self.reserved.values()) for slot in range(self.slots)]
-        return -(-max(loads) * 100 // 1), loads.index(max(loads))
+        loads = self.loads()
+        return hundredths(max(loads)), loads.index(max(loads))
 
     def cause_of_next(self):
         shown = self.reported.pop(0)["shown"]
@@ -151,6 +155,11 @@ class Walk:
                 and row["shown"] == f"refused {UNKNOWN:02x}":
             return self.cause_of_next()
         return None
+
+
+def hundredths(share):
+    """Returns how many hundredths a share is, rounded up."""
+    return -(-share * 100 // 1)
 
 
 def cells_in(count):
@@ -193,33 +202,46 @@ def says_of_text(text):
         yield f"UCS-2 because of {text[lacking[0]]} at {lacking[0]}: {pages} pages in place of {without}"
 
 
-def lines_of(rows, report, slots, group=None):
-    """Returns the fields of the lines, and how many remarks there are: of a book, or of the group of this number of a
-    network, whose book has the rows for some of its cells. Behind the remarks is how full each cell gets."""
+def reported_in(rows, report, group=None):
+    """Returns of each cell of a book, or of the group of this number of a network, its rows of the report."""
     cells = [it for it in rows if isinstance(it, tuple)]
     if group is not None:
         cells = cells[books.GROUP * group:books.GROUP * (group + 1)]
     reported = {cell: [] for cell in cells}
     for it in csv.DictReader(io.StringIO(report, newline="")):
         reported[int(it["lac"]), int(it["ci"])].append(it)
-    silent = [cell for cell in cells if all(it["shown"].startswith("refused") for it in reported[cell])]
-    walks = {cell: Walk(slots, reported[cell]) for cell in cells}
-    lines, declared, earlier = [], [], []
+    return reported
+
+
+def walked(rows, reported, slots):
+    """Returns the ways through these cells, and of each order that asked one its row, the order, and the answers."""
+    walks = {cell: Walk(slots, list(own)) for cell, own in reported.items()}
+    declared, asked = [], []
     for row, it in enumerate(rows, 1):
         if isinstance(it, tuple):
             declared += [it] * (it in reported)
             continue
         named = [cell for cell in declared if it.cells is None or cell in it.cells]
-        if not named:
-            continue
-        answers = {cell: walks[cell].answer(it) for cell in named}
+        if named:
+            asked.append((row, it, {cell: walks[cell].answer(it) for cell in named}))
+    return walks, asked
+
+
+def lines_of(rows, report, slots, group=None):
+    """Returns the fields of the lines, and how many remarks there are: of a book, or of the group of this number of a
+    network, whose book has the rows for some of its cells. Behind the remarks is how full each cell gets."""
+    reported = reported_in(rows, report, group)
+    silent = [cell for cell, own in reported.items() if all(it["shown"].startswith("refused") for it in own)]
+    walks, asked = walked(rows, reported, slots)
+    lines, earlier = [], []
+    for row, it, answers in asked:
         lines += [[row, it.alert.name, "", says] for says in says_of(it, answers, earlier)]
         if it.verb == "write":
             earlier.append(((it.alert.identifier, it.alert.scope, it.alert.code), row))
     lines += [["", "", f"{lac}-{ci}", "gets nothing"] for lac, ci in silent]
     count = len(lines)
-    for lac, ci in cells:
-        share, slot = walks[lac, ci].fullest()
+    for (lac, ci), walk in walks.items():
+        share, slot = walk.fullest()
         lines.append(["", "", f"{lac}-{ci}", f"fullest: {share} % at slot {slot}"])
     return lines, count
 

@@ -1,0 +1,3 @@
+pub mod LoadsText
+pub mod TableSteps
+pub mod Laws
