@@ -1,4 +1,5 @@
 pub mod Readings
+mod ReadParts
 pub mod Serving
 pub mod Written
 pub mod Asked

@@ -1,9 +1,6 @@
 -- What handsets read of the tapes of records, one after the other.
-use Rattle.std.proofs.Common.{◌≡◌, ◌≢◌, ℕ, suc, ◌+◌, ◌<◌, ◌≤◌, ◌∙◌, List, [], ◌∷◌, ◌++◌, length, map, take, get_or}
-use Rattle.std.proofs.Common.{All, Option, ap, append_assoc, sym, subst, refl}
-use native.Mathlib.Omega.{arith}
-use Rattle.std.proofs.Math.Seq.{take-suc}
-use Rattle.std.proofs.lemmas.List.{get_or-map, length-map, map-append}
+use Rattle.std.proofs.Common.{◌≡◌, ◌≢◌, ℕ, ◌≤◌, ◌∙◌, List, [], ◌∷◌, map}
+use Rattle.std.proofs.Common.{All, Option, ap, sym, subst, refl}
 use Rattle.std.specs.Io.KnownBytes.{Keeps}
 use Rattle.alert_book.specs.declared.book.order.Order.{Order}
 use Rattle.alert_book.specs.declared.network.Origin.{Origin}
@@ -16,12 +13,10 @@ use Rattle.bsc_table.specs.Promised.{LegalHistoriesAreServed}
 use Rattle.bsc_table.specs.Record.{Record}
 use Rattle.cbch_blocks.specs.RecordBlocks.{tape_of_record}
 use Rattle.cbsp_wire.specs.declared.message.Cell.{Cell}
-use Rattle.handset.specs.Laws.{TapeIsOneKind}
 use Rattle.handset.specs.Tape.{IsTape, TapeReading}
-use Rattle.report.specs.Rows.{AreOfOneCells, cell_rows}
+use Rattle.report.specs.Rows.{AreOfOneCells}
 use Rattle.report.specs.declared.fault.ReportFault.{ReportFault}
 use Rattle.report.specs.declared.fault.ReportFault.TheVariants as report
-use Rattle.report.specs.declared.row.Row.{Row}
 use Rattle.warnc_run.specs.declared.fault.RunFault.{RunFault}
 use Rattle.warnc_run.specs.declared.run.Books.TheVariants as books
 use Rattle.warnc_run.specs.declared.product.Product.{Product}
@@ -29,69 +24,9 @@ use Rattle.warnc_run.specs.declared.product.ProductFault.TheVariants as product_
 use Rattle.warnc_run.specs.declared.text.Text.{Text}
 use Rattle.warnc_run.specs.Engine.{IsOutputFault}
 use Rattle.warnc_run.specs.Faults.{HasReadFrom, IsOfBook}
-use Rattle.warnc_run.specs.Products.{octets_of, own_rows, reading_of_record, IsOutput}
+use Rattle.warnc_run.specs.Products.{octets_of, reading_of_record, IsOutput}
 use Rattle.warnc_run.specs.RunSteps.{octets_of_text, HasNoBookToRun, HaveRunLive, IsTextOf}
 use Rattle.warnc_run.proofs.Written.{fault_of_reading, fault_of_run, of_any_product, of_no_product, run_of_book}
-
--- the readings of records before one, and that of its tape, are those up to it
-pub read_on : TapeIsOneKind → (records : List Record) (tapes : List (List ℕ)) (i : ℕ) (tape : List ℕ)
-    (reading : TapeReading)
-    → tapes ≡ map tape_of_record records
-    → i < length tapes
-    → tape ≡ get_or tapes i tape
-    → All (λ r. IsTape (tape_of_record r) (reading_of_record r)) records
-    → IsTape tape reading
-    → map reading_of_record (take i records) ++ reading ∷ [] ≡ map reading_of_record (take (i + 1) records)
-read_on kind [] tapes i tape reading made within at whole read =
-    absurd (omega (arith, ap length made, within))
-read_on kind (d ∷ rest) tapes i tape reading made within at whole read =
-    let records = d ∷ rest in
-    let inside : i < length records = subst (λ (n : ℕ). i < n)
-    (ap length made ∙ length-map records tape_of_record) within in
-    let r = get_or records i d in
-    let of : tape ≡ tape_of_record r =
-    at ∙ ap (λ (ts : List (List ℕ)). get_or ts i tape) made ∙ get_or-map tape_of_record records i d tape inside in
-    let one : reading ≡ reading_of_record r =
-    (kind tape).unique reading (reading_of_record r) read
-    (subst (λ (t : List ℕ). IsTape t (reading_of_record r)) (sym of) (whole i d inside)) in
-    ap (λ (x : TapeReading). map reading_of_record (take i records) ++ x ∷ []) one
-    ∙ sym (map-append reading_of_record (take i records) (r ∷ []))
-    ∙ ap (map reading_of_record) (sym (take-suc records i d inside))
-    ∙ ap (λ (n : ℕ). map reading_of_record (take n records)) next
-  where
-    next : suc i ≡ i + 1
-    next = omega arith
-
--- the readings of records in two parts are those of the one, and then those of the other
-pub read_in_parts : (before after : List TapeReading) (front rest left all : List Record)
-    → after ≡ before ++ map reading_of_record front
-    → left ≡ front ++ rest
-    → before ++ map reading_of_record left ≡ map reading_of_record all
-    → after ++ map reading_of_record rest ≡ map reading_of_record all
-read_in_parts before after front rest left all read split so_far =
-    ap (λ (readings : List TapeReading). readings ++ map reading_of_record rest) read
-    ∙ append_assoc before (map reading_of_record front) (map reading_of_record rest)
-    ∙ ap (λ (readings : List TapeReading). before ++ readings)
-    (sym (map-append reading_of_record front rest) ∙ ap (map reading_of_record) (sym split))
-    ∙ so_far
-
--- the rows of records in two parts are those of the one, and then those of the other
-pub rows_in_parts : (before after : List Row) (front rest left all : List Record)
-    → after ≡ before ++ own_rows front
-    → left ≡ front ++ rest
-    → before ++ own_rows left ≡ own_rows all
-    → after ++ own_rows rest ≡ own_rows all
-rows_in_parts before after front rest left all made split so_far =
-    ap (λ (rows : List Row). rows ++ own_rows rest) made
-    ∙ append_assoc before (own_rows front) (own_rows rest)
-    ∙ ap (λ (rows : List Row). before ++ rows) (sym (joined front) ∙ ap own_rows (sym split))
-    ∙ so_far
-  where
-    joined : (records : List Record) → own_rows (records ++ rest) ≡ own_rows records ++ own_rows rest
-    joined [] = refl
-    joined (r ∷ others) =
-        let own = cell_rows r (reading_of_record r).shown in
-        ap (λ (rows : List Row). own ++ rows) (joined others) ∙ sym (append_assoc own (own_rows others) (own_rows rest))
 
 -- the records of a run give tapes
 pub run_has_tapes : LiveRunsShowTheBook → (from : Origin) (input : List ℕ) (book : Contents) (slots parts : ℕ)

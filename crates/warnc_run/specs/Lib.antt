@@ -6,6 +6,7 @@ pub mod Groups
 pub mod Network
 pub mod Engine
 pub mod RunSteps
+pub mod ReadSteps
 pub mod ApartSteps
 pub mod NetworkSteps
 pub mod OneOutput

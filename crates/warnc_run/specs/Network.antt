@@ -40,6 +40,10 @@ octets_of_group (product.Orders cell) slots groups group orders records =
     octets_of (product.Orders cell) (origin.Group group) slots orders records
 octets_of_group (product.Link start) slots groups group orders records =
     octets_of (product.Link start) (origin.Group group) slots orders records
+octets_of_group (product.Loads start) slots groups group orders records =
+    octets_of (product.Loads start) (origin.Group group) slots orders records
+octets_of_group (product.Tables view) slots groups group orders records =
+    octets_of (product.Tables view) (origin.Group group) slots orders records
 
 -- the part of the group of this number
 pub record IsPartOf (runs : GroupRuns) (group : ℕ) (input output : List ℕ) : Type 0 where

@@ -1,6 +1,7 @@
 -- What is made of the octets that are read: of the run of a book, or of a group's, its tapes, the report of them, their
--- chart, the orders file of one of its cells, or its link. Own.
-use Rattle.std.specs.Prelude.{◌≡◌, ◌==◌, ℕ, Bool, true, List, All, None, Some, length, map}
+-- chart, the orders file of one of its cells, its link, or its loads; or the report, the loads and the chart. Own.
+use Rattle.std.specs.Prelude.{◌≡◌, ◌==◌, ℕ, Bool, true, List, ◌∷◌, ◌++◌, All, None, Option, Some, codes, length, map}
+use Rattle.std.specs.Fmt.{decimal}
 use Rattle.std.specs.List.{flat_map}
 use Rattle.alert_book.specs.declared.book.order.Order.{Order}
 use Rattle.alert_book.specs.declared.network.Origin.{Origin}
@@ -16,6 +17,7 @@ use Rattle.bsc_table.specs.Promised.{IsServed}
 use Rattle.bsc_table.specs.Record.{Record}
 use Rattle.cbch_blocks.specs.RecordBlocks.{blocks_of, tape_of_record}
 use Rattle.cbsp_wire.specs.declared.message.Cell.{Cell}
+use Rattle.cell_loads.specs.LoadsText.{loads_text}
 use Rattle.chart.specs.ChartText.{chart_text}
 use Rattle.chart.specs.declared.view.View.{View}
 use Rattle.gsmtap.specs.declared.packet.Start.{Start as LinkStart}
@@ -25,7 +27,9 @@ use Rattle.record_link.specs.Sent.{run_link}
 use Rattle.record_orders.specs.Ordered.{orders_in}
 use Rattle.report.specs.ReportText.{text_with}
 use Rattle.report.specs.Rows.{report_rows}
+use Rattle.report.specs.Sources.{Orders}
 use Rattle.report.specs.declared.row.Columns.{Columns}
+use Rattle.report.specs.declared.row.Columns.TheVariants as columns
 use Rattle.report.specs.declared.row.Layout.{Layout}
 use Rattle.report.specs.declared.row.Row.{Row}
 use Rattle.slot_times.specs.declared.start.Start.{Start}
@@ -61,6 +65,22 @@ abbrev pub is_headed : Origin → Bool
 is_headed origin.Book = true
 is_headed (origin.Group group) = group == 0
 
+-- a text after a line with its name and the number of its octets, by which texts are told apart that come one after
+-- the other
+abbrev pub text_named : (name text : List ℕ) → List ℕ
+text_named name text = name ++ codes " " ++ decimal (length text) ++ 10 ∷ text
+
+-- how a report is laid out that has all columns, and the times of a chart
+abbrev pub full_layout : View → Layout
+full_layout view = record { columns = columns.Full; start = view.wording.start }
+
+-- the full report, the loads and the chart of records, whose cells were asked by these orders
+abbrev pub tables_text : (slots : ℕ) → View → (headed : Bool) → Orders → List Record → List ℕ
+tables_text slots view headed orders records =
+    text_named (codes "report") (text_with (full_layout view) headed orders (own_rows records))
+    ++ text_named (codes "load") (loads_text view.wording.start headed records)
+    ++ text_named (codes "chart") (chart_text slots view orders records (map reading_of_record records))
+
 -- what is made of the orders and the records of the run of a book, or of a group by itself
 abbrev pub octets_of : Product → (from : Origin) (slots : ℕ) → List Order → List Record → List ℕ
 octets_of product.Tapes from slots orders records = flat_map tape_of_record records
@@ -70,6 +90,9 @@ octets_of (product.Chart view) from slots orders records =
     chart_text slots view (orders_of_run orders records) records (map reading_of_record records)
 octets_of (product.Orders cell) from slots orders records = orders_in cell records
 octets_of (product.Link start) from slots orders records = run_link start records
+octets_of (product.Loads start) from slots orders records = loads_text start (is_headed from) records
+octets_of (product.Tables view) from slots orders records =
+    tables_text slots view (is_headed from) (orders_of_run orders records) records
 
 -- what is written for the octets that were read: they are a book, or a network book whose group has one, and this is
 -- what is made of its run, and nothing else
@@ -114,3 +137,11 @@ IsOrderedFrom from slots cell = IsOutput (product.Orders cell) from slots 1
 -- what `warnc link` writes, where slot 0 begins at this time
 abbrev pub IsLinkedFrom : (from : Origin) (slots : ℕ) → LinkStart → (input output : List ℕ) → Type 0
 IsLinkedFrom from slots start = IsOutput (product.Link start) from slots 1
+
+-- what `warnc load` writes, with times where slot 0 begins at this one
+abbrev pub IsLoadTableFrom : (from : Origin) (slots : ℕ) → Option Start → (input output : List ℕ) → Type 0
+IsLoadTableFrom from slots start = IsOutput (product.Loads start) from slots 1
+
+-- what `warnc chart --tables` writes
+abbrev pub AreTablesFrom : (from : Origin) (slots : ℕ) → View → (input output : List ℕ) → Type 0
+AreTablesFrom from slots view = IsOutput (product.Tables view) from slots 1

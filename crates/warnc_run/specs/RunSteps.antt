@@ -11,6 +11,7 @@ use Rattle.bsc_table.specs.Record.{Record}
 use Rattle.cbch_blocks.specs.RecordBlocks.{tape_of_record}
 use Rattle.book_runs.specs.Live.{IsLiveRun}
 use Rattle.book_runs.specs.Run.{Exchange}
+use Rattle.cell_loads.specs.LoadsText.{loads_text}
 use Rattle.chart.specs.ChartText.{chart_part, chart_text}
 use Rattle.parallel_compile.specs.declared.fault.CompileFault.TheVariants as compile
 use Rattle.record_link.specs.Sent.{run_link}
@@ -18,7 +19,7 @@ use Rattle.record_orders.specs.Ordered.{orders_in}
 use Rattle.report.specs.ReportText.{text_with}
 use Rattle.report.specs.Sources.{Orders}
 use Rattle.warnc_run.specs.Faults.{IsOfBook}
-use Rattle.warnc_run.specs.Products.{own_rows, reading_of_record}
+use Rattle.warnc_run.specs.Products.{own_rows, reading_of_record, tables_text}
 use Rattle.warnc_run.specs.declared.fault.RunFault.{RunFault}
 use Rattle.warnc_run.specs.declared.fault.RunFault.TheVariants as fault
 use Rattle.warnc_run.specs.declared.text.Text.{Text}
@@ -93,6 +94,8 @@ octets_of_text (text.ChartPart group last view) slots orders records =
     chart_part slots group last view orders records (map reading_of_record records)
 octets_of_text (text.Orders cell) slots orders records = orders_in cell records
 octets_of_text (text.Link start) slots orders records = run_link start records
+octets_of_text (text.Loads start headed) slots orders records = loads_text start headed records
+octets_of_text (text.Tables view headed) slots orders records = tables_text slots view headed orders records
 
 -- this is such a text of such a run
 pub record IsTextOf (made : Text) (book : Contents) (slots parts : ℕ) (octets : List ℕ) : Type 0 where

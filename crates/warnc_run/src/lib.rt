@@ -25,6 +25,7 @@ mod network;
 mod output;
 mod parts;
 pub mod product;
+mod read;
 mod records;
 mod run;
 mod session;

@@ -103,6 +103,8 @@ impl NetworkRun<'_> {
             Product::Chart(view) => Text::ChartPart(group, group + 1 == self.groups, view),
             Product::Orders(cell) => Text::Orders(cell),
             Product::Link(start) => Text::Link(start),
+            Product::Loads(start) => Text::Loads(start, group == 0),
+            Product::Tables(view) => Text::Tables(view, group == 0),
         }
     }
 
@@ -160,9 +162,12 @@ impl NetworkRun<'_> {
     {
         match self.made {
             Product::Tapes => self.tapes_part(rt, group),
-            Product::Report(_) | Product::Chart(_) | Product::Orders(_) | Product::Link(_) => {
-                self.text_part(rt, group)
-            }
+            Product::Report(_)
+            | Product::Chart(_)
+            | Product::Orders(_)
+            | Product::Link(_)
+            | Product::Loads(_)
+            | Product::Tables(_) => self.text_part(rt, group),
         }
     }
 
@@ -254,7 +259,12 @@ fn groups_at_once(made: Product, workers: Workers) -> u16
     let each = workers.number as u16;
     match made {
         Product::Tapes => each,
-        Product::Report(_) | Product::Chart(_) | Product::Orders(_) | Product::Link(_) => 8 * each,
+        Product::Report(_)
+        | Product::Chart(_)
+        | Product::Orders(_)
+        | Product::Link(_)
+        | Product::Loads(_)
+        | Product::Tables(_) => 8 * each,
     }
 }
 

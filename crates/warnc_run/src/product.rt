@@ -37,6 +37,11 @@ pub enum Product {
     /// The link between a broadcast centre and a base station controller, as a capture that begins at this time: each
     /// cell is ordered by itself what it was ordered in the run.
     Link(Start),
+    /// The loads that its cells have reserved, as CSV, with times if slot 0 begins at this one.
+    Loads(Option<slot_times::Start>),
+    /// The full report, the loads, and the chart of what is to be drawn, each after a line with its name and its number
+    /// of octets. Times are those of the chart.
+    Tables(View),
 }
 
 /// Why nothing, or not all, is written.
@@ -71,9 +76,9 @@ impl From<RunFault> for ProductFault {
 ///
 /// The book's sessions order at a desk as [`live_stream`](crate::live_stream) says. What was written is what the octets
 /// mean (`IsMadeBy`): the tapes of the cells; or the report of what became of each order, or the chart of it, by the
-/// settled desk's records and by what handsets read of their tapes; or the orders file of a cell, or the link, by these
-/// records. It does not depend on the number of workers. `gate` is called while a cell is held, but not for the groups
-/// of a network.
+/// settled desk's records and by what handsets read of their tapes; or the orders file of a cell, the link, or the
+/// loads, by these records; or the report, the loads and the chart. It does not depend on the number of workers. `gate`
+/// is called while a cell is held, but not for the groups of a network.
 ///
 /// # Errors
 ///
@@ -104,9 +109,12 @@ pub fn run_product<T: AllocGlobal + Threads + Wait + Sync, R: Read, W: Write, G:
         Books::EachGroup => write_network(rt, source, sink, run, made),
         Books::One(origin) => match made {
             Product::Tapes => write_tapes(rt, source, sink, origin, run, gate),
-            Product::Report(_) | Product::Chart(_) | Product::Orders(_) | Product::Link(_) => {
-                write_text_from(rt, source, sink, origin, run, made, gate)
-            }
+            Product::Report(_)
+            | Product::Chart(_)
+            | Product::Orders(_)
+            | Product::Link(_)
+            | Product::Loads(_)
+            | Product::Tables(_) => write_text_from(rt, source, sink, origin, run, made, gate),
         },
     }
 }

@@ -158,7 +158,12 @@ fn write_product<T: AllocGlobal + Threads + Wait + Sync, W: Write>(
             write_tapes_of(rt.alloc(), records, sink, run.slots)?;
             Ok(())
         }
-        Product::Report(_) | Product::Chart(_) | Product::Orders(_) | Product::Link(_) => {
+        Product::Report(_)
+        | Product::Chart(_)
+        | Product::Orders(_)
+        | Product::Link(_)
+        | Product::Loads(_)
+        | Product::Tables(_) => {
             let text = text_of_product(made, run.origin);
             let octets = text_of(rt, book, records, text, run.slots, run.workers)?;
             match write_all(sink, &octets) {

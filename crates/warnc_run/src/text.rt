@@ -1,5 +1,5 @@
 //! The texts that are made of a run: the report of its cells, their chart, the orders file of one of them,
-//! and the link to them.
+//! the link to them, and their loads; and the report, the loads and the chart in one.
 
 ghost use Rattle.std.specs.Prelude.{◌≡◌, ◌≤◌, ◌++◌, ℕ, List, length, map, All, IfErr, IfOk, OnOk};
 ghost use Rattle.cbsp_wire.specs.Range.{max_listed};
@@ -8,7 +8,9 @@ ghost use Rattle.handset.specs.Tape.{readings_of, IsTape};
 ghost use Rattle.warnc_run.specs.Engine.{IsEngineAtEnds, IsOutputFault, IsProductOf, IsText};
 ghost use Rattle.warnc_run.specs.Faults.{IsOfBook, IsOfRun};
 ghost use Rattle.warnc_run.specs.Made.{IsMade, IsUnmade};
-ghost use Rattle.warnc_run.specs.Products.{is_headed, octets_of, own_rows, reading_of_record};
+ghost use Rattle.report.specs.ReportText.{text_with};
+ghost use Rattle.warnc_run.specs.Products.{full_layout, is_headed, octets_of, own_rows, reading_of_record};
+ghost use Rattle.warnc_run.specs.Products.{tables_text, text_named};
 ghost use Rattle.warnc_run.specs.RunSteps.{octets_of_text, IsSomeBook, IsTextOf};
 ghost use Rattle.alert_book.specs.declared.book.order.Order.{Order};
 ghost use Rattle.asked_orders.specs.Asked.{orders_of_run};
@@ -19,21 +21,23 @@ use crate::apart::records_of_run;
 use crate::book::book_from;
 use crate::fault::RunFault;
 use crate::product::{Product, ProductFault};
+use crate::read::{readings_by, rows_by};
 use crate::run::{Books, Run, Sessions, Workers};
 use alert_book::{Book, Order, Origin};
 use asked_orders::orders_of_run;
 use bsc_table::CellRecord;
 use cbsp_wire::Cell;
+use cell_loads::loads_text;
 use chart::{View, chart_octets, part_octets};
 use device_ends::{Failed, Sink, Source, write_all};
 use gsmtap::Start;
-use handset::{Reading, read_tape};
-use order_desk::{Gate, Open};
-use parallel_compile::compile_all;
+use handset::Reading;
+use itoa::Buffer;
+use order_desk::Gate;
 use record_link::run_link;
 use record_orders::orders_in;
-use report::{BookOrders, Columns, Layout, ReportFault, Row, text_with};
-use std::alloc::{AllocGlobal, Global};
+use report::{BookOrders, Columns, Layout, ReportFault, text_with};
+use std::alloc::{AllocError, AllocGlobal, Global};
 use std::io::{Read, Write};
 use std::sync::Wait;
 use std::thread::Threads;
@@ -51,6 +55,11 @@ pub(crate) enum Text {
     Orders(Cell),
     /// The capture of the link, which begins at this time.
     Link(Start),
+    /// The loads, with times or without, with the line of the columns' names over them or without.
+    Loads(Option<slot_times::Start>, bool),
+    /// The full report, the loads, and the chart of what is to be drawn, each named, with the line of the columns'
+    /// names over the tables or without.
+    Tables(View, bool),
 }
 
 /// Reads a book, or the book of a group, and writes the text of its run. Nothing is written before all of it is made.
@@ -95,6 +104,8 @@ pub(crate) fn text_of_product(made: Product, origin: Origin) -> Text
         Product::Chart(view) => Text::Chart(view),
         Product::Orders(cell) => Text::Orders(cell),
         Product::Link(start) => Text::Link(start),
+        Product::Loads(start) => Text::Loads(start, is_headed(origin)),
+        Product::Tables(view) => Text::Tables(view, is_headed(origin)),
     }
 }
 
@@ -133,8 +144,8 @@ pub(crate) fn text_of_book<T: AllocGlobal + Threads + Wait + Sync, G: Gate>(
     Ok(octets)
 }
 
-/// The orders of a book, and which of them asked each cell of its run: none for a plain report, an orders file and a
-/// link, which name no order of it.
+/// The orders of a book, and which of them asked each cell of its run: none for a plain report, an orders file, a link
+/// and loads, which name no order of it.
 pub(crate) fn orders_for(
     alloc: Global,
     text: Text,
@@ -150,8 +161,10 @@ pub(crate) fn orders_for(
             Columns::Full => Ok(orders_of_run(alloc, orders, records)?),
             Columns::Plain => Ok(BookOrders::none(alloc)),
         },
-        Text::Chart(_) | Text::ChartPart(..) => Ok(orders_of_run(alloc, orders, records)?),
-        Text::Orders(_) | Text::Link(_) => Ok(BookOrders::none(alloc)),
+        Text::Chart(_) | Text::ChartPart(..) | Text::Tables(..) => {
+            Ok(orders_of_run(alloc, orders, records)?)
+        }
+        Text::Orders(_) | Text::Link(_) | Text::Loads(..) => Ok(BookOrders::none(alloc)),
     }
 }
 
@@ -206,7 +219,80 @@ pub(crate) fn text_of_records<T: AllocGlobal + Threads + Wait + Sync>(
             let octets = run_link(rt.alloc(), start, records)?;
             Ok(octets)
         }
+        Text::Loads(start, headed) => {
+            let octets = loads_text(rt.alloc(), start, headed, records)?;
+            Ok(octets)
+        }
+        Text::Tables(view, headed) => {
+            let readings = readings_by(rt, records, workers)?;
+            tables_text(rt.alloc(), slots, view, headed, orders, records, &readings)
+        }
     }
+}
+
+/// The full report of records, by what handsets read of their tapes.
+fn full_report(
+    alloc: Global,
+    view: View,
+    headed: bool,
+    orders: &BookOrders,
+    records: &[CellRecord],
+    readings: &[Reading],
+) -> Result<Vec<u8>, RunFault>
+    requires { readings_of readings.now ≡ map reading_of_record records.now }
+    ensures ok { IfOk result (λ octets. octets.items
+        ≡ text_with (full_layout view) headed orders.now (own_rows records.now)) }
+    ensures err { IfErr result IsOfRun }
+{
+    let rows = match report::rows(alloc, records, readings) {
+        Ok(rows) => rows,
+        Err(fault) => return Err(of_memory(fault)),
+    };
+    let layout = Layout {
+        columns: Columns::Full,
+        start: view.wording.start,
+    };
+    let octets = text_with(alloc, layout, headed, orders, &rows)?;
+    Ok(octets)
+}
+
+/// Appends a text after a line with its name and its number of octets. The only error is out of memory.
+fn push_named(octets: &mut Vec<u8>, name: &str, text: &[u8]) -> Result<(), AllocError>
+    ensures { OnOk result (octets.new.items ≡ octets.old.items ++ text_named name.now text.now) }
+{
+    let mut number = Buffer::new();
+    octets.extend_from_slice(name.as_bytes())?;
+    octets.push(b' ')?;
+    octets.extend_from_slice(number.format(text.len()).as_bytes())?;
+    octets.push(b'\n')?;
+    octets.extend_from_slice(text)
+}
+
+/// The full report, the loads and the chart of records, by what handsets read of their tapes.
+fn tables_text(
+    alloc: Global,
+    slots: u16,
+    view: View,
+    headed: bool,
+    orders: &BookOrders,
+    records: &[CellRecord],
+    readings: &[Reading],
+) -> Result<Vec<u8>, RunFault>
+    requires { readings_of readings.now ≡ map reading_of_record records.now }
+    ensures ok { IfOk result (λ octets. octets.items ≡ tables_text slots view headed orders.now records.now) }
+    ensures err { IfErr result IsOfRun }
+{
+    let report = full_report(alloc, view, headed, orders, records, readings)?;
+    let loads = loads_text(alloc, view.wording.start, headed, records)?;
+    let chart = match chart_octets(alloc, slots, view, orders, records, readings) {
+        Ok(octets) => octets,
+        Err(fault) => return Err(of_memory(fault)),
+    };
+    let mut octets = Vec::new(alloc);
+    push_named(&mut octets, "report", &report)?;
+    push_named(&mut octets, "load", &loads)?;
+    push_named(&mut octets, "chart", &chart)?;
+    Ok(octets)
 }
 
 /// The fault of a text whose readings are of the same cells as the records, and which nobody wrote: memory ran out.
@@ -218,97 +304,4 @@ fn of_memory(fault: ReportFault) -> RunFault
         ReportFault::Refused => RunFault::Refused,
         ReportFault::Cells | ReportFault::WriteFailed => unreachable!(),
     }
-}
-
-/// The rows of records, by what handsets read of their tapes. As many tapes at a time are read as there are workers,
-/// and what was read of them is dropped before the next ones are, so that the texts of no others are held.
-fn rows_by<T: AllocGlobal + Threads + Wait + Sync>(
-    rt: &T,
-    records: &[CellRecord],
-    workers: Workers,
-) -> Result<Vec<Row>, RunFault>
-    requires few { length records.now ≤ max_listed }
-    requires tapes { All (λ r. IsTape (tape_of_record r) (reading_of_record r)) records.now }
-    ensures ok { IfOk result (λ rows. rows.items ≡ own_rows records.now) }
-    ensures err { IfErr result IsOfRun }
-{
-    let mut rows = Vec::new(rt.alloc());
-    let mut left = records;
-    while !left.is_empty() {
-        let (group, rest) = left.split_at(left.len().min(workers.number as usize));
-        push_rows(rt, group, workers, &mut rows)?;
-        left = rest;
-    }
-    Ok(rows)
-}
-
-/// Appends the rows of no more records than there are workers, by what handsets read of their tapes.
-fn push_rows<T: AllocGlobal + Threads + Wait + Sync>(
-    rt: &T,
-    records: &[CellRecord],
-    workers: Workers,
-    rows: &mut Vec<Row>,
-) -> Result<(), RunFault>
-    requires at_once { length records.now ≤ workers.number }
-    requires tapes { All (λ r. IsTape (tape_of_record r) (reading_of_record r)) records.now }
-    ensures ok { OnOk result (rows.new.items ≡ rows.old.items ++ own_rows records.now) }
-    ensures err { IfErr result IsOfRun }
-{
-    let mut readings = Vec::with_capacity(rt.alloc(), records.len())?;
-    read_group(rt, records, workers, &mut readings)?;
-    match report::rows(rt.alloc(), records, &readings) {
-        Ok(mut own) => {
-            rows.append(&mut own)?;
-            Ok(())
-        }
-        Err(fault) => Err(of_memory(fault)),
-    }
-}
-
-/// What handsets read of the tapes of records. As many tapes at a time are made as there are workers, and are read
-/// before the next ones are made, so that no more of them are held.
-fn readings_by<T: AllocGlobal + Threads + Wait + Sync>(
-    rt: &T,
-    records: &[CellRecord],
-    workers: Workers,
-) -> Result<Vec<Reading>, RunFault>
-    requires few { length records.now ≤ max_listed }
-    requires tapes { All (λ r. IsTape (tape_of_record r) (reading_of_record r)) records.now }
-    ensures ok { IfOk result (λ readings. readings_of readings.items ≡ map reading_of_record records.now) }
-    ensures err { IfErr result IsOfRun }
-{
-    let mut readings = Vec::with_capacity(rt.alloc(), records.len())?;
-    let mut left = records;
-    while !left.is_empty() {
-        let (group, rest) = left.split_at(left.len().min(workers.number as usize));
-        read_group(rt, group, workers, &mut readings)?;
-        left = rest;
-    }
-    Ok(readings)
-}
-
-/// Makes the tapes of no more records than there are workers, and appends what handsets read of them.
-fn read_group<T: AllocGlobal + Threads + Sync>(
-    rt: &T,
-    records: &[CellRecord],
-    workers: Workers,
-    readings: &mut Vec<Reading>,
-) -> Result<(), RunFault>
-    requires at_once { length records.now ≤ workers.number }
-    requires tapes { All (λ r. IsTape (tape_of_record r) (reading_of_record r)) records.now }
-    ensures ok { OnOk result (readings_of readings.new.items
-        ≡ readings_of readings.old.items ++ map reading_of_record records.now) }
-    ensures err { IfErr result IsOfRun }
-{
-    // Octets are one tape at most.
-    handset::tape_laws();
-    let tapes = compile_all(rt, rt.alloc(), records, workers.number, &Open)?;
-    for tape in &tapes {
-        // The tape is whole, and memory doesn't fail to be read: only memory to read to can be refused.
-        let Ok(reading) = read_tape(rt.alloc(), &mut Source::new(tape.bytes())) else {
-            return Err(RunFault::Refused);
-        };
-        readings.push(reading)?;
-    }
-    Ok(())
 }

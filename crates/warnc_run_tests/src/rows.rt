@@ -13,9 +13,9 @@
 //! The calls:
 //!
 //! - `compile SLOTS WORKERS -> done`, or the fault; `live SLOTS SESSIONS WORKERS -> done`; `records`, `report`, `full`
-//!   (the full report), `times` (that with times), `chart`, `orders` (of the cell 1-1), `link`, `network-tapes`,
-//!   `network-report`, `network-full`, `network-times`, `network-chart` and `network-orders` with the numbers of
-//!   `compile`;
+//!   (the full report), `times` (that with times), `chart`, `orders` (of the cell 1-1), `link`, `loads`, `tables` (and
+//!   the chart), `network-tapes`, `network-report`, `network-full`, `network-times`, `network-chart`, `network-orders`,
+//!   `network-loads` and `network-tables` with the numbers of `compile`;
 //! - `meet SLOTS SESSIONS WORKERS -> done, in both cells at once`: threads wait for each other in two cells;
 //! - `starve SLOTS SESSIONS WORKERS`: so too; then one of them takes all memory, and gives it back when the call has
 //!   ended;
@@ -141,6 +141,10 @@ fn done<T: AllocGlobal + Threads + Wait + Sync>(
         | "chart"
         | "orders"
         | "link"
+        | "loads"
+        | "tables"
+        | "network-loads"
+        | "network-tables"
         | "network-orders"
         | "network-tapes"
         | "network-report"

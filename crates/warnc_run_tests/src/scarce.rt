@@ -143,6 +143,28 @@ scarce-threads 150 link 2 2 -> refused; done
 all -> worked
 ";
 
+/// The loads of a cell; and the report, the loads and the chart.
+const LOADS: &str = "
+in cell,1,1
+in write,0,a,4370,0,1,en,2,2,0,1-1,@
+# lac,ci,slot,share,fullest;1,1,0,50,yes;
+worked 6c61632c63692c736c6f742c73686172652c66756c6c6573740a312c312c302c35302c7965730a
+scarce 150 loads 2 1 -> refused; done
+all -> worked
+scarce 150 network-loads 2 1 -> refused; done
+all -> worked
+scarce-threads 150 loads 2 2 -> refused; done
+all -> worked
+tables 2 1 -> done
+keep
+scarce 200 tables 2 1 -> refused; done
+all -> worked
+network-tables 2 2 -> done
+all -> worked
+scarce-threads 200 tables 2 2 -> refused; done
+all -> worked
+";
+
 /// A full report, of a book and of a network of one group.
 const FULL: &str = "
 in cell,1,1
@@ -267,6 +289,11 @@ fn refused_memory_is_reported_by_orders(rt: HostRuntime) -> Result<(), Fail> {
 #[test]
 fn refused_memory_is_reported_by_links(rt: HostRuntime) -> Result<(), Fail> {
     expect_rows(&rt, LINK)
+}
+
+#[test]
+fn refused_memory_is_reported_by_loads(rt: HostRuntime) -> Result<(), Fail> {
+    expect_rows(&rt, LOADS)
 }
 
 #[test]

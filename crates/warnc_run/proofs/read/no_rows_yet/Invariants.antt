@@ -1,0 +1,5 @@
+use Rattle.std.proofs.Common.{◌≡◌, ◌≤◌, length}
+use Rattle.warnc_run.proofs.read.no_rows_yet.Given as goal
+
+abbrev pub invariant-loop : goal.invariant-loop
+invariant-loop l = (length l.all.items ≡ l.counter) × (l.counter ≤ l.count)

@@ -1,0 +1,11 @@
+use Rattle.std.proofs.Common.{◌∙◌}
+use Rattle.std.proofs.lemmas.Result.{IfOk-weaker}
+use Rattle.warnc_run.proofs.ReadParts.{readings_of_all}
+use Rattle.warnc_run.proofs.read.readings_by.Goals as goal
+
+pub returns : goal.returns
+returns g c =
+    IfOk-weaker c.joined_readings.result _ _
+    (λ readings made. made.1
+    ∙ readings_of_all c.args.records.now c.in_ok-all.all.items c.in_ok-all.ensures c.requires made.0)
+    c.joined_readings.ensures
