@@ -74,9 +74,9 @@ import link_captures
 TOP = os.path.dirname(os.path.dirname(os.path.realpath(__file__)))
 PROGRAM = os.path.join(TOP, "crates", "warnc", "out", "warnc")
 SEEDS = os.path.join(TOP, "tools", "fuzz")
-COMMANDS = ("plan", "check", "texts", "page", "read", "whole", "compile", "live", "report", "chart", "verify", "pcap",
-            "cells", "tape", "orders", "link")
-OF_BOOKS = ("compile", "live", "report", "chart")
+COMMANDS = ("plan", "check", "texts", "page", "read", "whole", "compile", "live", "report", "chart", "load", "verify",
+            "pcap", "cells", "tape", "orders", "link")
+OF_BOOKS = ("compile", "live", "report", "chart", "load")
 # an option without which clap refuses a command
 NEEDED = {"page": "--lang", "tape": "--cell", "orders": "--cell", "verify": "--slots", "link": "--slots",
           **dict.fromkeys(OF_BOOKS, "--slots")}
@@ -156,6 +156,9 @@ EPOCH = datetime.datetime(1970, 1, 1, tzinfo=datetime.timezone.utc)
 REPORT_ROW = re.compile(rb"\d+,\d+,\d+,[0-9a-f]{4},\d+,\d+,\d+,(?:yes|no|refused [0-9a-f]{2})")
 REPORT_ORDER = re.compile(rb'\d+,(?:[^",\n]*|"(?:[^"\n]|"")*"),')
 REPORT_MORE = re.compile(rb"(?:\d*,\d+,\d+,\d+|,,,),[A-Za-z ]*")
+LOAD_ROW = re.compile(rb"(\d+,\d+),(\d+),(?:\d\d?|100),(yes|)")
+# what `chart --tables` writes in front of each of its texts
+NAMED = re.compile(rb"(report|load|chart) (\d+)\n")
 
 
 # What is run, and what comes of it
@@ -448,6 +451,39 @@ def is_report(run, out):
     return heading == names and last == b"" and all(map(form.fullmatch, rows))
 
 
+def is_load(run, out):
+    """Whether an output is a table of loads, with times if the options ask for it: the rows of a cell begin with slot
+    0, and one of them is marked."""
+    start = run.value("--start")
+    heading, *rows, last = out.split(b"\n")
+    if start is not None:
+        split = [it.rsplit(b",", 1) for it in rows]
+        if not all(len(it) == 2 and it[1] == slot_time(start, int(it[0].split(b",")[2])) for it in split):
+            return False
+        rows = [row for row, _ in split]
+    found = [LOAD_ROW.fullmatch(it) for it in rows]
+    names = b"lac,ci,slot,share,fullest" + b",time" * (start is not None)
+    if heading != names or last != b"" or not all(found):
+        return False
+    cells = len({it[1] for it in found})
+    return sum(it[2] == b"0" for it in found) == cells == sum(it[3] == b"yes" for it in found)
+
+
+def is_drawn(run, out):
+    """Whether an output is that of `chart`, with the tables in front of it if the options ask for them."""
+    if "--tables" not in run.words:
+        return is_chart(out)
+    texts = {}
+    while out:
+        found = NAMED.match(out)
+        if found is None:
+            return False
+        end = found.end() + int(found[2])
+        texts[found[1]], out = out[found.end():end], out[end:]
+    return [*texts] == [b"report", b"load", b"chart"] and is_load(run, texts[b"load"]) and is_chart(texts[b"chart"]) \
+        and is_report(Run(["report", "--full", *run.words[1:]], b""), texts[b"report"])
+
+
 def table_in(out):
     """Returns the rows of a table."""
     return list(csv.reader(io.StringIO(out.decode(errors="replace"), newline="")))
@@ -611,7 +647,8 @@ def is_output(run, out):
     if run.wanted == "text":
         return bool(out)
     forms = {"page": lambda: is_shown(run, out), "read": lambda: is_table(run, out),
-             "report": lambda: is_report(run, out), "chart": lambda: is_chart(out),
+             "report": lambda: is_report(run, out), "chart": lambda: is_drawn(run, out),
+             "load": lambda: is_load(run, out),
              "verify": lambda: differences_in(out) == 0,
              "plan": lambda: is_of_plan(run, out),
              "check": lambda: is_of_check(run, out), "texts": lambda: is_of_texts(run, out),
@@ -1348,7 +1385,9 @@ def book_options(chance, command, book):
         options["--lang"] = chance.choice(("en", "de"))
     if command == "report" and chance.random() < 0.3:
         options["--full"] = None
-    if command == "report" and chance.random() < 0.3:
+    if command == "chart" and chance.random() < 0.3:
+        options["--tables"] = None
+    if command in ("report", "load") and chance.random() < 0.3:
         options["--start"] = chance.choice(STARTS)
     return options
 

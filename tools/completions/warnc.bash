@@ -10,9 +10,9 @@ _warnc() {
         before=${COMP_WORDS[COMP_CWORD - 2]}
     fi
     # after an option without a value comes another option
-    case $before in --network | --strict | --full | --short | --explain | --lag | --used | --all | --packets) before= ;; esac
+    case $before in --network | --strict | --full | --tables | --short | --explain | --lag | --used | --all | --packets) before= ;; esac
     if [ "$COMP_CWORD" -eq 1 ]; then
-        words="plan check texts compile report chart read verify page live pcap cells tape orders link whole groups help -h --help -V --version"
+        words="plan check texts compile report chart load read verify page live pcap cells tape orders link whole groups help -h --help -V --version"
     else
         case ${COMP_WORDS[1]}$before in
         texts--pages) words="1 2 3 4 5 6 7 8 9 10 11 12 13 14 15" ;;
@@ -37,7 +37,8 @@ _warnc() {
             texts) words="--pages --group --network -h --help" ;;
             compile) words="--slots --group --network --strict --workers -h --help" ;;
             report) words="--slots --group --network --full --start --workers -h --help" ;;
-            chart) words="--slots --group --network --cell --from --to --lang --start --strict --workers -h --help" ;;
+            chart) words="--slots --group --network --cell --from --to --lang --start --tables --strict --workers -h --help" ;;
+            load) words="--slots --group --network --start --workers -h --help" ;;
             read) words="--short --slots -h --help" ;;
             verify) words="--book --slots --short --explain --start --group --workers --orders --cell --delay --lag -h --help" ;;
             page) words="--lang --id --scope --code --update --explain -h --help" ;;
@@ -49,7 +50,7 @@ _warnc() {
             link) words="--slots --start --workers -h --help" ;;
             whole) words="-h --help" ;;
             groups) words="-h --help" ;;
-            help) words="plan check texts compile report chart read verify page live pcap cells tape orders link whole groups" ;;
+            help) words="plan check texts compile report chart load read verify page live pcap cells tape orders link whole groups" ;;
             esac
             ;;
         esac

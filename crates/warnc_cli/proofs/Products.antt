@@ -1,16 +1,19 @@
 -- What the engine of all commands over a book writes, and what its statuses say of the ends.
-use Rattle.std.proofs.Common.{◌≡◌, ◌≢◌, ◌⊎◌, ◌∙◌, ℕ, ◌+◌, ◌/◌, ◌<◌, ◌≤◌, List, [], ◌∷◌, length}
+use Rattle.std.proofs.Common.{◌≡◌, ◌≢◌, ◌⊎◌, ◌∙◌, ℕ, ◌+◌, ◌/◌, ◌<◌, ◌≤◌, Bool, List, [], ◌∷◌, length}
 use Rattle.std.proofs.Common.{Err, Ok, Result, ap, arith, false, inl, inr, refl, rules, subst, sym, true}
 use Rattle.std.proofs.Common.{None, Option, Some}
 use Rattle.std.proofs.Math.Nat.{le-max_left}
 use Rattle.std.proofs.lemmas.List.{length-append}
+use Rattle.std.specs.Prelude.{◌==◌}
 use Rattle.std.specs.Io.KnownBytes.{Keeps}
 use Rattle.alert_book.specs.declared.network.Origin.{Origin}
 use Rattle.alert_book.specs.declared.network.Origin.TheVariants as origin
 use Rattle.alert_book.specs.Network.{groups_of}
 use Rattle.alert_book.specs.Book.{unread}
 use Rattle.bsc_table.specs.Record.{Record}
+use Rattle.cell_loads.specs.LoadsText.{loads_text}
 use Rattle.chart.proofs.SomeChart.{some_chart, some_part}
+use Rattle.chart.specs.declared.view.View.{View}
 use Rattle.device_ends.specs.Moves.{WritesOutput}
 use Rattle.device_ends.specs.Sink.{sink_failed, writer_of}
 use Rattle.device_ends.specs.Stream.{Writes}
@@ -32,7 +35,7 @@ use Rattle.warnc_run.specs.Network.{joined_parts, octets_of_group, AreFirstParts
 use Rattle.alert_book.specs.declared.book.order.Order.{Order}
 use Rattle.asked_orders.specs.Asked.{orders_of_run}
 use Rattle.report.specs.Sources.{Orders}
-use Rattle.warnc_run.specs.Products.{own_rows}
+use Rattle.warnc_run.specs.Products.{own_rows, tables_text}
 use Rattle.warnc_run.specs.declared.fault.RunFault.{RunFault}
 use Rattle.warnc_run.specs.declared.fault.RunFault.TheVariants as run
 use Rattle.warnc_run.specs.declared.run.Books.{Books}
@@ -81,6 +84,16 @@ some_text columns.Full (Some start) orders rows = omega arith
 some_report : (layout : Layout) (orders : Orders) (rows : List Row) → 0 < length (text_with layout true orders rows)
 some_report layout orders rows = some_text layout.columns layout.start orders rows
 
+-- the line of names over loads
+some_loads : (start : Option Start) (records : List Record) → 0 < length (loads_text start true records)
+some_loads None records = omega arith
+some_loads (Some start) records = omega arith
+
+-- the name in front of a report
+some_tables : (slots : ℕ) (view : View) (headed : Bool) (orders : Orders) (records : List Record)
+    → 0 < length (tables_text slots view headed orders records)
+some_tables slots view headed orders records = omega arith
+
 -- what is made of a book, or the part of a first group, has octets, but tapes and an orders file
 some_of_group : (r : Run) (made : Product) (slots groups : ℕ) (orders : List Order) (records : List Record)
     → AlwaysWrites (task.Make r made)
@@ -92,6 +105,9 @@ some_of_group r (product.Chart wanted) slots groups orders records always =
     some_part slots _ wanted (orders_of_run orders records) records _
 some_of_group r (product.Orders cell) slots groups orders records always = absurd always
 some_of_group r (product.Link start) slots groups orders records always = some_link start records
+some_of_group r (product.Loads start) slots groups orders records always = some_loads start records
+some_of_group r (product.Tables view) slots groups orders records always =
+    some_tables slots view true (orders_of_run orders records) records
 
 -- and so has what is made of any books
 pub some_of_book : (b : Books) (made : Product) (slots parts : ℕ) (input output : List ℕ)
@@ -119,6 +135,16 @@ some_of_book (books.One origin.Book) (product.Link start) slots parts input outp
     subst (λ (octets : List ℕ). 0 < length octets) (sym is.written) (some_link start is.records)
 some_of_book (books.One (origin.Group group)) (product.Link start) slots parts input output is r same always =
     subst (λ (octets : List ℕ). 0 < length octets) (sym is.written) (some_link start is.records)
+some_of_book (books.One origin.Book) (product.Loads start) slots parts input output is r same always =
+    subst (λ (octets : List ℕ). 0 < length octets) (sym is.written) (some_loads start is.records)
+some_of_book (books.One (origin.Group group)) (product.Loads start) slots parts input output is r same always =
+    absurd (subst IsHeaded same always)
+some_of_book (books.One origin.Book) (product.Tables view) slots parts input output is r same always =
+    subst (λ (octets : List ℕ). 0 < length octets) (sym is.written)
+    (some_tables slots view true (orders_of_run is.run.book.orders is.records) is.records)
+some_of_book (books.One (origin.Group group)) (product.Tables view) slots parts input output is r same always =
+    subst (λ (octets : List ℕ). 0 < length octets) (sym is.written)
+    (some_tables slots view (group == 0) (orders_of_run is.run.book.orders is.records) is.records)
 some_of_book books.EachGroup made slots sessions input output is r same always =
     subst (λ (octets : List ℕ). 0 < length octets) (sym is.written) (by_parts is.parts is.as_many is.each)
   where

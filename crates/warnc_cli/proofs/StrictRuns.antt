@@ -48,6 +48,8 @@ always_plain r (product.Report layout) always = always
 always_plain r (product.Chart view) always = tt
 always_plain r (product.Orders cell) always = always
 always_plain r (product.Link start) always = tt
+always_plain r (product.Loads start) always = always
+always_plain r (product.Tables view) always = tt
 
 -- what was written is something
 pub some_strict : (r : BookRun) (made : Product) (first last old new : Option (List ℕ))

@@ -111,37 +111,45 @@ pub writes_some : (words : List (List ℕ)) (t : Task) → IsTaskOf words t
     → slice_get words 1 ≢ Some (codes "plan")
     → slice_get words 1 ≢ Some (codes "orders")
     → (slice_get words 1 ≡ Some (codes "report") → is_given words (codes "--group") ≡ false)
+    → (slice_get words 1 ≡ Some (codes "load") → is_given words (codes "--group") ≡ false)
     → AlwaysWrites t
-writes_some words (task.Make run product.Tapes) asked compile live whole plan orders report =
+writes_some words (task.Make run product.Tapes) asked compile live whole plan orders report load =
     absurd (of_tapes words run.sessions.number asked.made_given compile live)
-writes_some words (task.Make run (product.Report layout)) asked compile live whole plan orders report =
+writes_some words (task.Make run (product.Report layout)) asked compile live whole plan orders report load =
     headed words run.books asked.books_given (report asked.made_given.0)
-writes_some words (task.Make run (product.Chart wanted)) asked compile live whole plan orders report = tt
-writes_some words (task.Make run (product.Orders cell)) asked compile live whole plan orders report =
+writes_some words (task.Make run (product.Chart wanted)) asked compile live whole plan orders report load = tt
+writes_some words (task.Make run (product.Orders cell)) asked compile live whole plan orders report load =
     absurd (orders asked.made_given.0)
-writes_some words (task.Make run (product.Link start)) asked compile live whole plan orders report = tt
-writes_some words (task.Strict run product.Tapes) asked compile live whole plan orders report =
+writes_some words (task.Make run (product.Link start)) asked compile live whole plan orders report load = tt
+writes_some words (task.Make run (product.Loads start)) asked compile live whole plan orders report load =
+    headed words run.books asked.books_given (load asked.made_given.0)
+writes_some words (task.Make run (product.Tables view)) asked compile live whole plan orders report load = tt
+writes_some words (task.Strict run product.Tapes) asked compile live whole plan orders report load =
     absurd (of_tapes words run.sessions.number asked.made_given compile live)
-writes_some words (task.Strict run (product.Report layout)) asked compile live whole plan orders report =
+writes_some words (task.Strict run (product.Report layout)) asked compile live whole plan orders report load =
     headed words (books.One run.origin) asked.book_given (report asked.made_given.0)
-writes_some words (task.Strict run (product.Chart wanted)) asked compile live whole plan orders report = tt
-writes_some words (task.Strict run (product.Orders cell)) asked compile live whole plan orders report =
+writes_some words (task.Strict run (product.Chart wanted)) asked compile live whole plan orders report load = tt
+writes_some words (task.Strict run (product.Orders cell)) asked compile live whole plan orders report load =
     absurd (orders asked.made_given.0)
-writes_some words (task.Strict run (product.Link start)) asked compile live whole plan orders report = tt
-writes_some words (task.Verify from slots pages layout file workers) asked compile live whole plan orders report = tt
-writes_some words (task.VerifyOrders cell terms file) asked compile live whole plan orders report = tt
-writes_some words (task.Page language id serial form) asked compile live whole plan orders report = tt
-writes_some words (task.Read wanted) asked compile live whole plan orders report = tt
-writes_some words (task.ReadSlots wanted) asked compile live whole plan orders report = tt
-writes_some words task.Whole asked compile live whole plan orders report = absurd (whole asked)
-writes_some words task.Plan asked compile live whole plan orders report = absurd (plan asked)
-writes_some words (task.Pcap settings) asked compile live whole plan orders report = tt
-writes_some words task.Cells asked compile live whole plan orders report = tt
-writes_some words (task.Tape wanted) asked compile live whole plan orders report = tt
-writes_some words (task.Orders wanted packets) asked compile live whole plan orders report =
+writes_some words (task.Strict run (product.Link start)) asked compile live whole plan orders report load = tt
+writes_some words (task.Strict run (product.Loads start)) asked compile live whole plan orders report load =
+    headed words (books.One run.origin) asked.book_given (load asked.made_given.0)
+writes_some words (task.Strict run (product.Tables view)) asked compile live whole plan orders report load = tt
+writes_some words (task.Verify from slots pages layout file workers) asked compile live whole plan orders report load =
+    tt
+writes_some words (task.VerifyOrders cell terms file) asked compile live whole plan orders report load = tt
+writes_some words (task.Page language id serial form) asked compile live whole plan orders report load = tt
+writes_some words (task.Read wanted) asked compile live whole plan orders report load = tt
+writes_some words (task.ReadSlots wanted) asked compile live whole plan orders report load = tt
+writes_some words task.Whole asked compile live whole plan orders report load = absurd (whole asked)
+writes_some words task.Plan asked compile live whole plan orders report load = absurd (plan asked)
+writes_some words (task.Pcap settings) asked compile live whole plan orders report load = tt
+writes_some words task.Cells asked compile live whole plan orders report load = tt
+writes_some words (task.Tape wanted) asked compile live whole plan orders report load = tt
+writes_some words (task.Orders wanted packets) asked compile live whole plan orders report load =
     absurd (orders asked.command)
-writes_some words (task.Tapes wanted file) asked compile live whole plan orders report = tt
-writes_some words task.Groups asked compile live whole plan orders report = tt
-writes_some words (task.Check what) asked compile live whole plan orders report = tt
-writes_some words (task.Remark what slots start strict) asked compile live whole plan orders report = tt
-writes_some words (task.Texts what pages) asked compile live whole plan orders report = tt
+writes_some words (task.Tapes wanted file) asked compile live whole plan orders report load = tt
+writes_some words task.Groups asked compile live whole plan orders report load = tt
+writes_some words (task.Check what) asked compile live whole plan orders report load = tt
+writes_some words (task.Remark what slots start strict) asked compile live whole plan orders report load = tt
+writes_some words (task.Texts what pages) asked compile live whole plan orders report load = tt

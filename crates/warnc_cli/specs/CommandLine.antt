@@ -363,10 +363,16 @@ GivesProduct words (product.Report layout) sessions =
     × GivesSlotStart words layout.start
 GivesProduct words (product.Chart view) sessions =
     (slice_get words 1 ≡ Some (codes "chart")) × (sessions ≡ 1) × GivesView words view
+    × (is_given words (codes "--tables") ≡ false)
 GivesProduct words (product.Orders cell) sessions =
     (slice_get words 1 ≡ Some (codes "orders")) × (sessions ≡ 1) × GivesCell words cell
 GivesProduct words (product.Link start) sessions =
     (slice_get words 1 ≡ Some (codes "link")) × (sessions ≡ 1) × GivesStart words start
+GivesProduct words (product.Loads start) sessions =
+    (slice_get words 1 ≡ Some (codes "load")) × (sessions ≡ 1) × GivesSlotStart words start
+GivesProduct words (product.Tables view) sessions =
+    (slice_get words 1 ≡ Some (codes "chart")) × (sessions ≡ 1) × GivesView words view
+    × (is_given words (codes "--tables") ≡ true)
 
 -- the words ask for this to be made of such a run
 pub record AsksForRun (words : List (List ℕ)) (run : Run) (made : Product) : Type 0 where

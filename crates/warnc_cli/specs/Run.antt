@@ -22,7 +22,7 @@ WritesSome old new = (output : List ℕ) × (0 < length output) × Appends old n
 
 -- something was written, unless the words ask for `compile` or `live`, since a book without cells has no tapes, for
 -- `whole`, since no tapes have none, for `plan`, since no rows come to none, for `orders`, since a cell may have got
--- none, or for the report of a group, since that of a later group has no line of the columns' names
+-- none, or for the report or the loads of a group, since those of a later group have no line of the columns' names
 abbrev pub WritesSomeUnlessTapes : (words : List (List ℕ)) → (old new : Option (List ℕ)) → Type 0
 WritesSomeUnlessTapes words old new = slice_get words 1 ≢ Some (codes "compile")
     → slice_get words 1 ≢ Some (codes "live")
@@ -30,6 +30,7 @@ WritesSomeUnlessTapes words old new = slice_get words 1 ≢ Some (codes "compile
     → slice_get words 1 ≢ Some (codes "plan")
     → slice_get words 1 ≢ Some (codes "orders")
     → (slice_get words 1 ≡ Some (codes "report") → is_given words (codes "--group") ≡ false)
+    → (slice_get words 1 ≡ Some (codes "load") → is_given words (codes "--group") ≡ false)
     → WritesSome old new
 
 -- the words ask for help or for the version, and something was written

@@ -141,20 +141,22 @@ WritesAll (task.VerifyOrders cell terms file) book input old new =
 WritesAll (task.Tapes wanted file) book input old new = WritesOutputOfBoth (AreAllTapes wanted) book input old new
 WritesAll other book input old new = WritesOutput (Means other) input old new
 
--- the line of the columns' names stands over a report
+-- the line of the columns' names stands over a report, and over loads
 abbrev pub IsHeaded : Books → Type 0
 IsHeaded (books.One (origin.Group group)) = ⊥
 IsHeaded other = ⊤
 
 -- it writes something: tapes are none of a book without cells, nor whole tapes of no tapes, a plan of no row comes to
--- none, a cell may have got no orders, and the report of a later group has no line of the columns' names
+-- none, a cell may have got no orders, and the report and the loads of a later group have no line of the columns' names
 abbrev pub AlwaysWrites : Task → Type 0
 AlwaysWrites (task.Make run product.Tapes) = ⊥
 AlwaysWrites (task.Make run (product.Report layout)) = IsHeaded run.books
 AlwaysWrites (task.Make run (product.Orders cell)) = ⊥
+AlwaysWrites (task.Make run (product.Loads start)) = IsHeaded run.books
 AlwaysWrites (task.Strict run product.Tapes) = ⊥
 AlwaysWrites (task.Strict run (product.Report layout)) = IsHeaded (books.One run.origin)
 AlwaysWrites (task.Strict run (product.Orders cell)) = ⊥
+AlwaysWrites (task.Strict run (product.Loads start)) = IsHeaded (books.One run.origin)
 AlwaysWrites task.Whole = ⊥
 AlwaysWrites task.Plan = ⊥
 AlwaysWrites (task.Orders wanted packets) = ⊥

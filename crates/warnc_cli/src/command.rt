@@ -99,7 +99,7 @@ pub enum Task<'a> {
         /// For how many pages each text is cut.
         pages: Option<u16>,
     },
-    /// `compile`, `live`, `report`, `chart`, `link`, or `orders` of a book.
+    /// `compile`, `live`, `report`, `chart`, `load`, `link`, or `orders` of a book.
     Make {
         /// Which books are run, and how.
         run: Run,
@@ -185,9 +185,10 @@ fn task_in<'a, S: AsStr>(words: &'a [S]) -> Option<Task<'a>>
             Product::Report(layout_in(words)?),
             Sessions { number: 1 },
         ),
-        "chart" => run_in(
+        "chart" => run_in(words, charted_in(words)?, Sessions { number: 1 }),
+        "load" => run_in(
             words,
-            Product::Chart(view_in(words)?),
+            Product::Loads(slot_start_in(words)?),
             Sessions { number: 1 },
         ),
         "link" => run_in(
@@ -197,6 +198,19 @@ fn task_in<'a, S: AsStr>(words: &'a [S]) -> Option<Task<'a>>
         ),
         "verify" => verify_in(words),
         _ => None,
+    }
+}
+
+/// What `chart` is to make: the chart, or the tables in front of it, too.
+fn charted_in<S: AsStr>(words: &[S]) -> Option<Product>
+    requires { slice_get (map S.text words.now) 1 ≡ Some (codes "chart") }
+    ensures { IfSome result (λ made. GivesProduct (map S.text words.now) made 1) }
+{
+    let view = view_in(words)?;
+    if is_given(words, "--tables") {
+        Some(Product::Tables(view))
+    } else {
+        Some(Product::Chart(view))
     }
 }
 

@@ -7,7 +7,7 @@ use parallel_compile::MAX_WORKERS;
 use std::alloc::{AllocError, Global};
 
 /// The version of the program, and on a line of its own what `rt version` says of the toolchain that proved it.
-const VERSION: &str = "1.20.1\nrattle-kit-13b logic dac8208d650f15bf";
+const VERSION: &str = "1.21.0\nrattle-kit-13b logic dac8208d650f15bf";
 
 /// The words for the channel that packets name.
 const CHANNEL_TYPES: &[&str] = &["cbch", "sdcch"];
@@ -59,7 +59,8 @@ fn with_runs<'a>(alloc: Global, command: Command<'a>) -> Result<Command<'a>, All
     command
         .subcommand(compile(alloc)?)?
         .subcommand(report(alloc)?)?
-        .subcommand(chart(alloc)?)
+        .subcommand(chart(alloc)?)?
+        .subcommand(load(alloc)?)
 }
 
 /// Adds those on tapes, and those on a text and on sessions.
@@ -130,7 +131,22 @@ fn chart<'a>(alloc: Global) -> Result<Command<'a>, AllocError> {
         .arg(charted_to(alloc))?
         .arg(charted_language(alloc))?
         .arg(charted_clock(alloc))?
+        .arg(tables(alloc)?)?
         .arg(all_done(alloc)?)?
+        .arg(workers(alloc))
+}
+
+/// The command line of `load`.
+fn load<'a>(alloc: Global) -> Result<Command<'a>, AllocError> {
+    Command::new(alloc, "load")
+        .about(
+            "Reads a book of alerts, as CSV, and writes how full each cell is from\nwhich slot on, as CSV",
+        )
+        .after_help("Example: warnc load --slots 4096 < book.csv")
+        .arg(slots(alloc))?
+        .arg(group(alloc))?
+        .arg(network(alloc)?)?
+        .arg(differing_clock(alloc))?
         .arg(workers(alloc))
 }
 
@@ -469,6 +485,16 @@ fn charted_language<'a>(alloc: Global) -> Arg<'a> {
     )
     .value_parser(ValueParser::Names(LANGUAGES))
     .hide_possible_values(true)
+}
+
+/// The option of the tables in front of a chart.
+fn tables<'a>(alloc: Global) -> Result<Arg<'a>, AllocError> {
+    flag(
+        alloc,
+        "tables",
+        "Writes in front of the page what report --full and\nload write: before each of the three is a line with\nits name and its number of octets",
+    )
+    .conflicts_with("network")
 }
 
 /// The option of the number of slots of a run that is checked.

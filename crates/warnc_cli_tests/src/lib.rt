@@ -15,6 +15,8 @@ mod groups;
 #[cfg(test)]
 mod links;
 #[cfg(test)]
+mod loads;
+#[cfg(test)]
 mod malformed;
 #[cfg(test)]
 mod malformed_table;

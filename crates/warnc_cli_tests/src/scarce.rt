@@ -149,11 +149,11 @@ in write,0,a,4370,0,1,en,2,2,0,1-1,@
 worked lac,ci,id,serial,start,end,completed,shown
 worked 1,1,4370,0010,0,2,1,yes
 args report --slots 2
-scarce 24 4700 -> worked
+scarce 22 4600 -> worked
 args report --slots 2 --group 0
-scarce 25 4700 -> worked
+scarce 23 4600 -> worked
 args report --slots 2 --network
-scarce 26 4700 -> worked
+scarce 24 4600 -> worked
 ";
 
 const CHART: &str = "
@@ -213,7 +213,7 @@ args report --slots 2 --network
 worked lac,ci,id,serial,start,end,completed,shown
 worked 1,0,4370,0010,0,2,1,yes
 worked 1,64,4370,0010,0,2,1,yes
-scarce-later 279 67 295 2400 -> worked
+scarce-later 88 67 102 1500 -> worked
 ";
 
 /// With so little memory no thread can be made: a session works in the calling thread. Memory ends before there are
