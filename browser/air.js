@@ -13,9 +13,8 @@ function nameOfGroup({ cells }) {
     const isRow = cells.every((cell, k) => k === 0 || cell.index === cells[k - 1].index + 1);
     return isRow ? say("cellsTo", cells[0].key, cells.at(-1).key) : cells.map((cell) => cell.key).join(", ");
 }
-const percent = (load) => Math.ceil((100 * load) / WHOLE_CELL); // as the chart rounds it
 const loadAt = (group, slot) => (group.loads.findLast(([from]) => from <= slot) || [0, 0])[1];
-const fullestText = ({ fullest: [slot, load] }, key = "fullest") => say(key, percent(load), timeText(slot));
+const fullestText = ({ fullest: [slot, load] }, key = "fullest") => say(key, load, timeText(slot));
 
 // Of a message: the slots after which a broadcast is whole, by the chart or by its cell's tape, and what is said of it.
 // The chart's line of marks goes along by so many slots to each of them.
@@ -203,7 +202,7 @@ function showTime() {
     $("a-over").style.setProperty("--where", `${(100 * slot) / state.slots}%`);
     $("a-now").textContent = $("a-clock").textContent = timeText(slot);
     $("a-slot").textContent = say("slotOf", number(slot), number(state.slots));
-    $("a-time").setAttribute("aria-valuetext", `${timeText(slot)}, ${say("load")} ${percent(loadAt(group, slot))} %`);
+    $("a-time").setAttribute("aria-valuetext", `${timeText(slot)}, ${say("load")} ${loadAt(group, slot)} %`);
     fill($("a-shown"), seen.length ? seen.map(phoneItem) : node("li.none", say("nothingYet")));
     clearTimeout(speakTimer);
     speakTimer = setTimeout(() => {

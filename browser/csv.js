@@ -1,6 +1,6 @@
 // Shared by the page and its workers: the columns of a book, and its CSV as docs/formats.md has it.
 const SLOT = (8 * 51 * 120) / 26 / 1000; // seconds of a slot: eight 51-multiframes, a frame lasts 120/26 ms
-const WHOLE_CELL = 1008; // what the chart draws a full cell's load as
+const WHOLE_CELL = 100; // loads are hundredths
 const MOST_PAGES = 15;
 const COLUMNS = {
     cell: ["lac", "ci"],

@@ -219,7 +219,7 @@ async function work() {
 async function askMore(text, slots) { // once it is shown what becomes of a book: what would go unsaid, what texts cost
     const own = wanted, answers = {};
     isAskingMore = true;
-    showBusy(4);
+    showBusy(3);
     for (const job of ["remarks", "costs"]) {
         if (own === wanted) answers[job] = await bookDesk.ask(job, { text, slots });
     }

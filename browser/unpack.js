@@ -1,5 +1,5 @@
-// In the page and in its workers: what tools/browser.py has packed. Each sign has seven bits: one that a page can't have,
-// or that could end a script, stands higher by a multiple of 128.
+// In the page and in its workers: what tools/browser.py has packed. Each sign has seven bits: one that a page can't
+// have, or that could end a script, stands higher by a multiple of 128.
 function octetsOf(signs) {
     const octets = new Uint8Array((signs.length * 7) >> 3);
     let held = 0, bits = 0, count = 0;

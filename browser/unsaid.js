@@ -1,6 +1,6 @@
 // In a worker: what the page shows and the program doesn't say yet. In how many cells an order's message is shown, or
-// never is; texts with spaces at an end, and orders of all cells with cells after them; the load as numbers. All of it
-// is read of the program's report and chart (docs/formats.md).
+// never is; texts with spaces at an end, and orders of all cells with cells after them. It is read of the program's
+// report and chart (docs/formats.md).
 const REFERENCES = { amp: "&", lt: "<", gt: ">", quot: '"' };
 const plain = (markup) => (
     markup.includes("&") ? markup.replace(/&(#?\w+);/g, (_, name) => REFERENCES[name] ?? "'") : markup);
@@ -20,15 +20,10 @@ function messageOf([row, name, , , id, serial, start, end, whole, , first, , per
     };
 }
 
-// Returns the load of a cell, in parts of a whole one: what is reserved from a slot on, and when it is the most.
-function loadOf(path) {
-    const loads = [];
-    let slot = 0;
-    for (const [, step, value] of path.matchAll(/([HV])(\d+)/g)) {
-        if (step === "H") slot = +value;
-        else loads.push([slot, WHOLE_CELL - value]);
-    }
-    return { loads, fullest: loads.reduce((most, one) => (one[1] > most[1] ? one : most), [0, 0]) };
+// Returns the load of a cell: what is reserved from a slot on, and when it is the most.
+function loadOf(lines) {
+    const loads = lines.map(([, , slot, share]) => [+slot, +share]);
+    return { loads, fullest: loads[lines.findIndex((fields) => fields[4])] };
 }
 
 // Returns the cells that a heading of the chart names: "Cell 1-2", "Cells 1-2, 3-4, 2 cells" or "Cells 1-2 to 1-9, 8
@@ -48,14 +43,15 @@ function linesOf(report) {
 }
 
 // Returns the groups of cells that the chart draws once, with their messages and loads.
-function groupsOf(chart, reported, book) {
+function groupsOf(chart, reported, loaded, book) {
     const places = new Map(book.cells.map(({ key }, index) => [key, index]));
     const lines = Map.groupBy(reported, ([, , lac, ci]) => `${lac}-${ci}`);
+    const loads = Map.groupBy(loaded, ([lac, ci]) => `${lac}-${ci}`);
     return chart.split("<details open").slice(1).map((part) => {
         const cells = cellsNamed(between(part, "<h2>", "</h2>")).map((key) => ({ key, index: places.get(key) }));
         const boxes = part.split("<div>").slice(1), said = lines.get(cells[0].key) || [];
-        const load = between(boxes[said.length], '<path class="load" d="', '"');
-        return { cells, messages: said.map((fields, k) => messageOf(fields, boxes[k])), ...loadOf(load) };
+        const messages = said.map((fields, k) => messageOf(fields, boxes[k]));
+        return { cells, messages, ...loadOf(loads.get(cells[0].key)) };
     });
 }
 

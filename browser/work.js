@@ -26,6 +26,17 @@ function channelOf(tape, slots) {
     return { air, page };
 }
 
+// Returns the texts that an output has, by their names: each comes after a line with its name and its number of octets.
+function textsIn(octets) {
+    const texts = {};
+    for (let at = 0; at < octets.length;) {
+        const end = octets.indexOf(10, at), [name, count] = decode(octets.subarray(at, end)).split(" ");
+        at = end + 1 + +count;
+        texts[name] = decode(octets.subarray(end + 1, at));
+    }
+    return texts;
+}
+
 const jobs = {
     async start({ packed, module }) {
         program = module || await compiled(packed);
@@ -44,16 +55,12 @@ const jobs = {
     },
 
     book({ text, slots }, say) {
-        const words = ["--slots", slots, "--workers", 1];
         tapes = null;
-        const report = run(["report", "--full", ...words], text);
-        if (report.status) return { fault: report.says, faults: tableBy(["check"], text) };
+        const made = run(["chart", "--tables", "--slots", slots, "--workers", 1], text);
+        if (made.status) return { fault: made.says, faults: tableBy(["check"], text) };
         say(2);
-        const chart = run(["chart", ...words], text);
-        if (chart.status) return { fault: chart.says };
-        say(3);
-        const book = readBook(text), reported = linesOf(decode(report.out));
-        const groups = groupsOf(decode(chart.out), reported, book), fates = fatesOf(reported, book);
+        const book = readBook(text), { report, load, chart } = textsIn(made.out), reported = linesOf(report);
+        const groups = groupsOf(chart, reported, linesOf(load), book), fates = fatesOf(reported, book);
         const own = ownRemarks(book);
         return { told: JSON.stringify({ groups, fates, own }) }; // so large a text is passed on faster than its objects
     },
