@@ -213,7 +213,7 @@ args report --slots 2 --network
 worked lac,ci,id,serial,start,end,completed,shown
 worked 1,0,4370,0010,0,2,1,yes
 worked 1,64,4370,0010,0,2,1,yes
-scarce-later 88 67 102 1500 -> worked
+scarce-later 88 67 102 380 -> worked
 ";
 
 /// With so little memory no thread can be made: a session works in the calling thread. Memory ends before there are
