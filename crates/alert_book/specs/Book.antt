@@ -1,7 +1,7 @@
 -- What a book's octets mean: the rows that CSV has them be, read one after the other, and the pages of their texts; or
 -- why they are refused. Own.
-use Rattle.std.specs.Prelude.{◌≡◌, ◌≢◌, ◌⊎◌, ℕ, ◌+◌, ◌≤◌, Option, Some, None, List, [], ◌∷◌, ◌++◌, length, Result, Ok}
-use Rattle.std.specs.Prelude.{Err}
+use Rattle.std.specs.Prelude.{◌≡◌, ◌≢◌, ◌⊎◌, ℕ, ◌+◌, ◌<◌, ◌≤◌, Option, Some, None, List, [], ◌∷◌, ◌++◌, length}
+use Rattle.std.specs.Prelude.{Result, Ok, Err}
 use Rattle.std.specs.Io.KnownBytes.{Consumes, IsAtEnd}
 use Rattle.std.specs.Str.{chars}
 use Rattle.csv.specs.Reading.{AreRecords, Reached, default_config, strip_bom}
@@ -170,6 +170,10 @@ too_long = fault_at 0 fault.TooManyRows
 -- why octets within the bound are no book, out of memory aside: a row's fault, or else a text's
 abbrev pub IsWrong : List ℕ → BookFault → Type 0
 IsWrong input f = (length input ≤ max_book) × (IsRowFault input f ⊎ HasTextFault input f)
+
+-- why octets are no book: out of memory, or they are too many, or the book has a fault
+abbrev pub RefusesOctets : List ℕ → BookFault → Type 0
+RefusesOctets input f = (f ≡ refused) ⊎ ((f ≡ too_long) × (max_book < length input)) ⊎ IsWrong input f
 
 -- octets that mean a book in this way were read: they are gone from the reader, and it is at its end
 pub record ReadsBy (Means : List ℕ → Contents → Type 0) (old new : Option (List ℕ)) (book : Contents) : Type 0 where

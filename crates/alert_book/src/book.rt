@@ -4,12 +4,12 @@ ghost use Rattle.std.specs.Prelude.{◌≡◌, ◌≢◌, ◌⊎◌, ◌↔◌, 
 ghost use Rattle.std.specs.Prelude.{All, IsErrOf, IsTrue, OnErr, OnOk};
 ghost use Rattle.device_ends.specs.Source.{reader_of, source_failed};
 ghost use Rattle.alert_book.specs.Book.{fault_at, kind_of, refused, unread, AreRowsOf, IsBook, IsRowFault, IsWrong};
-ghost use Rattle.alert_book.specs.Book.{ReadsBook, RefusesBook};
+ghost use Rattle.alert_book.specs.Book.{RefusesOctets, ReadsBook, RefusesBook};
 ghost use Rattle.alert_book.specs.SendableSteps.{IsSendable};
 
 use crate::book::names::Names;
 use crate::book::order::Order;
-use crate::book::packing::all_pages;
+use crate::book::packing::{all_pages, all_pages_in_turn};
 use crate::book::row::{Row, row_of};
 use crate::fault::{BookFault, BookFaultKind, RowFault, fault_of_book};
 use cbs_page::Paged;
@@ -205,6 +205,38 @@ fn book_of<T: AllocGlobal + Threads + Sync>(rt: &T, octets: &[u8]) -> Result<Boo
         orders: known.orders,
         pages,
     })
+}
+
+/// The same, of texts that are packed one after the other.
+fn book_in_turn(alloc: Global, octets: &[u8]) -> Result<Book, BookFault>
+    requires { length octets.now ≤ 16777216 }
+    ensures ok { IfOk result (λ book. IsBook octets.now book) }
+    ensures err { IfErr result (λ fault. (fault ≡ refused) ⊎ IsWrong octets.now fault) }
+{
+    let known = read_rows(alloc, octets)?;
+    let pages = all_pages_in_turn(alloc, &known.orders)?;
+    Ok(Book {
+        cells: known.cells,
+        orders: known.orders,
+        pages,
+    })
+}
+
+/// The book that octets are, as [`read_book`] has it of a reader's. The texts are packed one after the other, so it
+/// takes no thread.
+///
+/// # Errors
+///
+/// The first fault of the book, as of [`read_book`]: `TooManyRows` of row 0 if there are over 16 MiB of octets.
+pub fn read_octets(alloc: Global, octets: &[u8]) -> Result<Book, BookFault>
+    ensures ok { IfOk result (λ book. IsBook octets.now book) }
+    ensures err { IfErr result (RefusesOctets octets.now) }
+{
+    if octets.len() <= MAX_INPUT {
+        book_in_turn(alloc, octets)
+    } else {
+        Err(fault_of_book(BookFaultKind::TooManyRows))
+    }
 }
 
 /// Reads a book to its end. The texts are packed side by side, in as many threads as there are processors.

@@ -1,9 +1,10 @@
 //! Alert books: the orders of a run, as CSV.
 //!
 //! A book's rows declare cells, and write, update and stop alerts in them. [`read_book`] reads all of a book, or
-//! returns the first fault of it. [`read_group`] reads a book of more cells for a group of them, and [`group_in`] does
-//! so of octets. [`Network::read`] reads such a book once, for the books of all its groups. A [`Session`] gives the
-//! messages that the rows order, one after the other, by the replies so far.
+//! returns the first fault of it, and [`read_octets`] does so of octets, in one thread. [`read_group`] reads a book of
+//! more cells for a group of them, and [`group_in`] does so of octets. [`Network::read`] reads such a book once, for
+//! the books of all its groups. A [`Session`] gives the messages that the rows order, one after the other, by the
+//! replies so far.
 #![tactic(auto)]
 
 pub mod book;
@@ -15,7 +16,7 @@ pub mod session;
 
 pub use book::order::{Action, Alert, Order, Sending, Text};
 pub use book::row::{Verb, columns_of};
-pub use book::{Book, BookRows, MAX_INPUT, read_book, read_rows};
+pub use book::{Book, BookRows, MAX_INPUT, read_book, read_octets, read_rows};
 pub use fault::{BookFault, BookFaultKind, RowFault};
 pub use judging::bounds::{Bounds, Extent};
 pub use judging::columns::{Column, Found, columns_after};

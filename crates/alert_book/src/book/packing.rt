@@ -1,4 +1,4 @@
-//! The pages of a book's texts, which are packed side by side.
+//! The pages of a book's texts, which are packed side by side, or one after the other.
 
 ghost use Rattle.std.specs.Prelude.{◌≡◌, ◌≢◌, ◌⊎◌, Ok, Some, IfErr, IfOk, map};
 ghost use Rattle.std.specs.List.{AllZip};
@@ -96,6 +96,36 @@ fn in_order(
     Ok(pages)
 }
 
+/// Packs the text of each order, one after the other.
+fn pack_in_turn(
+    alloc: Global,
+    orders: &[Order],
+) -> Result<Vec<Result<Option<Paged>, BookFault>>, AllocError>
+    ensures { IfOk result (λ packed. AllZip IsOrderPacked orders.now packed.items) }
+{
+    let mut packed = Vec::with_capacity(alloc, orders.len())?;
+    for order in orders {
+        packed.push(pack_order(alloc, order))?;
+    }
+    Ok(packed)
+}
+
+/// The pages of all orders, of what came of their texts, or the fault of the first that can't be sent.
+fn pages_packed(
+    alloc: Global,
+    orders: &[Order],
+    packed: Result<Vec<Result<Option<Paged>, BookFault>>, AllocError>,
+) -> Result<Vec<Option<Paged>>, BookFault>
+    requires { IfOk packed (λ packed. AllZip IsOrderPacked orders.now packed.items) }
+    ensures ok { IfOk result (λ pages. HavePages orders.now pages.items) }
+    ensures err { IfErr result (λ fault. (fault ≡ refused) ⊎ HasWrongText orders.now fault) }
+{
+    match packed {
+        Ok(packed) => in_order(alloc, packed),
+        Err(_) => Err(fault_of_book(BookFaultKind::Refused)),
+    }
+}
+
 /// The pages of all orders, whose texts are packed side by side, or the fault of the first that can't be sent.
 pub(crate) fn all_pages<T: AllocGlobal + Threads + Sync>(
     rt: &T,
@@ -104,8 +134,16 @@ pub(crate) fn all_pages<T: AllocGlobal + Threads + Sync>(
     ensures ok { IfOk result (λ pages. HavePages orders.now pages.items) }
     ensures err { IfErr result (λ fault. (fault ≡ refused) ⊎ HasWrongText orders.now fault) }
 {
-    match pack_each(rt, orders) {
-        Ok(packed) => in_order(rt.alloc(), packed),
-        Err(_) => Err(fault_of_book(BookFaultKind::Refused)),
-    }
+    pages_packed(rt.alloc(), orders, pack_each(rt, orders))
+}
+
+/// The same, of texts that are packed one after the other, in the calling thread.
+pub(crate) fn all_pages_in_turn(
+    alloc: Global,
+    orders: &[Order],
+) -> Result<Vec<Option<Paged>>, BookFault>
+    ensures ok { IfOk result (λ pages. HavePages orders.now pages.items) }
+    ensures err { IfErr result (λ fault. (fault ≡ refused) ⊎ HasWrongText orders.now fault) }
+{
+    pages_packed(alloc, orders, pack_in_turn(alloc, orders))
 }
