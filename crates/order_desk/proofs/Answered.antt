@@ -1,6 +1,7 @@
 -- The cells of an order that answer one after the other.
 use Rattle.std.proofs.Common.{◌≡◌, ℕ, ◌+◌, ◌<◌, List, [], ◌∷◌, ◌++◌, get_or, length, take, refl, sym, subst, ap, ◌∙◌}
-use Rattle.std.proofs.Common.{Bool, true, false, Some, append_assoc, inl, slice_get}
+use Rattle.std.proofs.Common.{Bool, true, false, Some, Result, Ok, Err, append_assoc, inl, slice_get}
+use Rattle.std.specs.Prelude.{IfErr, IfOk, OnErr, OnOk}
 use Rattle.std.proofs.lemmas.List.{append-nil, map_push, take_more}
 use Rattle.std.proofs.lemmas.Option.{slice_get-get_or}
 use Rattle.cbsp_wire.specs.declared.message.Cell.{Cell}
@@ -8,15 +9,16 @@ use Rattle.bsc_table.specs.declared.command.Command.{Command}
 use Rattle.bsc_table.specs.declared.entry.Answer.{Answer}
 use Rattle.bsc_table.specs.Record.{Record}
 use Rattle.order_desk.specs.declared.desk.order.CellFault.{CellFault}
+use Rattle.order_desk.specs.declared.desk.order.CellFault.TheVariants as halts
 use Rattle.order_desk.specs.declared.desk.order.PreparedOrder.{PreparedOrder}
 use Rattle.order_desk.specs.declared.fault.DeskFault.TheVariants as faults
 use Rattle.order_desk.specs.declared.note.Note.{Note}
 use Rattle.order_desk.specs.Desk.{AreAnswered, DeskState, IsAnswered, IsAtMostPlayed}
 use Rattle.order_desk.specs.Desk.{IsCutShort, IsHeld, IsRefusedOrder, IsStopped, has_cell}
-use Rattle.order_desk.specs.DeskSteps.{IsHalted, IsPrepared}
-use Rattle.order_desk.specs.Notes.{IsOrderServed}
+use Rattle.order_desk.specs.DeskSteps.{IsGivenUp, IsHalted, IsPrepared}
+use Rattle.order_desk.specs.Notes.{IsOrderServed, IsRunOf}
 use Rattle.order_desk.specs.Reply.{cells_answered}
-use Rattle.order_desk.proofs.Holding.{has_placed}
+use Rattle.order_desk.proofs.Holding.{given_up, has_placed, run_on}
 
 -- a test is one or the other
 clash : (b : Bool) → b ≡ true → b ≡ false → ⊥
@@ -34,6 +36,45 @@ own_answered desk at command cell place answer before after notes there held lef
   own = λ _. (before, after, held, left, served);
   foreign = λ none. absurd (clash (has_cell desk cell) (has_placed desk cell place there) none);
 }
+
+-- so has it if the order was served by the book that was lent for the cell
+pub answered_by : (desk : DeskState) (at : ℕ) (command : Command) (cell : Cell) (place : ℕ)
+    (slots : ℕ) (result : Result Answer CellFault) (before after : Record) (old new : List Note)
+    → slice_get desk.cells place ≡ Some cell
+    → slots ≡ desk.slots
+    → IsRunOf before.cell before.slots after
+    → OnOk result (IfOk result (λ answer. (added : List Note)
+    × IsRunOf cell slots before × IsOrderServed at command answer before after added × (new ≡ old ++ added)))
+    → OnOk result (IfOk result (λ answer. (added : List Note)
+    × IsAnswered desk at command cell answer added × (new ≡ old ++ added)))
+answered_by desk at command cell place slots (Ok answer) before after old new there run left served =
+    let held = subst (λ n. IsRunOf cell n before) run served.1 in (
+      served.0,
+      own_answered desk at command cell place answer before after served.0 there held
+          (run_on cell desk.slots before after held left) served.2,
+      served.3,
+    )
+answered_by desk at command cell place slots (Err halt) before after old new there run left served = tt
+
+-- and if it was not, it halted
+pub halted_at : (desk : DeskState) (at : ℕ) (cell : Cell) (place : ℕ)
+    (slots : ℕ) (result : Result Answer CellFault) (before after : Record) (old new : List Note)
+    → slice_get desk.cells place ≡ Some cell
+    → slots ≡ desk.slots
+    → IsRunOf before.cell before.slots after
+    → OnErr result (IfErr result (λ halt. (added : List Note)
+    × IsGivenUp halt slots at cell before after added × (new ≡ old ++ added)))
+    → OnErr result (IfErr result (λ halt. (added : List Note)
+    × IsHalted desk at cell halt added × (new ≡ old ++ added)))
+halted_at desk at cell place slots (Ok answer) before after old new there run left given = tt
+halted_at desk at cell place slots (Err halts.WrongBook) before after old new there run left given =
+    (given.0, (has_placed desk cell place there, given.1), given.2)
+halted_at desk at cell place slots (Err halts.Refused) before after old new there run left given = (
+  given.0,
+  given_up desk at cell place before after given.0 there (subst (λ n. IsRunOf cell n before) run given.1.0) left
+      given.1.1,
+  given.2,
+)
 
 -- one more cell has answered
 answered_more : (desk : DeskState) (at : ℕ) (command : Command) (answers : List (Cell × Answer)) (cell : Cell)

@@ -16,7 +16,7 @@ use Rattle.order_desk.specs.declared.desk.order.CellFault.{CellFault}
 use Rattle.order_desk.specs.declared.desk.order.CellFault.TheVariants as halts
 use Rattle.order_desk.specs.declared.desk.order.PreparedOrder.{PreparedOrder}
 use Rattle.order_desk.specs.Desk.{DeskState, IsAtMostPlayed, IsCutShort, IsOrderOf, IsStopped, has_cell}
-use Rattle.order_desk.specs.Notes.{IsAsked}
+use Rattle.order_desk.specs.Notes.{IsAsked, IsPlayedFor, IsRunOf}
 use Rattle.order_desk.specs.ReplySteps.{HasReplyRoom}
 
 -- why a cell didn't tell a status, and what is noted: its log has no room for the entry, or out of memory
@@ -43,6 +43,11 @@ pub record IsPrepared (octets : List ℕ) (order : PreparedOrder) : Type 0 where
 abbrev pub IsHalted : DeskState → (at : ℕ) → Cell → CellFault → List Note → Type 0
 IsHalted desk at cell halts.Refused notes = (has_cell desk cell ≡ true) × IsAtMostPlayed desk at cell notes
 IsHalted desk at cell halts.WrongBook notes = (has_cell desk cell ≡ true) × (notes ≡ [])
+
+-- the same by the book that was lent for the cell
+abbrev pub IsGivenUp : CellFault → (slots at : ℕ) → Cell → (before after : Record) → List Note → Type 0
+IsGivenUp halts.Refused slots at cell before after notes = IsRunOf cell slots before × IsPlayedFor at before after notes
+IsGivenUp halts.WrongBook slots at cell before after notes = notes ≡ []
 
 -- an order to cells ended with a fault
 abbrev pub AreHalted : DeskState → (at : ℕ) → List Cell → Command → DeskFault → List Note → Type 0

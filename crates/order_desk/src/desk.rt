@@ -35,7 +35,11 @@ pub(crate) mod piece;
 pub(crate) mod reply;
 
 /// A new book for each cell.
-fn open_books(alloc: Global, cells: &[Cell], slots: u16) -> Result<Vec<CellBook>, DeskFault>
+pub(crate) fn open_books(
+    alloc: Global,
+    cells: &[Cell],
+    slots: u16,
+) -> Result<Vec<CellBook>, DeskFault>
     ensures { IfOk result (λ books. books.items ≡ map (λ cell. opened cell slots) cells.now) }
 {
     let mut books = Vec::with_capacity(alloc, cells.len())?;
@@ -211,14 +215,7 @@ impl Desk {
         };
         let mut guard = self.books[place].lock(rt);
         gate.inside(place as u16);
-        let book = &mut *guard;
-        if !is_book_of(book, cell, self.slots()) {
-            return Err(CellFault::WrongBook);
-        }
-        match in_cell::play_and_ask(book, notes, at, command) {
-            Ok(answer) => Ok(answer),
-            Err(Refused) => Err(CellFault::Refused),
-        }
+        in_cell::serve(&mut guard, notes, self.slots(), at, cell, command)
     }
 
     /// Serves an order in the cells of its list, one after the other.

@@ -8,7 +8,7 @@ use std::test::Fail;
 const CALLS: &str = "
 # A desk that isn't opened leaves the one before.
 desk 2 9-9; scarce desk 4 1-1,1-2; shows; desk 4 1-1,1-2; shows -> \
-    412 times Refused, 2 slots, 9-9, 4 slots, 1-1 1-2 | 4 slots, 1-1 1-2, 4 slots, 1-1 1-2
+    413 times Refused, 2 slots, 9-9, 4 slots, 1-1 1-2 | 4 slots, 1-1 1-2, 4 slots, 1-1 1-2
 
 # What is refused isn't noted, and leaves the clock, the air and the log as they were.
 desk 4 1-1; scarce p plays 1-1 2; p note all; piece 1-1 0 4; p plays 1-1 2; p note all; p note 0 -> \
@@ -32,7 +32,7 @@ desk 4 1-1; p orders 0 write 4370 0010 normal 2 1-1; p plays 1-1 3; scarce piece
 
 # The books are gone if the desk isn't closed, so it is made anew each time.
 desk 4 1-1,1-2; p plays 1-2 3; scarce close; desk 4 1-1,1-2; p plays 1-2 3; close -> \
-    204 times Refused, 0..3, 4 slots, 1-1 1-2; 1-1: log of 0, clock at 0, air; 1-2: log of 0, clock at 3, air - - - | \
+    205 times Refused, 0..3, 4 slots, 1-1 1-2; 1-1: log of 0, clock at 0, air; 1-2: log of 0, clock at 3, air - - - | \
     4 slots, 1-1 1-2; 1-1: log of 0, clock at 0, air; 1-2: log of 0, clock at 3, air - - -, \
     0..3, 4 slots, 1-1 1-2; 1-1: log of 0, clock at 0, air; 1-2: log of 0, clock at 3, air - - -
 

@@ -1,12 +1,13 @@
-//! Steps of one cell while its lock is held; each is recorded in the notes of the pass.
+//! Steps of one cell while its book is held; each is recorded in the notes of the pass.
 
 ghost use Rattle.std.specs.Prelude.{◌≡◌, ◌+◌, ◌≤◌, ◌∷◌, [], ◌++◌, IfOk, IfErr, OnOk, OnErr, IsTrue, List, vec_len};
 ghost use Rattle.std.specs.Prelude.{vec_capacity};
 ghost use Rattle.bsc_table.specs.Orders.{IsWellFormed};
 ghost use Rattle.order_desk.specs.declared.note.Note.{Note};
-ghost use Rattle.order_desk.specs.DeskSteps.{IsUntold};
+ghost use Rattle.order_desk.specs.DeskSteps.{IsGivenUp, IsUntold};
 ghost use Rattle.order_desk.specs.Notes.{IsAsked, IsPlay, IsPlayedFor, IsRunOf, IsOrderServed, IsStatus};
 
+use crate::desk::order::CellFault;
 use crate::fault::DeskFault;
 use crate::note::Note;
 use bsc_table::{Answer, CellBook, Command, Entry, Refused, SlotRange, State};
@@ -47,7 +48,8 @@ fn ask(book: &mut CellBook, notes: &mut Vec<Note>, command: &Command) -> Result<
 
 /// Whether a lent book is that of a cell in a run of this many slots.
 pub(crate) fn is_book_of(book: &CellBook, cell: Cell, slots: u16) -> bool
-    ensures { IsTrue result → IsRunOf cell slots book.now }
+    ensures own { IsTrue result → IsRunOf cell slots book.now }
+    ensures legal { IsRunOf book.now.cell book.now.slots book.now }
 {
     // What the clock says is that the book is a legal history.
     let _ = book.clock();
@@ -73,7 +75,7 @@ fn play_for(book: &mut CellBook, notes: &mut Vec<Note>, at: u16)
 
 /// Serves an order from `at` on in a cell: plays it up to the order's slot and has it answer the command, and notes
 /// both.
-pub(crate) fn play_and_ask(
+fn play_and_ask(
     book: &mut CellBook,
     notes: &mut Vec<Note>,
     at: u16,
@@ -93,6 +95,37 @@ pub(crate) fn play_and_ask(
 {
     play_for(book, notes, at);
     ask(book, notes, command)
+}
+
+/// Serves an order from `at` on in a cell whose run has this many slots, if the lent book is the cell's.
+pub(crate) fn serve(
+    book: &mut CellBook,
+    notes: &mut Vec<Note>,
+    slots: u16,
+    at: u16,
+    cell: Cell,
+    command: &Command,
+) -> Result<Answer, CellFault>
+    requires formed { IsWellFormed command.now }
+    requires room { vec_len notes.old + 2 ≤ vec_capacity notes.old }
+    ensures done { OnOk result (IfOk result (λ answer. (added : List Note)
+        × IsRunOf cell slots book.old
+        × IsOrderServed at command.now answer book.old book.new added
+        × (notes.new.items ≡ notes.old.items ++ added))) }
+    ensures halted { OnErr result (IfErr result (λ halt. (added : List Note)
+        × IsGivenUp halt slots at cell book.old book.new added
+        × (notes.new.items ≡ notes.old.items ++ added))) }
+    ensures stays { IsRunOf book.old.cell book.old.slots book.new }
+    ensures few { vec_len notes.new ≤ vec_len notes.old + 2 }
+    ensures room_stays { vec_capacity notes.new ≡ vec_capacity notes.old }
+{
+    if !is_book_of(book, cell, slots) {
+        return Err(CellFault::WrongBook);
+    }
+    match play_and_ask(book, notes, at, command) {
+        Ok(served) => Ok(served),
+        Err(Refused) => Err(CellFault::Refused),
+    }
 }
 
 /// Plays `k` slots of a cell, or those up to the run's end, and notes the range, also if it is empty.
