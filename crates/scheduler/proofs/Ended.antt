@@ -1,12 +1,12 @@
 -- Lemmas on the messages of a plan, of which those at the front have ended.
-use Rattle.std.proofs.Common.{◌≡◌, ℕ, ◌+◌, ◌-◌, ◌*◌, ◌≤◌, ◌<◌, Bool, false, true, leb, Option, Some, None, List, []}
+use Rattle.std.proofs.Common.{◌≡◌, ℕ, ◌+◌, ◌-◌, ◌≤◌, ◌<◌, Bool, false, true, leb, Option, Some, None, List, []}
 use Rattle.std.proofs.Common.{◌∷◌, ◌++◌, append_assoc, length, get_or, map, set, take, drop, inl, inr, refl, sym, ap}
 use Rattle.std.proofs.Common.{subst, ◌∙◌, arith}
 use Rattle.std.specs.Bool.{MatchBool}
 use Rattle.std.specs.List.{All, AllPairs}
-use Rattle.std.proofs.Math.Seq.{get_or-append_seam, take-append_seam, drop-append_seam}
+use Rattle.std.proofs.Math.Seq.{take-append_seam, drop-append_seam}
 use Rattle.std.proofs.lemmas.Bool.{cases_eq, ne_eqb, false≢true, leb-true, leb-false}
-use Rattle.std.proofs.lemmas.List.{length-append, length-map, length-take-le, length-drop, map-append, drop-map}
+use Rattle.std.proofs.lemmas.List.{length-append, length-map, length-take-le, map-append, drop-map}
 use Rattle.std.proofs.lemmas.List.{get_or-map, get_or_default, get_or_append_left, get_or-append-add, get_or-take}
 use Rattle.std.proofs.lemmas.List.{drop-append-le}
 use Rattle.std.proofs.lemmas.List.Elements.{All-append, All-map, All-drop, All-push, All-set}
@@ -15,17 +15,14 @@ use Rattle.scheduler.specs.declared.progress.Progress.{Progress}
 use Rattle.scheduler.specs.declared.scheduled.Scheduled.{Scheduled}
 use Rattle.scheduler.specs.Air.{airs}
 use Rattle.scheduler.specs.PlanSteps.{IsChoice, IsServedFirst, NoneReady, is_ready, after_slot}
-use Rattle.scheduler.specs.QueueSteps.{kept_in, seen_in, seen, stopped, nothing_ahead, IsRight, HasTurn, IsNode, IsTree}
-use Rattle.scheduler.specs.QueueSteps.{IsTreeBut, AreKeptInOrder, HasNoMore, HasEnded, AreSettled, AreRising}
-use Rattle.scheduler.specs.QueueSteps.{HasReached, IsFoundTurn, IsTreeWithout, ahead_at, ahead_below, joined, own}
-use Rattle.scheduler.specs.QueueSteps.{own_at}
+use Rattle.scheduler.specs.QueueSteps.{kept_in, seen_in, seen, stopped, IsRight, HasTurn, IsNode}
+use Rattle.scheduler.specs.QueueSteps.{AreInTrees, IsForest, HasNoMore, HasEnded, AreSettled, AreRising}
+use Rattle.scheduler.specs.QueueSteps.{HasReached, IsFoundTurn}
 use Rattle.scheduler.proofs.FirstTurn.{blank}
-use Rattle.scheduler.proofs.Found.{push_others}
 use Rattle.scheduler.proofs.Passed.{map_same, map_twice}
 use Rattle.scheduler.proofs.Places.{kept_at, right_at, lesser_before}
-use Rattle.scheduler.proofs.Tree.{ahead_at-is, among-past, below_is, joined-both, own_at-is}
 use Rattle.scheduler.proofs.Tree.{put_in, put_kept, put_node, put_nodes, kept_same}
-use Rattle.scheduler.proofs.Windows.{seen_is, seen_after_other, IsRight-later, IsRight-stopped}
+use Rattle.scheduler.proofs.Windows.{seen_is, seen_after_unaired, IsRight-later, IsRight-stopped}
 
 -- what is kept of some messages and of later ones
 pub kept_both : (front later : List Node) → kept_in (front ++ later) ≡ kept_in front ++ kept_in later
@@ -46,16 +43,16 @@ seen_changed old new f front later changed others first second =
     ∙ (ap (λ ts. map f (seen_in old front) ++ ts) second
     ∙ (sym (map-append f (seen_in old front) (seen_in old later)) ∙ ap (map f) (sym (seen_both old front later)))))
 
--- messages that have ended and later ones in their tree
+-- messages that have ended and later ones in their trees
 pub settled_of : (slot past : ℕ) (front later : List Node) → length front ≡ past → All (HasEnded slot) (kept_in front)
-    → AreKeptInOrder slot later → AreSettled slot past (front ++ later)
+    → AreInTrees slot 2 later → AreSettled slot past (front ++ later)
 settled_of slot past front later long ended kept =
     let At : ℕ → Type 0 = λ n. AreSettled slot n (front ++ later) in
     let Ended : List Node → Type 0 = λ ns. All (HasEnded slot) (kept_in ns) in
     subst At long (record {
       within = omega (arith, length-append front later);
       ended = subst Ended (sym (take-append_seam front later)) ended;
-      later = subst (AreKeptInOrder slot) (sym (drop-append_seam front later)) kept;
+      later = subst (AreInTrees slot 2) (sym (drop-append_seam front later)) kept;
     })
 
 -- numbers that rise do so in the later part of a list
@@ -95,7 +92,7 @@ pub ended_later : (slot : ℕ) (ks : List Progress) → slot < 65536 → All (Ha
 ended_later slot ks few ended = λ i d h.
     let its = ended i d h in
     let k = get_or ks i d in
-    record { right = IsRight-later k slot its.right (ended_awake slot k few its); no_more = its.no_more }
+    record { right = IsRight-later k slot its.right; no_more = its.no_more }
 
 -- it is not ready
 pub ended_not_ready : (slot : ℕ) (front : List Node) → slot < 65536 → All (HasEnded slot) (kept_in front)
@@ -151,7 +148,7 @@ ended_after slot front used few ended others =
     let there = get_or-map (seen slot) (kept_in front) i d (seen slot d) h in
     let other = ap (λ (t : Scheduled). airs t.item.entry used) (sym there)
     ∙ others i (seen slot d) (omega (arith, h, length-map (kept_in front) (seen slot))) in
-    seen_after_other k slot used its.right (ended_awake slot k few its) other)
+    seen_after_unaired k slot used its.right other)
     ∙ map_twice (after_slot slot used) (seen slot) (kept_in front)
 
 -- what is chosen of the messages that have not ended is chosen of all
@@ -177,12 +174,12 @@ after_settled slot front later new used few ended rising choice seen =
     seen_changed slot (slot + 1) (after_slot slot used) front later front new (ended_after slot front used few ended
     others) seen
 
--- more messages have ended, and the tree of the others was made anew
+-- more messages have ended, and the trees of the others were made anew
 pub settled_more : (slot past count : ℕ) (nodes new : List Node) → count ≤ length (drop past nodes)
     → ((k : ℕ) (d : Node) → k < count → HasNoMore (get_or (drop past nodes) k d).kept)
-    → kept_in new ≡ kept_in (drop count (drop past nodes)) → IsTree new → AreSettled slot past nodes
+    → kept_in new ≡ kept_in (drop count (drop past nodes)) → IsForest 2 new → AreSettled slot past nodes
     → AreSettled slot (past + count) (take past nodes ++ (take count (drop past nodes) ++ new))
-settled_more slot past count nodes new few no_more same tree settled =
+settled_more slot past count nodes new few no_more same trees settled =
     let later = drop past nodes in
     let front = take past nodes in
     let more = take count later in
@@ -209,51 +206,14 @@ settled_more slot past count nodes new few no_more same tree settled =
     (front ++ more) new long (subst AllEnded (sym (kept_both front more)) both) (record {
       right = subst AllRight left (All-drop (IsRight slot) count (kept_in later) settled.later.right);
       turns = subst AllTurns left (All-drop HasTurn count (kept_in later) settled.later.turns);
-      tree = tree;
+      trees = trees;
     }))
-
--- with one more message, the tree is right but at its place
-pub push_later : (past : ℕ) (nodes : List Node) (k : Progress) → past ≤ length nodes → IsTree (drop past nodes)
-    → IsTreeBut (drop past (nodes ++ record { kept = k; ahead = nothing_ahead } ∷ [])) (length nodes - past)
-push_later past nodes k within tree =
-    let n : Node = record { kept = k; ahead = nothing_ahead } in
-    let But : ℕ → Type 0 = λ i. IsTreeBut (drop past nodes ++ n ∷ []) i in
-    let ButOf : List Node → Type 0 = λ ns. IsTreeBut ns (length nodes - past) in
-    subst ButOf (sym (drop-append-le past nodes (n ∷ []) within)) (subst But (length-drop past nodes)
-    (push_others (drop past nodes) k tree))
-
--- of what is ahead of its place its own turn alone is missing
-pub push_without : (past : ℕ) (nodes : List Node) (k : Progress) → past ≤ length nodes → IsTree (drop past nodes)
-    → IsTreeWithout (drop past (nodes ++ record { kept = k; ahead = nothing_ahead } ∷ [])) (length nodes - past)
-    (own k)
-push_without past nodes k within tree =
-    let n : Node = record { kept = k; ahead = nothing_ahead } in
-    let later = drop past nodes in
-    let all = drop past (nodes ++ n ∷ []) in
-    let place = length nodes - past in
-    let is : all ≡ later ++ n ∷ [] = drop-append-le past nodes (n ∷ []) within in
-    let long : length later ≡ place = length-drop past nodes in
-    let whole : length all ≡ place + 1 = omega (arith, ap length is, length-append later (n ∷ []), long) in
-    let At : ℕ → Type 0 = λ i. get_or (later ++ n ∷ []) i blank ≡ n in
-    let last : get_or all place blank ≡ n = ap (λ (ns : List Node). get_or ns place blank) is
-    ∙ subst At long (get_or-append_seam later n [] blank) in
-    let ahead : ahead_at all place ≡ nothing_ahead = ahead_at-is all place blank (omega (arith, whole))
-    ∙ ap (λ (m : Node). m.ahead) last in
-    let mine : own_at all place ≡ own k = own_at-is all place blank (omega (arith, whole))
-    ∙ ap (λ (m : Node). own m.kept) last in
-    let below : ahead_below all place ≡ nothing_ahead = below_is all place
-    ∙ among-past all (place * 8 + 1) 8 (omega (arith, whole)) in
-    record {
-      others = push_later past nodes k within tree;
-      here = ap (λ a. joined a (own k)) ahead ∙ joined-both nothing_ahead (own k)
-          ∙ ap (joined (own k)) (sym below) ∙ ap (λ a. joined a (ahead_below all place)) (sym mine);
-    }
 
 -- one more message behind the others
 pub settled_pushed : (slot past : ℕ) (old new : List Node) (k : Progress) → kept_in new ≡ kept_in old ++ k ∷ []
-    → take past new ≡ take past old → IsTree (drop past new) → IsRight slot k → HasTurn k → AreSettled slot past old
+    → take past new ≡ take past old → IsForest 2 (drop past new) → IsRight slot k → HasTurn k → AreSettled slot past old
     → AreSettled slot past new
-settled_pushed slot past old new k is same tree right turn settled =
+settled_pushed slot past old new k is same trees right turn settled =
     let kept = λ (n : Node). n.kept in
     let Ended : List Node → Type 0 = λ ns. All (HasEnded slot) (kept_in ns) in
     let AllRight : List Progress → Type 0 = λ ks. All (IsRight slot) ks in
@@ -277,7 +237,7 @@ settled_pushed slot past old new k is same tree right turn settled =
         right = subst AllRight (sym later) (All-push (IsRight slot) (kept_in (drop past old)) k settled.later.right
             right);
         turns = subst AllTurns (sym later) (All-push HasTurn (kept_in (drop past old)) k settled.later.turns turn);
-        tree = tree;
+        trees = trees;
       };
     }
 

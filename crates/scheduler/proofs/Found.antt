@@ -4,7 +4,7 @@ use Rattle.std.proofs.Common.{set, get_or, map, Some, None, sym, ap, ◌∙◌, 
 use Rattle.std.specs.List.{All, Any}
 use Rattle.std.proofs.lemmas.Bool.{eq-eqb, ne_eqb}
 use Rattle.std.proofs.lemmas.Option.{none-some}
-use Rattle.std.proofs.lemmas.List.{get_or_default, length-map, map_push, set_at}
+use Rattle.std.proofs.lemmas.List.{get_or_default, length-map, map_push}
 use Rattle.std.proofs.lemmas.List.Elements.{All-set}
 use Rattle.scheduler.specs.declared.tournament.Node.{Node}
 use Rattle.scheduler.specs.declared.progress.Progress.{Progress}
@@ -163,14 +163,14 @@ pub turns_stopped : (slot : ℕ) (nodes : List Node) (place : ℕ) → place < l
     → All HasTurn (set (kept_in nodes) place (stopped slot (get_or nodes place blank).kept))
 turns_stopped slot nodes place within turns =
     let has = turn_at nodes place blank within turns in
-    All-set HasTurn (kept_in nodes) place _ (record { slot = has.slot; number = has.number }) turns
+    All-set HasTurn (kept_in nodes) place _ (record { slot = has.slot; number = has.number; period = has.period }) turns
 
 -- to air a page of one message leaves the turns of all in range
 pub turns_aired : (nodes : List Node) (place : ℕ) → place < length nodes → All HasTurn (kept_in nodes)
     → All HasTurn (set (kept_in nodes) place (aired (get_or nodes place blank).kept))
 turns_aired nodes place within turns =
     let has = turn_at nodes place blank within turns in
-    All-set HasTurn (kept_in nodes) place _ (record { slot = has.slot; number = has.number }) turns
+    All-set HasTurn (kept_in nodes) place _ (record { slot = has.slot; number = has.number; period = has.period }) turns
 
 -- a place more, with nothing ahead, leaves the others right
 pub push_others : (nodes : List Node) (k : Progress) → IsTree nodes
@@ -209,10 +209,3 @@ push_others nodes k tree = λ place apart.
         ap (λ ks. get_or (map own ks) i nothing_ahead) (map_push (λ (n : Node). n.kept) nodes new)
         ∙ (ap (λ xs. get_or xs i nothing_ahead) (map_push own (kept_in nodes) k)
         ∙ but_last (map own (kept_in nodes)) (own k) i (λ e. apart (omega (arith, e, long, longer))))
-
--- a message behind the others, written over by itself
-pub kept_pushed : (nodes : List Node) (n : Node) → set (kept_in (nodes ++ n ∷ [])) (length nodes) n.kept ≡ kept_in nodes
-    ++ n.kept ∷ []
-kept_pushed nodes n =
-    ap (λ ks. set ks (length nodes) n.kept) (map_push (λ (x : Node). x.kept) nodes n)
-    ∙ set_at (kept_in nodes) n.kept [] n.kept (length nodes) (length-map nodes (λ (x : Node). x.kept))

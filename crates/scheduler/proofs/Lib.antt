@@ -7,6 +7,7 @@ mod Counts
 mod Ended
 mod FirstTurn
 mod Followed
+mod Forest
 mod Found
 mod Listed
 pub mod Lists

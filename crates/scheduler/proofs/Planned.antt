@@ -11,7 +11,7 @@ use Rattle.scheduler.specs.declared.plan.Item.{Item}
 use Rattle.scheduler.specs.declared.tournament.Node.{Node}
 use Rattle.scheduler.specs.PlanSteps.{IsSound}
 use Rattle.scheduler.specs.Follows.{messages_of}
-use Rattle.scheduler.specs.QueueSteps.{HasTurn, kept_in, seen_in, seen, kept_new, AreRising, IsTree, IsPlan}
+use Rattle.scheduler.specs.QueueSteps.{HasTurn, kept_in, seen_in, seen, kept_new, AreRising, IsForest, IsPlan}
 use Rattle.scheduler.specs.QueueSteps.{AreSettled}
 use Rattle.scheduler.proofs.Ended.{settled_pushed}
 use Rattle.scheduler.proofs.Windows.{seen_new, IsRight-new}
@@ -54,16 +54,16 @@ seen_pushed slot old new item is =
 pub IsPlan-add : (slot past : ℕ) (old new : List Node) (item : Item)
     → All (λ m. m.entry < item.entry) (messages_of (record { slot = slot; scheduled = seen_in slot old }))
     → slot ≤ item.start → 0 < item.pages → 0 < item.period → HasTurn (kept_new item) → IsPlan slot past old
-    → kept_in new ≡ kept_in old ++ kept_new item ∷ [] → take past new ≡ take past old → IsTree (drop past new)
+    → kept_in new ≡ kept_in old ++ kept_new item ∷ [] → take past new ≡ take past old → IsForest 2 (drop past new)
     → IsPlan slot past new
-IsPlan-add slot past old new item above start pages period turn plan is same tree =
+IsPlan-add slot past old new item above start pages period turn plan is same trees =
     let P : List Scheduled → Type 0 = λ ts. IsSound (record { slot = slot; scheduled = ts }) in
     record {
       sound = subst P (sym (seen_pushed slot old new item is)) (IsSound-add (record {
         slot = slot;
         scheduled = seen_in slot old;
       }) item above start pages period plan.sound);
-      kept = settled_pushed slot past old new (kept_new item) is same tree (IsRight-new item slot start pages period)
+      kept = settled_pushed slot past old new (kept_new item) is same trees (IsRight-new item slot start pages period)
           turn plan.kept;
     }
 

@@ -1,9 +1,11 @@
 -- Lemmas on what is ahead of the places of a plan.
-use Rattle.std.proofs.Common.{◌≡◌, ◌≢◌, ℕ, zero, suc, ◌+◌, ◌-◌, ◌*◌, ◌/◌, ◌%◌, ◌≤◌, ◌<◌, List, length, get_or}
+use Rattle.std.proofs.Common.{◌≡◌, ◌≢◌, ℕ, zero, suc, ◌+◌, ◌-◌, ◌*◌, ◌/◌, ◌%◌, ◌≤◌, ◌<◌, List, [], ◌∷◌, ◌++◌, length}
+use Rattle.std.proofs.Common.{get_or}
 use Rattle.std.proofs.Common.{true, map, min, set, inl, inr, refl, sym, ap, subst, ◌∙◌, arith}
 use Rattle.std.specs.List.{All}
 use Rattle.std.proofs.lemmas.List.{length-map, get_or-map, map-set, get_or-set_same, get_or-set_other}
-use Rattle.std.proofs.lemmas.List.{get_or_past, set-get_or}
+use Rattle.std.proofs.Math.Seq.{get_or-append_seam}
+use Rattle.std.proofs.lemmas.List.{get_or_past, set-get_or, length-append}
 use Rattle.std.proofs.lemmas.Bool.{cases_lt, cases_eq}
 use Rattle.scheduler.specs.declared.turn.First.{First}
 use Rattle.scheduler.specs.declared.progress.Progress.{Progress}
@@ -489,3 +491,47 @@ raised_above nodes place k more h some mine was =
           ∙ ap (joined (own_at nodes up)) (sym below)
           ∙ ap (λ a. joined a (ahead_below new up)) (sym own_same);
     }
+
+-- nothing more is ahead of some places and of none
+among_nothing : (nodes : List Node) (from n : ℕ)
+    → joined nothing_ahead (ahead_among nodes from n) ≡ ahead_among nodes from n
+among_nothing nodes from zero = refl
+among_nothing nodes from (suc n) =
+    joined-assoc nothing_ahead (ahead_among nodes from n) (ahead_at nodes (from + n))
+    ∙ ap (λ a. joined a (ahead_at nodes (from + n))) (among_nothing nodes from n)
+
+-- where nothing was ahead of the message at a place, what is ahead of the new one alone is missing there
+pub kept_as-without : (nodes : List Node) (place : ℕ) (d : Node) (k : Progress) → place < length nodes
+    → own_at nodes place ≡ nothing_ahead → IsTree nodes → IsTreeWithout (kept_as nodes place d k) place (own k)
+kept_as-without nodes place d k h none tree =
+    let new = kept_as nodes place d k in
+    let below : ahead_below new place ≡ ahead_below nodes place = below_same nodes new place
+    (λ i g. kept_as-ahead nodes place d k (place * 8 + 1 + i) h) in
+    let empty : joined nothing_ahead (ahead_below nodes place) ≡ ahead_below nodes place =
+    ap (joined nothing_ahead) (below_is nodes place) ∙ among_nothing nodes (place * 8 + 1) 8
+    ∙ sym (below_is nodes place) in
+    let was : ahead_at new place ≡ ahead_below nodes place = kept_as-ahead nodes place d k place h ∙ tree place
+    ∙ ap (λ a. joined a (ahead_below nodes place)) none ∙ empty in
+    record {
+      others = kept_as-others nodes place d k h (λ other apart. tree other);
+      here = ap (λ a. joined a (own k)) was ∙ joined-both (ahead_below nodes place) (own k)
+          ∙ ap (joined (own k)) (sym below)
+          ∙ ap (λ a. joined a (ahead_below new place)) (sym (kept_as-own_here nodes place d k h));
+    }
+
+-- one place more, of a message that nothing is ahead of, leaves all right
+pub pushed_tree : (nodes : List Node) (n : Node) → n.ahead ≡ nothing_ahead → own n.kept ≡ nothing_ahead
+    → IsTreeBut (nodes ++ n ∷ []) (length nodes) → IsTree (nodes ++ n ∷ [])
+pushed_tree nodes n none mine others =
+    let all = nodes ++ n ∷ [] in
+    let place = length nodes in
+    let within : place < length all = omega (arith, length-append nodes (n ∷ [])) in
+    let last : get_or all place n ≡ n = get_or-append_seam nodes n [] n in
+    let ahead : ahead_at all place ≡ nothing_ahead = ahead_at-is all place n within
+    ∙ ap (λ (m : Node). m.ahead) last ∙ none in
+    let alone : own_at all place ≡ nothing_ahead = own_at-is all place n within
+    ∙ ap (λ (m : Node). own m.kept) last ∙ mine in
+    let below : ahead_below all place ≡ nothing_ahead = below_is all place
+    ∙ among-past all (place * 8 + 1) 8 (omega (arith, length-append nodes (n ∷ []))) in
+    all_right all place (ahead ∙ ap (λ a. joined a nothing_ahead) (sym alone)
+    ∙ ap (joined (own_at all place)) (sym below)) others

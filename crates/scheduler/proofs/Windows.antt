@@ -4,7 +4,7 @@ use Rattle.std.proofs.Common.{eqb, Option, Some, None, inl, inr, refl, sym, ap, 
 use Rattle.std.proofs.lemmas.Bool.{cases_lt, cases_eq, cases_Bool, le-leb, lt-ltb, le-ltb, eq-eqb, ne_eqb}
 use Rattle.std.proofs.lemmas.Bool.{ltb-true, false≢true}
 use Rattle.std.proofs.lemmas.Option.{none-some}
-use Rattle.std.proofs.Math.Nat.{lt_of_mul-lt-mul_right, mul-lt-mul_of_pos_right, mul-le-mul_right}
+use Rattle.std.proofs.Math.Nat.{lt_of_mul-lt-mul_right, mul-le-mul_right}
 use Rattle.std.specs.Option.{is_some}
 use Rattle.scheduler.specs.declared.plan.Item.{Item}
 use Rattle.scheduler.specs.declared.scheduled.Scheduled.{Scheduled}
@@ -40,15 +40,14 @@ same_both false n = refl
 cond_zero : (b : Bool) → cond b 0 0 ≡ zero
 cond_zero b = same_both b 0
 
--- what is kept of a message at a slot is true of it at the next one, where it is looked at later
-pub IsRight-later : (k : Progress) (slot : ℕ) → IsRight slot k → slot < k.until → IsRight (slot + 1) k
-IsRight-later k slot right before = record {
+-- what is kept of a message at a slot is true of it at the next one
+pub IsRight-later : (k : Progress) (slot : ℕ) → IsRight slot k → IsRight (slot + 1) k
+IsRight-later k slot right = record {
   fit = record {
     some_pages = right.fit.some_pages;
     some_period = right.fit.some_period;
     few = omega (arith, right.fit.few);
   };
-  ahead = omega (arith, before);
   release = right.release;
   ready = λ s from till. right.ready s (omega arith) till;
   timed = λ s from till. right.timed s (omega arith) till;
@@ -108,6 +107,25 @@ seen_after_other k slot used right before other =
     ∙ ap (λ n. record k.scheduled { pages_aired = cond ends 0 (k.scheduled.pages_aired + 0); completed = n })
     unchanged)
 
+-- the same of one that is to be looked at again by the slot
+seen_after_over : (k : Progress) (slot : ℕ) (used : Option (ℕ × ℕ)) → k.until ≤ slot
+    → airs k.scheduled.item.entry used ≡ false → seen (slot + 1) k ≡ after_slot slot used (seen slot k)
+seen_after_over k slot used over other =
+    let unchanged : k.scheduled.completed ≡ k.scheduled.completed + 0 = omega arith in
+    let ends = eqb ((slot + 1 - k.scheduled.item.start) % k.scheduled.item.period) 0 in
+    rw (other, le-ltb slot k.until over, le-ltb (slot + 1) k.until (omega (arith, over))) (
+    ap (λ n. record k.scheduled { pages_aired = n }) (sym (cond_zero ends))
+    ∙ ap (λ n. record k.scheduled { pages_aired = cond ends 0 0; completed = n }) unchanged)
+
+-- so of any message that the slot does not air
+pub seen_after_unaired : (k : Progress) (slot : ℕ) (used : Option (ℕ × ℕ)) → IsRight slot k
+    → airs k.scheduled.item.entry used ≡ false → seen (slot + 1) k ≡ after_slot slot used (seen slot k)
+seen_after_unaired k slot used right other =
+    elim (cases_lt slot k.until) [
+      | inl before ↦ seen_after_other k slot used right before other
+      | inr over ↦ seen_after_over k slot used over other
+    ]
+
 -- and the one that it airs
 pub seen_after_aired : (k : Progress) (slot : ℕ) (used : Option (ℕ × ℕ)) → IsRight slot k → slot < k.until
     → is_ready k.scheduled slot ≡ true
@@ -135,7 +153,6 @@ IsRight-aired k slot right before ready = record {
     some_period = right.fit.some_period;
     few = omega (arith, right.fit.few, one_if-le (eqb (k.scheduled.pages_aired + 1) k.scheduled.item.pages));
   };
-  ahead = omega (arith, before);
   release = right.release;
   ready = λ s from till.
       let was = right.ready s (omega arith) till ∙ is_open in
@@ -200,7 +217,6 @@ begun_right t slot fit none stopped short =
     elim (cases_Bool (is_ready t slot)) [
       | inl ready ↦ record {
         fit = fit;
-        ahead = omega (arith, begun_awake t slot fit.some_period short);
         release = rw ready (inl (broadcast_at m slot + 1, refl));
         ready = λ s from till. ready_on ready s from (rw ready at till) ∙ sym ready;
         timed = λ s from till.
@@ -210,7 +226,6 @@ begun_right t slot fit none stopped short =
       }
       | inr not ↦ record {
         fit = fit;
-        ahead = omega (arith, begun_awake t slot fit.some_period short);
         release = elim (cases_lt slot t.item.start) [
           | inl early ↦ rw (not, lt-ltb slot t.item.start early) (inl (0, omega arith))
           | inr started ↦ rw (not, le-ltb slot t.item.start started) (inr refl)
@@ -273,35 +288,38 @@ begun_right t slot fit none stopped short =
       ]
     ]
 
--- of the broadcast that is released at a slot, the place among those that are requested shows in the slot
-pub requested_at : (m : ScheduledMessage) (slot : ℕ) → 0 < m.period → (at : (j : ℕ) × (slot ≡ release m j))
+-- whether the broadcast in whose time a slot lies is among those that are requested shows in the slot
+pub requested_at : (m : ScheduledMessage) (slot : ℕ) → 0 < m.period → m.start ≤ slot
     → ltb slot (m.start + m.broadcasts * m.period) ≡ ltb (broadcast_at m slot) m.broadcasts
-requested_at m slot period at =
-    let now = broadcast_at-only m slot at.0 period (omega (arith, at.1)) (omega (arith, at.1))
-    (omega (arith, at.1, period)) in
-    elim (cases_lt at.0 m.broadcasts) [
+requested_at m slot period started =
+    let now = broadcast_at m slot in
+    elim (cases_lt now m.broadcasts) [
       | inl few ↦
-          let before = mul-lt-mul_of_pos_right few period in
-          lt-ltb slot (m.start + m.broadcasts * m.period) (omega (arith, at.1, before))
-          ∙ (sym (lt-ltb at.0 m.broadcasts few) ∙ ap (λ j. ltb j m.broadcasts) now)
+          let enough = mul-le-mul_right m.period (one_more few) in
+          let not_due = broadcast_at-not_due m slot period started in
+          lt-ltb slot (m.start + m.broadcasts * m.period) (omega (arith, not_due, enough))
+          ∙ sym (lt-ltb now m.broadcasts few)
       | inr over ↦
           let after = mul-le-mul_right m.period over in
-          le-ltb slot (m.start + m.broadcasts * m.period) (omega (arith, at.1, after))
-          ∙ (sym (le-ltb at.0 m.broadcasts over) ∙ ap (λ j. ltb j m.broadcasts) now)
+          let released = broadcast_at-released m slot period started in
+          le-ltb slot (m.start + m.broadcasts * m.period) (omega (arith, released, after))
+          ∙ sym (le-ltb now m.broadcasts over)
     ]
+  where
+    one_more : broadcast_at m slot < m.broadcasts → broadcast_at m slot + 1 ≤ m.broadcasts
+    one_more few = omega (arith, few)
 
 -- nothing is what isn't something
 pub none_if : (stop : Option ℕ) → is_some stop ≡ false → stop ≡ None
 none_if None h = refl
 none_if (Some x) h = absurd (false≢true (sym h))
 
--- a message that was not stopped is ready where a requested broadcast is released
-pub begins_if : (t : Scheduled) (slot : ℕ) (requested : Bool) → IsFit t slot
-    → ((j : ℕ) × (slot ≡ release (message_of t) j)) → t.stop ≡ None
+-- a message that was not stopped, and of which no page was aired, is ready in the time of a requested broadcast
+pub begins_if : (t : Scheduled) (slot : ℕ) (requested : Bool) → IsFit t slot → t.item.start ≤ slot → t.stop ≡ None
     → requested ≡ has_broadcast (message_of t) (broadcast_at (message_of t) slot)
     → requested ≡ is_ready (record t { pages_aired = 0 }) slot
-begins_if t slot requested fit at none is =
-    is ∙ rw (le-leb t.item.start slot (omega (arith, at.1)), none, lt-ltb 0 t.item.pages fit.some_pages)
+begins_if t slot requested fit started none is =
+    is ∙ rw (le-leb t.item.start slot started, none, lt-ltb 0 t.item.pages fit.some_pages)
     (sym (and_true (has_broadcast (message_of t) (broadcast_at (message_of t) slot))))
   where
     and_true : (b : Bool) → (b && true) ≡ b
@@ -329,7 +347,6 @@ IsRight-stopped k slot right = record {
     some_period = right.fit.some_period;
     few = right.fit.few;
   };
-  ahead = right.ahead;
   release = right.release;
   ready = λ s from till. rw (le-ltb s slot from) (never (leb k.scheduled.item.start s)
       (has_broadcast (message_of (stopped slot k).scheduled) (broadcast_at (message_of (stopped slot k).scheduled) s)));
@@ -350,7 +367,6 @@ pub IsRight-new : (item : Item) (slot : ℕ) → slot ≤ item.start → 0 < ite
     → IsRight slot (kept_new item)
 IsRight-new item slot start pages period = record {
   fit = record { some_pages = pages; some_period = period; few = omega arith };
-  ahead = start;
   release = inl (0, omega arith);
   ready = λ s from till. elim (cases_Bool (is_ready (kept_new item).scheduled s)) [
     | inl ready ↦ absurd (omega (arith, is_ready-started (kept_new item).scheduled s ready, till))

@@ -3,6 +3,7 @@ use Rattle.std.specs.Prelude.{◌≡◌, ◌≢◌, ℕ, ◌+◌, ◌*◌, ◌<�
 use Rattle.std.specs.Prelude.{if◌then◌else◌, Option, Some, None, List, length, map, take, drop, slice_index_or}
 use Rattle.std.specs.Prelude.{All, AllPairs}
 use Rattle.scheduler.specs.declared.plan.Item.{Item}
+use Rattle.scheduler.specs.declared.plan.Rank.{Rank}
 use Rattle.scheduler.specs.declared.scheduled.Scheduled.{Scheduled}
 use Rattle.scheduler.specs.declared.turn.First.{First}
 use Rattle.scheduler.specs.declared.progress.Progress.{Progress}
@@ -38,16 +39,25 @@ turn_of k =
 abbrev pub own : Progress → First
 own k = record { first = if k.is_open then turn_of k else no_turn; wake = k.until }
 
--- its slot and its number have room in a turn
+-- its slot and its number have room in a turn, and so has the slot at which a later broadcast is due
 pub record HasTurn (k : Progress) : Type 0 where
   pub slot : k.until < 4294967296
   pub number : k.scheduled.item.entry < 65536
+  pub period : k.scheduled.item.period < 65536
 
 -- what is kept of a message that was just added
 abbrev pub kept_new : Item → Progress
 kept_new item = record {
   scheduled = record { item = item; stop = None; pages_aired = 0; completed = 0 };
   until = item.start;
+  is_open = false;
+}
+
+-- what is kept of a message that is to be added: nothing is ahead of it
+abbrev pub kept_idle : Item → Progress
+kept_idle item = record {
+  scheduled = record { item = item; stop = None; pages_aired = 0; completed = 0 };
+  until = 4294967295;
   is_open = false;
 }
 
@@ -94,10 +104,10 @@ IsTimed k slot =
 abbrev pub IsReleaseOrNone : Progress → Type 0
 IsReleaseOrNone k = ((j : ℕ) × (k.until ≡ release (message_of k.scheduled) j)) ⊎ (k.until ≡ 4294967295)
 
--- what is kept of a message is true from the slot up to the one at which it is looked at again
+-- what is kept of a message is true from the slot up to the one at which it is to be looked at again: of one for which
+-- that slot is over, nothing is known but what was counted
 pub record IsRight (slot : ℕ) (k : Progress) : Type 0 where
   pub fit : IsFit k.scheduled slot
-  pub ahead : slot ≤ k.until
   pub release : IsReleaseOrNone k
   pub ready : (s : ℕ) → slot ≤ s → s < k.until → is_ready k.scheduled s ≡ k.is_open
   pub timed : (s : ℕ) → slot ≤ s → s < k.until → IsTimed k s
@@ -175,11 +185,54 @@ pub record IsPlaceOf (entry : ℕ) (nodes : List Node) (place : ℕ) : Type 0 wh
   pub behind : (k : ℕ) (d : Node) → place ≤ k → k < length nodes
       → entry ≤ (slice_index_or nodes k d).kept.scheduled.item.entry
 
--- what is true of the messages of a plan at the slot that is asked next
+-- what is true of the messages of a tree at the slot that is asked next
 pub record AreKeptInOrder (slot : ℕ) (nodes : List Node) : Type 0 where
   pub right : All (IsRight slot) (kept_in nodes)
   pub turns : All HasTurn (kept_in nodes)
   pub tree : IsTree nodes
+
+-- how many messages at the most stand in a tree that so many trees come after
+abbrev pub tree_size : ℕ → ℕ
+tree_size later = if later == 1 then 1024 else 73
+
+-- the messages stand in trees, one behind the other: of the last tree and so many before it
+abbrev pub IsForest : ℕ → List Node → Type 0
+IsForest zero nodes = IsTree nodes
+IsForest (suc later) nodes =
+    IsTree (take (tree_size (suc later)) nodes) × IsForest later (drop (tree_size (suc later)) nodes)
+
+-- what is true of the messages of a plan in their trees at the slot that is asked next
+pub record AreInTrees (slot later : ℕ) (nodes : List Node) : Type 0 where
+  pub right : All (IsRight slot) (kept_in nodes)
+  pub turns : All HasTurn (kept_in nodes)
+  pub trees : IsForest later nodes
+
+-- the turn of a message at the slot, by how it stands then
+abbrev pub ready_turn : ℕ → Scheduled → ℕ
+ready_turn slot t =
+    if is_ready t slot then turn_number (layer_of t.item.rank) (due (message_of t) (broadcast_at (message_of t) slot))
+    (class_of t.item.rank) t.item.entry else no_turn
+
+-- a message has that turn, and is not to be looked at again by the slot
+pub record HasThatTurn (slot : ℕ) (nodes : List Node) (turn : ℕ) : Type 0 where
+  pub place : ℕ
+  pub within : place < length nodes
+  pub awake : (d : Node) → slot < (slice_index_or nodes place d).kept.until
+  pub turned : (d : Node) → (own (slice_index_or nodes place d).kept).first ≡ turn
+
+-- no message has a turn before it at the slot, and one has it, if it is a turn
+pub record IsLeastTurn (slot : ℕ) (nodes : List Node) (turn : ℕ) : Type 0 where
+  pub least : All (λ t. turn ≤ ready_turn slot t) (seen_in slot nodes)
+  pub found : (turn ≡ no_turn) ⊎ HasThatTurn slot nodes turn
+
+-- messages of the one rank come no later than those of the other, where they are due at the same slot
+pub record IsNotBehind (a b : Rank) : Type 0 where
+  pub by_layer : layer_of a ≤ layer_of b
+  pub by_class : class_of a ≤ class_of b
+
+-- no message comes before those of this rank
+abbrev pub AreBehind : Rank → List Scheduled → Type 0
+AreBehind foremost scheduled = All (λ t. IsNotBehind foremost t.item.rank) scheduled
 
 -- at the place or below it a message is to be looked at again by the slot
 abbrev pub IsDue : ℕ → List Node → ℕ → Type 0
@@ -218,11 +271,11 @@ pub record HasEnded (slot : ℕ) (k : Progress) : Type 0 where
   pub right : IsRight slot k
   pub no_more : HasNoMore k
 
--- of the messages so many at the front have ended, and the others stand in the tree
+-- of the messages so many at the front have ended, and the others stand in their trees, the last and two before it
 pub record AreSettled (slot past : ℕ) (nodes : List Node) : Type 0 where
   pub within : past ≤ length nodes
   pub ended : All (HasEnded slot) (kept_in (take past nodes))
-  pub later : AreKeptInOrder slot (drop past nodes)
+  pub later : AreInTrees slot 2 (drop past nodes)
 
 -- a message has that number or a greater one
 pub record HasReached (entry : ℕ) (nodes : List Node) : Type 0 where
@@ -235,7 +288,8 @@ pub record IsPlan (slot past : ℕ) (nodes : List Node) : Type 0 where
   pub sound : IsSound (record { slot = slot; scheduled = seen_in slot nodes })
   pub kept : AreSettled slot past nodes
 
--- and of a plan with room for a list of its places
-pub record HasQueueRoom (slot past : ℕ) (nodes : List Node) (listed : List ℕ) : Type 0 where
+-- and of a plan with room for a list of its places, and with the rank that comes before all others
+pub record HasQueueRoom (slot past : ℕ) (foremost : Rank) (nodes : List Node) (listed : List ℕ) : Type 0 where
   pub plan : IsPlan slot past nodes
   pub room : length nodes ≤ length listed
+  pub ranks : AreBehind foremost (seen_in slot nodes)

@@ -11,6 +11,7 @@ mod progress;
 mod scheduled;
 mod settled;
 mod tournament;
+mod trees;
 mod turn;
 
 pub use laws::{air_laws, background_laws};

@@ -7,6 +7,7 @@ ghost use Rattle.scheduler.specs.Message.{stopped_at};
 ghost use Rattle.scheduler.specs.Air.{layer_of, class_of, IsChosen};
 ghost use Rattle.scheduler.specs.Follows.{Follows, ForHistories, HasCompleted, IsStanding, HasStop, next_slot};
 ghost use Rattle.scheduler.specs.Follows.{messages_of, message_of, message_from};
+ghost use Rattle.scheduler.specs.QueueSteps.{IsNotBehind};
 
 use crate::settled::{play_later, push, settle_if_grown, stop};
 use crate::tournament::{Node, are_below, completed_of, has_entry, has_standing};
@@ -47,6 +48,18 @@ impl Rank {
             Rank::Normal | Rank::Background => 1,
         }
     }
+
+    /// Of two ranks the one that comes first.
+    pub(crate) fn foremost(self, other: Rank) -> Rank
+        ensures of_first { IsNotBehind result self }
+        ensures of_other { IsNotBehind result other }
+    {
+        match (self, other) {
+            (Rank::High, _) | (_, Rank::High) => Rank::High,
+            (Rank::Normal, _) | (_, Rank::Normal) => Rank::Normal,
+            (Rank::Background, Rank::Background) => Rank::Background,
+        }
+    }
 }
 
 /// A message that is added to a plan, and is broadcast from its start on: broadcast j, counted from 0, is released at
@@ -81,6 +94,8 @@ pub struct Plan {
     past: usize,
     /// How many others there were when these were last counted.
     made: usize,
+    /// A rank that none of the messages is before.
+    foremost: Rank,
     nodes: Vec<Node>,
     /// Room for a list of places, which `next` makes anew.
     listed: Vec<usize>,
@@ -94,7 +109,7 @@ impl Model for Plan {
 
     ghost view = { λ p. record { slot = p.slot; scheduled = seen_in p.slot p.nodes.items } };
 
-    ghost invariant = { λ p. HasQueueRoom p.slot p.past p.nodes.items p.listed.items };
+    ghost invariant = { λ p. HasQueueRoom p.slot p.past p.foremost p.nodes.items p.listed.items };
 }
 
 impl Plan {
@@ -108,6 +123,7 @@ impl Plan {
             slot: 0,
             past: 0,
             made: 0,
+            foremost: Rank::Background,
             nodes: Vec::new(alloc),
             listed: Vec::new(alloc),
         }
@@ -136,6 +152,7 @@ impl Plan {
         let (past, made) = settle_if_grown(self.nodes.as_mut_slice(), self.past, self.made);
         self.past = past;
         self.made = made;
+        self.foremost = self.foremost.foremost(item.rank);
         push(&mut self.nodes, past, item)
     }
 
@@ -154,6 +171,7 @@ impl Plan {
             self.past,
             self.listed.as_mut_slice(),
             slot,
+            self.foremost,
         );
         self.slot = slot + 1;
         used

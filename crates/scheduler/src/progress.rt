@@ -1,7 +1,8 @@
 //! What a plan keeps of one message between the slots at which something begins or ends for it.
 
 ghost use Rattle.std.specs.Prelude.{◌≡◌, ◌<◌, true};
-ghost use Rattle.scheduler.specs.QueueSteps.{HasTurn, HasNoMore, IsRight, refreshed, aired, stopped, own, kept_new};
+ghost use Rattle.scheduler.specs.QueueSteps.{HasTurn, HasNoMore, IsRight, refreshed, aired, stopped, own};
+ghost use Rattle.scheduler.specs.QueueSteps.{kept_idle, kept_new};
 
 use crate::plan::Item;
 use crate::scheduled::Scheduled;
@@ -30,7 +31,19 @@ impl Progress {
         }
     }
 
-    /// What is kept of it at `slot`: where it is to be looked at again by then, what begins there.
+    /// What is kept of a message that is to be added: nothing is ahead of it, until it is replaced by `new`.
+    pub fn idle(item: Item) -> Self
+        ensures { result ≡ kept_idle item }
+    {
+        Progress {
+            scheduled: Scheduled::new(item),
+            until: u32::MAX,
+            is_open: false,
+        }
+    }
+
+    /// What is kept of it at `slot`: where it was to be looked at again by then, what is under way there. The
+    /// broadcasts that passed since it was looked at last need no look of their own.
     pub fn refreshed(self, slot: u16) -> Progress
         requires { IsRight slot self }
         ensures value { result ≡ refreshed slot self }
@@ -39,9 +52,9 @@ impl Progress {
         if u32::from(slot) < self.until {
             return self;
         }
-        let is_open = self.scheduled.begins_at(slot);
+        let is_open = self.scheduled.begins_by(slot);
         let until = if is_open {
-            self.until + u32::from(self.scheduled.item.period)
+            self.scheduled.due_after(slot)
         } else {
             u32::MAX
         };

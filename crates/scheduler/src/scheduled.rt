@@ -1,7 +1,7 @@
 //! What a plan keeps of one message.
 
 ghost use Rattle.std.specs.Prelude.{◌≡◌, ℕ, ◌+◌, ◌<◌, ◌≤◌, Some, None};
-ghost use Rattle.scheduler.specs.Message.{release};
+ghost use Rattle.scheduler.specs.Message.{broadcast_at, due};
 ghost use Rattle.scheduler.specs.Follows.{message_of};
 ghost use Rattle.scheduler.specs.PlanSteps.{IsFit, is_ready};
 
@@ -41,10 +41,11 @@ impl Scheduled {
         self.pages_aired + 1
     }
 
-    /// Whether it has a broadcast that is released at `slot`: one that is requested, where it was not stopped by then.
-    pub fn begins_at(self, slot: u16) -> bool
+    /// Whether the broadcast in whose time `slot` lies is pending, where no page of it was aired: it is requested, and
+    /// the message was not stopped by then.
+    pub fn begins_by(self, slot: u16) -> bool
         requires fit { IsFit self slot }
-        requires release { (j : ℕ) × (slot ≡ release (message_of self) j) }
+        requires started { self.item.start ≤ slot }
         requires stopped { (stop : ℕ) → self.stop ≡ Some stop → stop ≤ slot }
         ensures { result ≡ is_ready (record self { pages_aired = 0 }) slot }
     {
@@ -57,5 +58,16 @@ impl Scheduled {
         let is_requested = broadcasts == 0
             || u32::from(slot) < start + u32::from(broadcasts) * u32::from(period);
         self.stop.is_none() && is_requested
+    }
+
+    /// The slot at which the broadcast is due in whose time `slot` lies.
+    pub fn due_after(self, slot: u16) -> u32
+        requires started { self.item.start ≤ slot }
+        requires some_period { 0 < self.item.period }
+        ensures { result ≡ due (message_of self) (broadcast_at (message_of self) slot) }
+    {
+        let period = u32::from(self.item.period);
+        let slot = u32::from(slot);
+        slot + (period - (slot - self.item.start) % period)
     }
 }

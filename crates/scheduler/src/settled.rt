@@ -1,19 +1,20 @@
 //! The messages of a plan, of which those at the front have ended for ever: they are kept for their counts alone. The
-//! tree of what is ahead holds the later ones, so that a slot need not walk past what can't be aired any more.
+//! trees of what is ahead hold the later ones, so that a slot need not walk past what can't be aired any more.
 
 ghost use Rattle.std.specs.Prelude.{◌≡◌, ◌<◌, ◌≤◌, ℕ, ◌+◌, length, All, AllPairs, map, take, drop};
 ghost use Rattle.std.specs.Prelude.{◌==◌, slice_index_or, MatchBool, OnOk, OnErr, None, ◌++◌, ◌∷◌, []};
 ghost use Rattle.scheduler.specs.PlanSteps.{IsChoice, after_slot, scheduled_stopped};
 ghost use Rattle.scheduler.specs.declared.tournament.Node.{Node};
-ghost use Rattle.scheduler.specs.QueueSteps.{kept_in, seen_in, kept_new, HasTurn, IsTree, AreRising};
+ghost use Rattle.scheduler.specs.QueueSteps.{kept_in, seen_in, kept_new, HasTurn, IsForest, AreRising, AreBehind};
 ghost use Rattle.scheduler.specs.QueueSteps.{AreSettled, HasEnded, HasNoMore, HasReached, IsFoundTurn};
 
-use crate::plan::{Item, Refused};
+use crate::plan::{Item, Rank, Refused};
 use crate::progress::Progress;
-use crate::tournament::{Node, ahead_below, find, play, raise, stop_at};
+use crate::tournament::{Node, find};
+use crate::trees::{BEFORE_LAST, build_trees, change_in, play, stop_at};
 use crate::turn::First;
 
-/// How many messages the tree holds at the least before some are taken out of it.
+/// How many messages the trees hold at the least before some are taken out of it.
 const FEW: usize = 4;
 
 /// How many messages at the front have ended.
@@ -28,22 +29,8 @@ fn ended_in_front(nodes: &[Node]) -> usize
     count
 }
 
-/// Makes the tree anew.
-fn build(nodes: &mut [Node])
-    ensures kept { kept_in nodes.new ≡ kept_in nodes.old }
-    ensures tree { IsTree nodes.new }
-{
-    let mut left = nodes.len();
-    while left > 0 {
-        left -= 1;
-        let own = nodes[left].kept.own();
-        let below = ahead_below(nodes, left);
-        nodes[left].ahead = own.joined(below);
-    }
-}
-
-/// Takes the messages that have ended out of the tree, as far as they are in front of all others, and says how many are
-/// then before it.
+/// Takes the messages that have ended out of the trees, as far as they are in front of all others, and says how many
+/// are then before these.
 fn settle(nodes: &mut [Node], past: usize) -> usize
     requires within { past ≤ length nodes.old }
     ensures within { result ≤ length nodes.new }
@@ -53,13 +40,13 @@ fn settle(nodes: &mut [Node], past: usize) -> usize
     let (_, later) = nodes.split_at_mut(past);
     let count = ended_in_front(later);
     let (_, left) = later.split_at_mut(count);
-    build(left);
+    build_trees(left, BEFORE_LAST);
     past + count
 }
 
-/// Takes the messages that have ended out of the tree where it holds twice as many as it was `made` with: so often that
-/// it stays small, and so seldom that a message costs the same in a long log as in a short one. Says how many are then
-/// before it, and with how many it was made.
+/// Takes the messages that have ended out of the trees where these hold twice as many as they were `made` with: so
+/// often that they stay small, and so seldom that a message costs the same in a long log as in a short one. Says how
+/// many are then before them, and with how many they were made.
 pub(crate) fn settle_if_grown(nodes: &mut [Node], past: usize, made: usize) -> (usize, usize)
     requires within { past ≤ length nodes.old }
     ensures kept { kept_in nodes.new ≡ kept_in nodes.old }
@@ -72,42 +59,45 @@ pub(crate) fn settle_if_grown(nodes: &mut [Node], past: usize, made: usize) -> (
     (now, nodes.len() - now)
 }
 
-/// What `slot` airs, and what is kept after it. `listed` has room for a list of all places.
+/// What `slot` airs, and what is kept after it. `listed` has room for a list of all places, and no message is of a rank
+/// before `foremost`.
 pub(crate) fn play_later(
     nodes: &mut [Node],
     past: usize,
     listed: &mut [usize],
     slot: u16,
+    foremost: Rank,
 ) -> Option<(u16, u8)>
     requires within { slot < 65535 }
     requires room { length nodes.old ≤ length listed.old }
     requires kept { AreSettled slot past nodes.old }
     requires rising { AllPairs (λ a b. a.item.entry < b.item.entry) (seen_in slot nodes.old) }
+    requires ranks { AreBehind foremost (seen_in slot nodes.old) }
     ensures chosen { IsChoice (seen_in slot nodes.old) slot result }
     ensures seen { seen_in (slot + 1) nodes.new ≡ map (after_slot slot result) (seen_in slot nodes.old) }
     ensures kept { AreSettled (slot + 1) past nodes.new }
 {
     let (_, later) = nodes.split_at_mut(past);
-    play(later, listed, slot)
+    play(later, listed, slot, foremost)
 }
 
 /// Adds a message behind the others. After `Err` there is no room for it, and the places are as they were.
 pub(crate) fn push(nodes: &mut Vec<Node>, past: usize, item: Item) -> Result<(), Refused>
     requires within { past ≤ length nodes.old.items }
-    requires tree { IsTree (drop past nodes.old.items) }
+    requires trees { IsForest 2 (drop past nodes.old.items) }
     ensures kept { OnOk result (kept_in nodes.new.items ≡ kept_in nodes.old.items ++ kept_new item ∷ []) }
     ensures ended { take past nodes.new.items ≡ take past nodes.old.items }
-    ensures tree { IsTree (drop past nodes.new.items) }
+    ensures trees { IsForest 2 (drop past nodes.new.items) }
     ensures refused { OnErr result (nodes.new.items ≡ nodes.old.items) }
     ensures turn { HasTurn (kept_new item) }
 {
     let place = nodes.len();
-    let kept = Progress::new(item);
+    let kept = Progress::idle(item);
     let ahead = First::nothing();
     match nodes.push(Node { kept, ahead }) {
         Ok(()) => {
             let (_, later) = nodes.as_mut_slice().split_at_mut(past);
-            raise(later, place - past, kept.own());
+            change_in(later, place - past, Progress::new(item), BEFORE_LAST);
             Ok(())
         }
         Err(_) => Err(Refused),

@@ -50,7 +50,7 @@ impl Node {
 }
 
 /// What is kept as ahead of a place and those below it: nothing past the end.
-fn ahead_at(nodes: &[Node], place: usize) -> First
+pub(crate) fn ahead_at(nodes: &[Node], place: usize) -> First
     ensures { result ≡ ahead_at nodes.now place }
 {
     if place < nodes.len() {
@@ -89,7 +89,7 @@ fn ahead_of_eight(nodes: &[Node], place: usize) -> First
 }
 
 /// What is ahead of the places below one.
-pub(crate) fn ahead_below(nodes: &[Node], place: usize) -> First
+fn ahead_below(nodes: &[Node], place: usize) -> First
     ensures { result ≡ ahead_below nodes.now place }
 {
     let mut ahead = First::nothing();
@@ -108,7 +108,7 @@ pub(crate) fn ahead_below(nodes: &[Node], place: usize) -> First
 }
 
 /// Puts right what is ahead of a place, and of those above it up to one of which it stays the same.
-pub(crate) fn lift(nodes: &mut [Node], place: usize)
+fn lift(nodes: &mut [Node], place: usize)
     requires within { place < length nodes.old }
     requires others { IsTreeBut nodes.old place }
     ensures kept { kept_in nodes.new ≡ kept_in nodes.old }
@@ -127,7 +127,7 @@ pub(crate) fn lift(nodes: &mut [Node], place: usize)
 
 /// Puts what is missing ahead of a place, and of those above it, up to one of which nothing is: what is added needs no
 /// look at the other places.
-pub(crate) fn raise(nodes: &mut [Node], place: usize, more: First)
+fn raise(nodes: &mut [Node], place: usize, more: First)
     requires within { place < length nodes.old }
     requires missing { IsTreeWithout nodes.old place more }
     ensures kept { kept_in nodes.new ≡ kept_in nodes.old }
@@ -144,34 +144,34 @@ pub(crate) fn raise(nodes: &mut [Node], place: usize, more: First)
     }
 }
 
-/// Keeps this of the message at a place, and puts right what is ahead of the place and of those above it.
-//
-// Inlined, so that what is kept isn't written to the stack and read again at once in larger parts, for which a
-// processor has to wait.
-#[inline(always)]
-fn change(nodes: &mut [Node], place: usize, kept: Progress)
-    requires within { place < length nodes.old }
-    requires others { IsTreeBut nodes.old place }
-    ensures kept { kept_in nodes.new ≡ slice_set (kept_in nodes.old) place kept }
-    ensures tree { IsTree nodes.new }
-{
-    nodes[place].kept = kept;
-    lift(nodes, place);
-}
-
-/// Keeps this of the message at a place once a page of it was aired: if one is left of its broadcast, its turn stays,
-/// and so does what is ahead of each place.
-fn keep_aired(nodes: &mut [Node], place: usize, kept: Progress)
+/// Keeps this of the message at a place, and puts right what is ahead of the place and of those above it. Where nothing
+/// was ahead of the message, as of one that is added, what is ahead of it needs no look at the other places.
+pub(crate) fn change(nodes: &mut [Node], place: usize, kept: Progress)
     requires within { place < length nodes.old }
     requires tree { IsTree nodes.old }
-    requires turn { kept.is_open ≡ true → own_at nodes.old place ≡ own kept }
     ensures kept { kept_in nodes.new ≡ slice_set (kept_in nodes.old) place kept }
     ensures tree { IsTree nodes.new }
 {
-    if kept.is_open {
-        nodes[place].kept = kept;
+    let is_added = nodes[place].kept.has_no_more();
+    nodes[place].kept = kept;
+    if is_added {
+        raise(nodes, place, kept.own());
     } else {
-        change(nodes, place, kept);
+        lift(nodes, place);
+    }
+}
+
+/// Makes the tree anew.
+pub(crate) fn build(nodes: &mut [Node])
+    ensures kept { kept_in nodes.new ≡ kept_in nodes.old }
+    ensures tree { IsTree nodes.new }
+{
+    let mut left = nodes.len();
+    while left > 0 {
+        left -= 1;
+        let own = nodes[left].kept.own();
+        let below = ahead_below(nodes, left);
+        nodes[left].ahead = own.joined(below);
     }
 }
 
@@ -288,7 +288,10 @@ fn renew_listed(nodes: &mut [Node], listed: &[usize], count: usize, slot: u16)
 }
 
 /// Looks again at each message for which `slot` is a slot to do so.
-fn renew_all(nodes: &mut [Node], listed: &mut [usize], slot: u16)
+//
+// Inlined, since most slots find nothing to look at again.
+#[inline(always)]
+pub(crate) fn renew_all(nodes: &mut [Node], listed: &mut [usize], slot: u16)
     requires room { length nodes.old ≤ length listed.old }
     requires kept { AreKeptInOrder slot nodes.old }
     ensures seen { seen_in slot nodes.new ≡ seen_in slot nodes.old }
@@ -355,7 +358,7 @@ fn likely_place(nodes: &[Node], entry: u16) -> usize {
 
 /// The place of the message of `entry`, where there is one: those before it have lesser numbers. The likely place is
 /// looked at first.
-fn place_of(nodes: &[Node], entry: u16) -> usize
+pub(crate) fn place_of(nodes: &[Node], entry: u16) -> usize
     requires { AreRising nodes.now }
     ensures { IsPlaceOf entry nodes.now result }
 {
@@ -365,37 +368,6 @@ fn place_of(nodes: &[Node], entry: u16) -> usize
     } else {
         place_by_search(nodes, entry)
     }
-}
-
-/// What `slot` airs, the next page of the message whose turn is the first, and what is kept after the slot.
-fn air_first(nodes: &mut [Node], slot: u16) -> Option<(u16, u8)>
-    requires within { slot < 65535 }
-    requires kept { AreKeptInOrder slot nodes.old }
-    requires rising { AreRising nodes.old }
-    requires awake { slot < (ahead_at nodes.old 0).wake }
-    ensures chosen { IsChoice (seen_in slot nodes.old) slot result }
-    ensures seen { seen_in (slot + 1) nodes.new ≡ map (after_slot slot result) (seen_in slot nodes.old) }
-    ensures kept { AreKeptInOrder (slot + 1) nodes.new }
-{
-    let entry = ahead_at(nodes, 0).first_entry()?;
-    let place = place_of(nodes, entry);
-    let kept = nodes[place].kept;
-    keep_aired(nodes, place, kept.aired());
-    Some((entry, kept.scheduled.next_page()))
-}
-
-/// What `slot` airs, and what is kept after it. `listed` has room for a list of all places.
-pub(crate) fn play(nodes: &mut [Node], listed: &mut [usize], slot: u16) -> Option<(u16, u8)>
-    requires within { slot < 65535 }
-    requires room { length nodes.old ≤ length listed.old }
-    requires kept { AreKeptInOrder slot nodes.old }
-    requires rising { AllPairs (λ a b. a.item.entry < b.item.entry) (seen_in slot nodes.old) }
-    ensures chosen { IsChoice (seen_in slot nodes.old) slot result }
-    ensures seen { seen_in (slot + 1) nodes.new ≡ map (after_slot slot result) (seen_in slot nodes.old) }
-    ensures kept { AreKeptInOrder (slot + 1) nodes.new }
-{
-    renew_all(nodes, listed, slot);
-    air_first(nodes, slot)
 }
 
 /// The place of the message of `entry`, if there is one.
@@ -408,23 +380,6 @@ pub(crate) fn find(nodes: &[Node], entry: u16) -> Option<usize>
         Some(place)
     } else {
         None
-    }
-}
-
-/// Stops the message of `entry` before `slot`.
-pub(crate) fn stop_at(nodes: &mut [Node], entry: u16, slot: u16)
-    requires kept { AreKeptInOrder slot nodes.old }
-    requires rising { AreRising nodes.old }
-    ensures seen { seen_in slot nodes.new ≡ map (λ t. scheduled_stopped (t.item.entry == entry) slot t)
-        (seen_in slot nodes.old) }
-    ensures kept { AreKeptInOrder slot nodes.new }
-{
-    match find(nodes, entry) {
-        None => {}
-        Some(place) => {
-            let kept = nodes[place].kept.stopped(slot);
-            change(nodes, place, kept);
-        }
     }
 }
 

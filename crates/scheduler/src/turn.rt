@@ -53,15 +53,15 @@ impl First {
     {
         self.first == other.first && self.wake == other.wake
     }
+}
 
-    /// The number of the message whose turn is the first, where there is a turn.
-    pub fn first_entry(self) -> Option<u16>
-        ensures { result ≡ (if self.first == no_turn then None else Some (self.first % 65536)) }
-    {
-        if self.first == NO_TURN {
-            None
-        } else {
-            Some((self.first % 0x1_0000) as u16)
-        }
+/// The number of the message that has this turn, where it is one.
+pub fn entry_of(turn: u64) -> Option<u16>
+    ensures { result ≡ (if turn == no_turn then None else Some (turn % 65536)) }
+{
+    if turn == NO_TURN {
+        None
+    } else {
+        Some((turn % 0x1_0000) as u16)
     }
 }

@@ -177,6 +177,23 @@ fn is_short_added(both: &mut Both) -> Result<bool, AllocError> {
     is_item_added(both, item)
 }
 
+/// Adds background messages to both, of which most wait for long. Says whether they were added.
+fn is_crowd_added(both: &mut Both, count: u16) -> Result<bool, AllocError> {
+    let start = u32::from(both.plan.next_slot());
+    for _ in 0..count {
+        let Some(entry) = next_entry(both) else {
+            return Ok(true);
+        };
+        let mut item = some_item(&mut both.numbers, entry, start);
+        item.rank = Rank::Background;
+        item.period = both.numbers.below(300).saturating_add(1);
+        if !is_item_added(both, item)? {
+            return Ok(false);
+        }
+    }
+    Ok(true)
+}
+
 /// Stops the message at a place of both, if it stands. Says whether its completed number is that of the walk.
 fn is_stopped(both: &mut Both, place: usize) -> bool {
     let slot = both.plan.next_slot();
@@ -271,6 +288,17 @@ fn answers_as_a_walk_does_of_short_messages(rt: HostRuntime) -> Result<(), Fail>
         let is_dense = is_scanned(new_run(rt.alloc(), seed, 7, 1), true)?;
         let is_sparse = is_scanned(new_run(rt.alloc(), seed + 10, 7, 3), true)?;
         assert!(rt; is_dense && is_sparse, "{seed}");
+    }
+    Ok(())
+}
+
+#[test]
+fn answers_as_a_walk_does_where_a_crowd_waits(rt: HostRuntime) -> Result<(), Fail> {
+    for seed in 0..3 {
+        let mut both = new_run(rt.alloc(), seed, 0, 1);
+        let is_crowded = is_crowd_added(&mut both, 1200)?;
+        let is_same = is_scanned(both, false)?;
+        assert!(rt; is_crowded && is_same, "{seed}");
     }
     Ok(())
 }

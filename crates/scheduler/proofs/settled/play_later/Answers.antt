@@ -3,8 +3,9 @@ use Rattle.std.specs.List.{All, AllPairs}
 use Rattle.scheduler.specs.declared.scheduled.Scheduled.{Scheduled}
 use Rattle.scheduler.specs.declared.tournament.Node.{Node}
 use Rattle.scheduler.specs.PlanSteps.{IsChoice, after_slot}
-use Rattle.scheduler.specs.QueueSteps.{kept_in, seen_in, HasEnded}
+use Rattle.scheduler.specs.QueueSteps.{kept_in, seen_in, HasEnded, AreBehind, IsNotBehind}
 use Rattle.scheduler.proofs.Ended.{seen_both, rising_behind, chosen_settled, after_settled, ended_later, settled_of}
+use Rattle.scheduler.proofs.Forest.{All-behind}
 use Rattle.scheduler.proofs.settled.play_later.Goals as goal
 
 pub play-requires-clause-rising : goal.play-requires-clause-rising
@@ -15,6 +16,14 @@ play-requires-clause-rising c =
     rising_behind (λ (t : Scheduled). t.item.entry) (seen_in slot cut.result.0.now) (seen_in slot cut.result.1.now)
     (subst Rising (ap (seen_in slot) cut.ensures.value ∙ seen_both slot cut.result.0.now cut.result.1.now)
     c.requires.rising)
+
+pub play-requires-clause-ranks : goal.play-requires-clause-ranks
+play-requires-clause-ranks c =
+    let cut = c.split_at_mut-later in
+    let slot = c.args.slot in
+    All-behind (λ (t : Scheduled). IsNotBehind c.args.foremost t.item.rank) (seen_in slot cut.result.0.now)
+    (seen_in slot cut.result.1.now) (subst (AreBehind c.args.foremost) (ap (seen_in slot) cut.ensures.value
+    ∙ seen_both slot cut.result.0.now cut.result.1.now) c.requires.ranks)
 
 pub returns-clause-chosen : goal.returns-clause-chosen
 returns-clause-chosen c =

@@ -14,9 +14,10 @@ returns-clause-settled c = λ slot settled.
     let NoMore : List Node → Type 0 = λ ns. (k : ℕ) (d : Node) → k < count → HasNoMore (get_or ns k d).kept in
     let front = again.ensures.front ∙ ap (take count) cut.ensures.back in
     let left = again.ensures.back ∙ ap (drop count) cut.ensures.back in
-    let new = c.build.new.nodes in
+    let new = c.build_trees.new.nodes in
     let parts = ap (λ ns. ns ++ (take count (drop c.args.past nodes) ++ new)) (sym cut.ensures.front)
     ∙ ap (λ ns. cut.result.0.now ++ (ns ++ new)) (sym front) in
     subst (AreSettled slot (c.args.past + count)) parts (settled_more slot c.args.past count nodes new
     (subst Few cut.ensures.back c.ended_in_front-count.ensures.within) (subst NoMore cut.ensures.back
-    c.ended_in_front-count.ensures.ended) (c.build.ensures.kept ∙ ap kept_in left) c.build.ensures.tree settled)
+    c.ended_in_front-count.ensures.ended) (c.build_trees.ensures.kept ∙ ap kept_in left) c.build_trees.ensures.trees
+    settled)

@@ -3,7 +3,7 @@ use Rattle.std.specs.List.{All}
 use Rattle.scheduler.specs.declared.scheduled.Scheduled.{Scheduled}
 use Rattle.scheduler.specs.declared.tournament.Node.{Node}
 use Rattle.scheduler.specs.PlanSteps.{scheduled_stopped}
-use Rattle.scheduler.specs.QueueSteps.{kept_in, seen_in, HasEnded, AreRising, AreKeptInOrder}
+use Rattle.scheduler.specs.QueueSteps.{kept_in, seen_in, HasEnded, AreRising, AreInTrees}
 use Rattle.scheduler.proofs.Found.{stopped_none}
 use Rattle.scheduler.proofs.Ended.{seen_changed, rising_before, rising_behind, settled_of, not_later}
 use Rattle.scheduler.proofs.settled.stop.Goals as goal
@@ -50,7 +50,7 @@ returns-then-is_reached-clause-kept c =
       arith,
       cut.ensures.front_len,
       c.stop_ended.auto.nodes,
-    )) c.stop_ended.ensures.ended (subst (AreKeptInOrder c.args.slot) (sym cut.ensures.back) c.requires.kept.later)
+    )) c.stop_ended.ensures.ended (subst (AreInTrees c.args.slot 2) (sym cut.ensures.back) c.requires.kept.later)
 
 pub returns-else-is_reached-clause-seen : goal.returns-else-is_reached-clause-seen
 returns-else-is_reached-clause-seen c =

@@ -7,9 +7,10 @@ use Rattle.scheduler.specs.declared.tournament.Node.{Node}
 use Rattle.scheduler.specs.Message.{ScheduledMessage}
 use Rattle.scheduler.specs.Air.{Air}
 use Rattle.scheduler.specs.Follows.{PlanState, Follows, messages_of, message_from, next_slot}
-use Rattle.scheduler.specs.QueueSteps.{seen_in, kept_in, kept_new, IsPlan}
+use Rattle.scheduler.specs.QueueSteps.{seen_in, kept_in, kept_new, IsPlan, AreBehind}
 use Rattle.scheduler.proofs.Followed.{Follows-add, scheduled_new}
 use Rattle.scheduler.proofs.Planned.{seen_pushed, seen_settled, IsPlan-add, IsPlan-settled, on_ok, on_either, as_long}
+use Rattle.scheduler.proofs.Forest.{ranks_before, ranks_pushed}
 use Rattle.scheduler.proofs.Planned.{longer}
 use Rattle.scheduler.proofs.plan.Plan.add.Goals as goal
 
@@ -21,13 +22,13 @@ push-requires-2-clause-within c =
     c.self.invariant.plan in
     plan.kept.within
 
-pub push-requires-2-clause-tree : goal.push-requires-2-clause-tree
-push-requires-2-clause-tree c =
+pub push-requires-2-clause-trees : goal.push-requires-2-clause-trees
+push-requires-2-clause-trees c =
     let grown = c.settle_if_grown-past in
     let plan = IsPlan-settled c.self.inside.slot c.self.inside.past grown.result.0 c.self.inside.nodes
     c.as_mut_slice.result.now grown.new.nodes c.as_mut_slice.ensures.value grown.ensures.kept grown.ensures.settled
     c.self.invariant.plan in
-    plan.kept.later.tree
+    plan.kept.later.trees
 
 pub invariant_of-self-2 : goal.invariant_of-self-2
 invariant_of-self-2 c =
@@ -61,12 +62,23 @@ invariant_of-self-2 c =
     (IsPlan slot grown.result.0 new) (λ is. IsPlan-add slot grown.result.0 old new c.args.item
     (subst AboveSeen (sym same) (subst Above back c.requires.rising)) (subst From back c.requires.from_next)
     c.requires.some_pages c.requires.some_period c.push-2.ensures.turn settled is c.push-2.ensures.ended
-    c.push-2.ensures.tree)
+    c.push-2.ensures.trees)
     (λ unchanged. subst (IsPlan slot grown.result.0) (sym unchanged) settled) c.push-2.ensures.kept
     c.push-2.ensures.refused in
+    let new_rank = c.foremost-self-inside.result in
+    let Behind : List Scheduled → Type 0 = λ ts. AreBehind new_rank ts in
+    let ranks = on_either c.push-2.result (kept_in new ≡ kept_in old ++ kept_new c.args.item ∷ []) (new ≡ old)
+    (AreBehind new_rank (seen_in slot new)) (λ is. subst Behind (sym (seen_pushed slot old new c.args.item is
+    ∙ ap (λ ts. ts ++ scheduled_new c.args.item ∷ []) same)) (ranks_pushed c.self.inside.foremost new_rank
+    (seen_in slot v.items) (scheduled_new c.args.item) c.foremost-self-inside.ensures.of_first
+    c.foremost-self-inside.ensures.of_other
+    c.self.invariant.ranks)) (λ unchanged. subst Behind (sym (ap (seen_in slot) unchanged ∙ same))
+    (ranks_before c.self.inside.foremost new_rank (seen_in slot v.items) c.foremost-self-inside.ensures.of_first
+    c.self.invariant.ranks)) c.push-2.ensures.kept c.push-2.ensures.refused in
     record {
       plan = plan;
       room = omega (arith, one_more, room, as_long v grown.new.nodes, c.self.invariant.room);
+      ranks = ranks;
     }
 
 pub returns-clause-follows : goal.returns-clause-follows

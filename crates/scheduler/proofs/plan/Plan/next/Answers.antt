@@ -4,7 +4,8 @@ use Rattle.scheduler.specs.declared.scheduled.Scheduled.{Scheduled}
 use Rattle.scheduler.specs.declared.tournament.Node.{Node}
 use Rattle.scheduler.specs.Follows.{PlanState, Follows, messages_of, message_of, next_slot}
 use Rattle.scheduler.specs.PlanSteps.{IsSound, IsChoice, after_slot}
-use Rattle.scheduler.specs.QueueSteps.{AreSettled, seen_in}
+use Rattle.scheduler.specs.QueueSteps.{AreSettled, AreBehind, IsNotBehind, seen_in}
+use Rattle.std.proofs.lemmas.List.Elements.{All-map}
 use Rattle.scheduler.proofs.Followed.{IsSound-next, IsChosen-next, Follows-next, unchanged_messages}
 use Rattle.scheduler.proofs.Planned.{as_long, written_all, seen_written}
 use Rattle.scheduler.proofs.plan.Plan.next.Goals as goal
@@ -25,6 +26,13 @@ play_later-used-requires-clause-rising c =
     (seen_in n c.self.inside.nodes.items) in
     subst Rising (sym c.as_mut_slice.ensures.value) (subst Slot (sym at) c.self.invariant.plan.sound.rising)
 
+pub play_later-used-requires-clause-ranks : goal.play_later-used-requires-clause-ranks
+play_later-used-requires-clause-ranks c =
+    let at = c.requires.at_next ∙ ap next_slot (sym c.self.view_is) in
+    let Behind : List Node → Type 0 = λ ns. AreBehind c.self.inside.foremost (seen_in c.args.slot ns) in
+    let Slot : ℕ → Type 0 = λ n. AreBehind c.self.inside.foremost (seen_in n c.self.inside.nodes.items) in
+    subst Behind (sym c.as_mut_slice.ensures.value) (subst Slot (sym at) c.self.invariant.ranks)
+
 pub invariant_of-self : goal.invariant_of-self
 invariant_of-self c =
     let v = c.self.inside.nodes in
@@ -35,6 +43,8 @@ invariant_of-self c =
     let P : List Scheduled → Type 0 = λ ts. IsSound (record { slot = c.args.slot + 1; scheduled = ts }) in
     let as_seen = seen_written v _ _ (c.args.slot + 1) c.args.slot f c.as_mut_slice.ensures.value
     c.play_later-used.ensures.seen in
+    let Behind : List Scheduled → Type 0 = λ ts. AreBehind c.self.inside.foremost ts in
+    let BehindAt : ℕ → Type 0 = λ n. Behind (seen_in n v.items) in
     let as_written = written_all v _ _ (c.args.slot + 1) c.args.slot f c.as_mut_slice.ensures.value
     c.play_later-used.ensures.seen in
     record {
@@ -49,6 +59,8 @@ invariant_of-self c =
         as_long v c.play_later-used.new.nodes,
         as_long c.self.inside.listed c.play_later-used.new.listed,
       );
+      ranks = subst Behind (sym as_seen) (All-map (λ (t : Scheduled). IsNotBehind c.self.inside.foremost t.item.rank) f
+          (seen_in c.args.slot v.items) (subst BehindAt (sym at) c.self.invariant.ranks));
     }
 
 pub returns-clause-chosen : goal.returns-clause-chosen

@@ -6,7 +6,8 @@ use Rattle.scheduler.specs.Message.{stopped_at}
 use Rattle.scheduler.specs.Completed.{completed}
 use Rattle.scheduler.specs.Follows.{PlanState, Follows, messages_of, message_of, next_slot}
 use Rattle.scheduler.specs.PlanSteps.{IsSound, scheduled_stopped}
-use Rattle.scheduler.specs.QueueSteps.{AreSettled, AreRising, seen_in}
+use Rattle.scheduler.specs.QueueSteps.{AreSettled, AreRising, AreBehind, IsNotBehind, seen_in}
+use Rattle.std.proofs.lemmas.List.Elements.{All-map}
 use Rattle.scheduler.proofs.Followed.{IsSound-stop, Follows-stop, completed-kept, messages_of-stopped}
 use Rattle.scheduler.proofs.Planned.{as_long, plan_rising, written_all, seen_written}
 use Rattle.scheduler.proofs.plan.Plan.stop.Goals as goal
@@ -37,6 +38,8 @@ invariant_of-self c =
     (t.item.entry == c.args.entry) c.args.slot t) c.as_mut_slice.ensures.value c.stop.ensures.seen in
     let Slot : ℕ → Type 0 = λ n. IsSound (record { slot = n; scheduled = seen_in n v.items }) in
     let P : List Scheduled → Type 0 = λ ts. IsSound (record { slot = c.args.slot; scheduled = ts }) in
+    let Behind : List Scheduled → Type 0 = λ ts. AreBehind c.self.inside.foremost ts in
+    let BehindAt : ℕ → Type 0 = λ n. Behind (seen_in n v.items) in
     rw (← at) record {
       plan = record {
         sound = subst P (sym over) (IsSound-stop plan c.args.entry c.args.slot (subst Slot (sym at)
@@ -46,6 +49,9 @@ invariant_of-self c =
             c.as_mut_slice.ensures.value c.stop.ensures.seen)) c.stop.ensures.kept;
       };
       room = omega (arith, c.self.invariant.room, as_long v c.stop.new.nodes);
+      ranks = subst Behind (sym over) (All-map (λ (t : Scheduled). IsNotBehind c.self.inside.foremost t.item.rank)
+          (λ (t : Scheduled). scheduled_stopped (t.item.entry == c.args.entry) c.args.slot t)
+          (seen_in c.args.slot v.items) (subst BehindAt (sym at) c.self.invariant.ranks));
     }
 
 pub returns-clause-completed : goal.returns-clause-completed

@@ -7,7 +7,7 @@ use Rattle.scheduler.specs.QueueSteps.{joined, own, kept_in, with_below, IsNode}
 use Rattle.scheduler.proofs.FirstTurn.{blank}
 use Rattle.scheduler.proofs.Ended.{built_kept, built_node}
 use Rattle.scheduler.proofs.Tree.{IsNode-past}
-use Rattle.scheduler.proofs.settled.build.Goals as goal
+use Rattle.scheduler.proofs.tournament.build.Goals as goal
 
 pub loop-left-init : goal.loop-left-init
 loop-left-init c = (omega arith, (refl, λ k past. IsNode-past c.args.nodes.now k past))

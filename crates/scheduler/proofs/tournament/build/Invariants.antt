@@ -1,6 +1,6 @@
 use Rattle.std.proofs.Common.{◌≡◌, ℕ, ◌≤◌, length}
 use Rattle.scheduler.specs.QueueSteps.{IsNode, kept_in}
-use Rattle.scheduler.proofs.settled.build.Given as goal
+use Rattle.scheduler.proofs.tournament.build.Given as goal
 
 abbrev pub decreases-loop-left : goal.decreases-loop-left
 decreases-loop-left l = l.left
