@@ -9,7 +9,7 @@ use Rattle.cbs_page.specs.declared.coding.Alphabet.{Alphabet}
 use Rattle.cbs_page.specs.declared.content.Content.{Content}
 
 -- a function of the rest of a list, where the rest begins with c
-at_place : {Y : Type 0} (f : List ℕ → Y) (cs : List ℕ) (n c : ℕ) → n < length cs → c ≡ get_or cs n c
+pub at_place : {Y : Type 0} (f : List ℕ → Y) (cs : List ℕ) (n c : ℕ) → n < length cs → c ≡ get_or cs n c
     → f (drop n cs) ≡ f (c ∷ drop (n + 1) cs)
 at_place f cs n c lt is = at_drop_more f cs n c lt ∙ ap (λ x. f (x ∷ drop (n + 1) cs)) (sym is)
 

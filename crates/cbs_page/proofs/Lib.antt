@@ -8,6 +8,9 @@ pub mod PaginateLaws
 pub mod LongTexts
 pub mod PlainLaws
 pub mod OwnSeptets
+pub mod CodeCuts
+pub mod SpellingLaws
+pub mod SentLaws
 pub mod CodingLaws
 pub mod ComesBack
 pub mod OneText

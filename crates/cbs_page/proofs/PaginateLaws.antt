@@ -26,7 +26,7 @@ one_more : (n : ℕ) → suc n ≡ 1 + n
 one_more n = suc-eq-add-one n ∙ add_comm n 1
 
 -- how many pieces a cutting has
-count_of_cuts : (codes : ℕ → List ℕ) (limit : ℕ) (piece rest : List ℕ) →
+pub count_of_cuts : (codes : ℕ → List ℕ) (limit : ℕ) (piece rest : List ℕ) →
     length (cuts_from codes limit piece rest) ≡ count_from codes limit (length piece) rest
 count_of_cuts codes limit piece [] = refl
 count_of_cuts codes limit piece (c ∷ rest) =

@@ -5,14 +5,16 @@
 //! `push_page_text` puts it behind another. The texts of a text's pages, joined, are the text.
 #![tactic(auto)]
 
-mod builder;
 pub mod coding;
 pub mod content;
+mod cost;
 mod laws;
 pub mod octets;
+mod pages;
 pub mod paging;
 mod plain;
 pub mod serial;
+mod spelling;
 pub mod text;
 
 pub use coding::{Alphabet, Dcs, language_dcs};

@@ -1,30 +1,26 @@
 //! The pages of a text: which alphabet it gets, how it is cut, and what each page holds (3GPP TS 23.041, clause
 //! 9.4.1.2.5; the cutting is this project's own: each page takes all that it can, and an escape pair is never split).
 
-ghost use Rattle.std.specs.Prelude.{◌≡◌, ◌≢◌, ℕ, ◌≤◌, List, [], ◌∷◌, true, length, nat_lt, IfOk, IfErr, position};
-ghost use Rattle.std.specs.Prelude.{is_some};
+ghost use Rattle.std.specs.Prelude.{◌≡◌, ◌≢◌, ◌≤◌, [], true, length, IfOk, IfErr, position, is_some};
 ghost use Rattle.std.specs.List.{list_all};
 ghost use Rattle.std.specs.Str.{chars};
 ghost use Rattle.gsm_alphabet.specs.Alphabet.{code_of};
-ghost use Rattle.cbs_page.specs.PagingSteps.{HoldText, TakesPages, is_own_septet};
-ghost use Rattle.cbs_page.specs.Coding.{language_value};
-ghost use Rattle.cbs_page.specs.Text.{is_bad, alphabet_for, coding_for, AreContentsOf, IsTextFault, IsPagedText};
+ghost use Rattle.cbs_page.specs.PagingSteps.{IsPaged, IsPagingFault, fault_for};
+ghost use Rattle.cbs_page.specs.Text.{is_bad, IsTextFault, IsPagedText};
 ghost use Rattle.cbs_page.specs.Text.{ShowsText};
 ghost use Rattle.cbs_page.specs.Text.{max_pages};
 
-use crate::builder::PageBuilder;
-use crate::coding::{Alphabet, Dcs, language_dcs};
+use crate::coding::{Dcs, language_dcs};
 use crate::content::Content;
-use crate::plain::{are_own_septets, contents_of_septets};
+use crate::pages::{paged_septets, paged_units};
+use crate::plain::are_own_septets;
+use crate::spelling::{is_bad_character, septets_of_text, units_of_text};
 use gsm_alphabet::encode_char;
-use std::alloc::{AllocError, Global};
+use std::alloc::Global;
 use thiserror::Error;
 
 /// The most pages that a message has (3GPP TS 23.041, clause 9.4.1.2.4).
 pub const MAX_PAGES: usize = 15;
-
-/// The most characters that 15 pages hold, 93 septets each.
-const MAX_CHARACTERS: usize = 1395;
 
 /// A text as it is sent: its data coding, and 1 to 15 pages.
 #[derive(Debug, Drop)]
@@ -77,56 +73,39 @@ pub fn paginate(alloc: Global, text: &str, language: &str) -> Result<Paged, Text
     if text.is_empty() {
         return Err(TextFault::Empty);
     }
+    paged_text(alloc, text, value)
+}
+
+/// The pages of a text in the language with this data coding value. Most texts are ASCII, or else GSM 7-bit: these are
+/// tried first, and where they don't succeed, a second look says why.
+fn paged_text(alloc: Global, text: &str, value: u8) -> Result<Paged, TextFault>
+    requires { chars text.now ≢ [] }
+    ensures sent { IfOk result (IsPaged value (chars text.now)) }
+    ensures fault { IfErr result (IsPagingFault (chars text.now)) }
+{
     if are_own_septets(text.as_bytes()) {
-        return paginate_septets(alloc, text, value);
+        return paged_septets(alloc, text.as_bytes(), Dcs(value));
     }
-    if let Some(place) = bad_place(text) {
-        return Err(TextFault::BadCharacter { place });
+    if let Some(septets) = septets_of_text(text) {
+        return paged_septets(alloc, septets.as_slice(), Dcs(value));
     }
-    if has_too_many_characters(text) {
-        return Err(TextFault::TooManyPages);
+    if is_gsm(text) {
+        return Err(fault_of_text(text));
     }
-    let alphabet = alphabet_of_text(text);
-    if page_count(text, alphabet) > MAX_PAGES {
-        return Err(TextFault::TooManyPages);
-    }
-    match contents_of_text(alloc, text, alphabet) {
-        Ok(pages) => Ok(Paged {
-            dcs: coding(alphabet, value),
-            pages,
-        }),
-        Err(_) => Err(TextFault::Refused),
+    match units_of_text(text) {
+        Some(units) => paged_units(alloc, units.as_slice()),
+        None => Err(fault_of_text(text)),
     }
 }
 
-/// The pages of a text whose octets are its septets, in the language with this data coding value.
-fn paginate_septets(alloc: Global, text: &str, value: u8) -> Result<Paged, TextFault>
-    requires some { chars text.now ≢ [] }
-    requires own { list_all is_own_septet text.now ≡ true }
-    ensures sent { IfOk result (λ paged. (language : List ℕ) → language_value language ≡ Some value
-        → IsPagedText language (chars text.now) paged) }
-    ensures shown { IfOk result (λ paged. ShowsText (chars text.now) paged) }
-    ensures count { IfOk result (λ paged. (1 ≤ length paged.pages.items) × (length paged.pages.items ≤ max_pages)) }
-    ensures fault { IfErr result (λ fault. (language : List ℕ) → language_value language ≡ Some value
-        → IsTextFault language (chars text.now) fault) }
+/// Why a text of more codes than are sent, or with a character that can't be sent, isn't sent.
+fn fault_of_text(text: &str) -> TextFault
+    ensures { result ≡ fault_for (position is_bad (chars text.now)) }
 {
-    if text.len() > MAX_CHARACTERS {
-        return Err(TextFault::TooManyPages);
+    match bad_place(text) {
+        Some(place) => TextFault::BadCharacter { place },
+        None => TextFault::TooManyPages,
     }
-    match contents_of_septets(alloc, text.as_bytes()) {
-        Ok(pages) => Ok(Paged {
-            dcs: Dcs(value),
-            pages,
-        }),
-        Err(_) => Err(TextFault::Refused),
-    }
-}
-
-/// Whether a character can't be sent.
-fn is_bad_character(character: char) -> bool
-    ensures { result ≡ is_bad character }
-{
-    (character < ' ' && character != '\n') || character > '\u{FFFF}'
 }
 
 /// The place of the first character that can't be sent.
@@ -134,24 +113,6 @@ fn bad_place(text: &str) -> Option<usize>
     ensures { result ≡ position is_bad (chars text.now) }
 {
     text.chars().position(is_bad_character)
-}
-
-/// Whether a text has more characters than 15 pages of septets hold: then it needs no look at its alphabet.
-fn has_too_many_characters(text: &str) -> bool
-    ensures { result ≡ nat_lt 1395 (length (chars text.now)) }
-{
-    text.chars().nth(MAX_CHARACTERS).is_some()
-}
-
-/// The alphabet of a text.
-fn alphabet_of_text(text: &str) -> Alphabet
-    ensures { result ≡ alphabet_for (chars text.now) }
-{
-    if is_gsm(text) {
-        Alphabet::Gsm
-    } else {
-        Alphabet::Ucs2
-    }
 }
 
 /// Whether the GSM 7-bit alphabet has each character of a text.
@@ -166,58 +127,4 @@ fn has_code(character: char) -> bool
     ensures { result ≡ is_some (code_of character) }
 {
     encode_char(character).is_some()
-}
-
-/// The data coding of a text in this alphabet, if its language has this value.
-fn coding(alphabet: Alphabet, value: u8) -> Dcs
-    ensures { result.0 ≡ coding_for alphabet value }
-{
-    match alphabet {
-        Alphabet::Gsm => Dcs(value),
-        Alphabet::Ucs2 => Dcs::UCS2,
-    }
-}
-
-/// How many pages a text takes; for no text, one.
-fn page_count(text: &str, alphabet: Alphabet) -> usize
-    ensures counted { chars text.now ≢ [] → TakesPages alphabet (chars text.now) result }
-    ensures empty { chars text.now ≡ [] → result ≡ 1 }
-{
-    let capacity = alphabet.capacity();
-    let mut pages = 1;
-    let mut used = 0;
-    for character in text.chars() {
-        let cost = alphabet.cost(character);
-        if used + cost <= capacity {
-            used += cost;
-        } else {
-            pages += 1;
-            used = cost;
-        }
-    }
-    pages
-}
-
-/// The contents of a text's pages; of no text, a page that is all filling.
-fn contents_of_text(
-    alloc: Global,
-    text: &str,
-    alphabet: Alphabet,
-) -> Result<Vec<Content>, AllocError>
-    ensures held { IfOk result (λ pages. chars text.now ≢ [] → HoldText alphabet (chars text.now) pages.items) }
-    ensures empty { IfOk result (λ pages. chars text.now ≡ [] → AreContentsOf alphabet ([] ∷ []) pages.items) }
-{
-    let capacity = alphabet.capacity();
-    let mut pages = Vec::new(alloc);
-    let mut piece = PageBuilder::new(alphabet);
-    for character in text.chars() {
-        if piece.len() + alphabet.cost(character) <= capacity {
-            piece.push(character);
-        } else {
-            pages.push(piece.content())?;
-            piece = PageBuilder::with_first(alphabet, character);
-        }
-    }
-    pages.push(piece.content())?;
-    Ok(pages)
 }
