@@ -13,10 +13,10 @@ use Rattle.warnc_inspect.specs.declared.table.Table.{Table}
 
 -- the table has these octets, and the last of its rows is ended
 pub record IsTable (table : Table) (octets : List ℕ) : Type 0 where
-  pub text : text_written (λ v. Some v.items) table.writer ≡ Some octets
-  pub setup : writer_setup table.writer ≡ default_writer
-  pub ended : fields_written table.writer ≡ 0
-  pub clean : has_written table.writer ≡ false
+  pub text : text_written (λ v. Some v.items) table.writer.value ≡ Some octets
+  pub setup : writer_setup table.writer.value ≡ default_writer
+  pub ended : fields_written table.writer.value ≡ 0
+  pub clean : has_written table.writer.value ≡ false
 
 -- the fault that a fault of tapes is reported as, name by name as in the code
 abbrev pub fault_of_tapes : TapeFault → ReadCommandFault

@@ -44,7 +44,7 @@ pub(crate) fn table_of_pages(
 fn page_columns(alloc: Global) -> Result<Table, AllocError>
     ensures { IfOk result (λ table. IsTable table page_columns) }
 {
-    let mut table = Table::empty(alloc);
+    let mut table = Table::empty(alloc)?;
     table.push_row(&[
         b"page",
         b"pages",

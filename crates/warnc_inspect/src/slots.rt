@@ -35,7 +35,7 @@ impl SlotTable {
         ensures table { IfOk result (λ slots. IsTable slots.table slot_columns) }
         ensures wanted { IfOk result (λ slots. slots.wanted ≡ wanted) }
     {
-        let mut table = Table::empty(alloc);
+        let mut table = Table::empty(alloc)?;
         table.push_row(&[b"lac", b"ci", b"slot", b"id", b"serial", b"page", b"pages"])?;
         Ok(SlotTable { wanted, table })
     }

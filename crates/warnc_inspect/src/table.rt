@@ -12,10 +12,11 @@ use handset::{Reading, Shown, TakesReadings};
 use itoa::Buffer;
 use std::alloc::{AllocError, Global};
 
-/// A table of the messages that cells showed: the row of the columns' names, and a row for each message.
+/// A table of the messages that cells showed: the row of the columns' names, and a row for each message. The writer's
+/// own buffer lies on the heap, so that a table is moved as cheaply as a list.
 #[derive(Drop)]
 pub struct Table {
-    writer: Writer<Vec<u8>>,
+    writer: Box<Writer<Vec<u8>>>,
 }
 
 /// Four lower hexadecimal digits.
@@ -40,18 +41,19 @@ impl Table {
     pub fn new(alloc: Global) -> Result<Table, AllocError>
         ensures { IfOk result (λ table. IsTable table (table_of [])) }
     {
-        let mut table = Table::empty(alloc);
+        let mut table = Table::empty(alloc)?;
         table.push_row(&[b"lac", b"ci", b"id", b"serial", b"text"])?;
         Ok(table)
     }
 
-    /// A table with no row.
-    pub(crate) fn empty(alloc: Global) -> Table
-        ensures { IsTable result [] }
+    /// A table with no row. The only error is out of memory.
+    pub(crate) fn empty(alloc: Global) -> Result<Table, AllocError>
+        ensures { IfOk result (λ table. IsTable table []) }
     {
-        Table {
-            writer: WriterBuilder::new().from_writer(Vec::new(alloc)),
-        }
+        let writer = WriterBuilder::new().from_writer(Vec::new(alloc));
+        Ok(Table {
+            writer: Box::new(alloc, writer)?,
+        })
     }
 
     /// Appends the rows of a reading. The cell's numbers are written once for all of them, and on the stack, as a row's
@@ -110,7 +112,7 @@ impl Table {
     pub fn into_octets(self) -> Result<Vec<u8>, AllocError>
         ensures { IfOk result (λ octets. (text : List ℕ) → IsTable self text → octets.items ≡ text) }
     {
-        match self.writer.into_inner() {
+        match Box::into_inner(self.writer).into_inner() {
             Ok(octets) => Ok(octets),
             Err(_) => Err(AllocError),
         }

@@ -6,4 +6,4 @@ use Rattle.warnc_inspect.proofs.table.Table.new.Goals as goal
 pub returns : goal.returns
 returns c =
     subst (λ (xs : List ℕ). IsTable c.push_row.new.self xs) (sym (append-nil header_row))
-    (c.in_ok-push_row.ensures [] c.empty-table.ensures)
+    (c.in_ok-push_row.ensures [] c.in_ok-table.ensures)
