@@ -6,8 +6,8 @@ use Rattle.std.specs.Fmt.{decimal}
 abbrev pub megaoctets_text : ℕ → List ℕ
 megaoctets_text octets = decimal (octets / 1_000_000) ++ (codes "." ++ decimal (octets / 100_000 % 10))
 
--- octets that were read and written, and seconds
-abbrev pub counts_text : ℕ → ℕ → ℕ → List ℕ
-counts_text read written seconds =
-    codes "warnc: " ++ (megaoctets_text read ++ (codes " MB read, " ++ (megaoctets_text written
-    ++ (codes " MB written, " ++ (decimal seconds ++ codes " s")))))
+-- octets that were read, cells that are done, octets that were written, and seconds
+abbrev pub counts_text : (read cells written seconds : ℕ) → List ℕ
+counts_text read cells written seconds =
+    codes "warnc: " ++ (megaoctets_text read ++ (codes " MB read, " ++ (decimal cells ++ (codes " cells done, "
+    ++ (megaoctets_text written ++ (codes " MB written, " ++ (decimal seconds ++ codes " s")))))))

@@ -22,13 +22,13 @@ pub record IsTimeToDraw (nanoseconds : ℕ) {E : Type 0} (line : Line E) : Type 
   pub stays : has_ended line ≡ false
 
 -- what is written to draw it after so many nanoseconds
-abbrev pub drawing : (read written nanoseconds : ℕ) → List ℕ
-drawing read written nanoseconds = codes "\r" ++ counts_text read written (nanoseconds / 1_000_000_000)
+abbrev pub drawing : (read cells written nanoseconds : ℕ) → List ℕ
+drawing read cells written nanoseconds = codes "\r" ++ counts_text read cells written (nanoseconds / 1_000_000_000)
 
 -- these octets are written to its screen
 abbrev pub Shows : {E : Type 0} → (held : E → Option (List ℕ)) → (old new : Line E) → List ℕ → Type 0
 Shows held old new octets = Appends (held (screen_of old)) (held (screen_of new)) octets
 
--- what is written to wipe it: 64 spaces, which is more than it has below 10 ^ 14 octets and a year
+-- what is written to wipe it: 78 spaces, as many signs as it has at most below 10 ^ 13 octets, 10 ^ 7 cells and a year
 abbrev pub wiping : List ℕ
-wiping = codes "\r                                                                \r"
+wiping = codes "\r                                                                              \r"

@@ -9,6 +9,8 @@ use std::fmt;
 pub struct Counts {
     /// Octets that were read.
     pub read: u64,
+    /// Cells of which all is done but the writing, or of which the tape is written.
+    pub cells: u64,
     /// Octets that were written.
     pub written: u64,
     /// Whole seconds since it began.
@@ -19,15 +21,16 @@ pub struct Counts {
 impl fmt::Display for Counts {
     ghost use Rattle.progress.specs.Counts.{counts_text};
 
-    ghost output = { λ counts. Some (counts_text counts.read counts.written counts.seconds) };
+    ghost output = { λ counts. Some (counts_text counts.read counts.cells counts.written counts.seconds) };
 
     fn fmt<W: fmt::Write>(&self, f: &mut fmt::Formatter<W>) -> fmt::Result {
         let read = Megaoctets(self.read);
+        let cells = self.cells;
         let written = Megaoctets(self.written);
         let seconds = self.seconds;
         write!(
             f,
-            "warnc: {read} MB read, {written} MB written, {seconds} s"
+            "warnc: {read} MB read, {cells} cells done, {written} MB written, {seconds} s"
         )
     }
 }

@@ -57,11 +57,11 @@ impl<E: Write> Line<E> {
     /// # Errors
     ///
     /// Those of the screen; then a part may stand on it.
-    pub fn draw(&mut self, read: u64, written: u64, elapsed: Duration) -> io::Result<()>
+    pub fn draw(&mut self, read: u64, cells: u64, written: u64, elapsed: Duration) -> io::Result<()>
         ensures early { as_nanos elapsed < 1_000_000_000 → self.new ≡ self.old }
         ensures ended { has_ended self.old ≡ true → self.new ≡ self.old }
         ensures drawn { IsTimeToDraw (as_nanos elapsed) self.old
-            → OnOk result (Shows E.contents self.old self.new (drawing read written (as_nanos elapsed))) }
+            → OnOk result (Shows E.contents self.old self.new (drawing read cells written (as_nanos elapsed))) }
         ensures stands { IsTimeToDraw (as_nanos elapsed) self.old → is_drawn self.new ≡ true }
         ensures ends_not { has_ended self.new ≡ has_ended self.old }
     {
@@ -70,6 +70,7 @@ impl<E: Write> Line<E> {
         }
         let counts = Counts {
             read,
+            cells,
             written,
             seconds: elapsed.as_secs(),
         };
@@ -95,7 +96,7 @@ impl<E: Write> Line<E> {
         self.is_drawn = false;
         write!(
             self.screen,
-            "\r                                                                \r"
+            "\r                                                                              \r"
         )
     }
 }

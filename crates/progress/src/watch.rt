@@ -8,24 +8,29 @@ use std::thread;
 use std::thread::Threads;
 use std::time::{Clock, Duration, Instant};
 
-/// How many octets a run has read and written so far, and the line that shows it. No contract says what several
-/// threads make of it; what each change does to the line is said at [`Line`].
+/// How many octets a run has read and written so far, how many cells it has done, and the line that shows it. No
+/// contract says what several threads make of it; what each change does to the line is said at [`Line`].
 #[derive(Drop)]
 pub struct Progress<E> {
     read: AtomicU64,
+    cells: AtomicU64,
     written: AtomicU64,
     line: Mutex<Line<E>>,
     ended: Condvar,
+    /// When the work began, if no thread draws beside it.
+    alone_since: Mutex<Option<Instant>>,
 }
 
 impl<E> Progress<E> {
-    /// A run that has read and written nothing, with nothing on the screen.
+    /// A run that has read, done and written nothing, with nothing on the screen.
     pub fn new(screen: E) -> Self {
         Progress {
             read: AtomicU64::new(0),
+            cells: AtomicU64::new(0),
             written: AtomicU64::new(0),
             line: Mutex::new(Line::new(screen)),
             ended: Condvar::new(),
+            alone_since: Mutex::new(None),
         }
     }
 
@@ -46,13 +51,32 @@ impl<E> Progress<E> {
 }
 
 impl<E: Write> Progress<E> {
+    /// Counts a cell that is done. Where no thread draws, the line is drawn here.
+    pub fn add_cell<T: Wait + Clock>(&self, rt: &T) {
+        self.cells.fetch_add(1, Ordering::SeqCst);
+        let since = *self.alone_since.lock(rt);
+        if let Some(start) = since
+            && let Ok(elapsed) = start.elapsed(rt)
+        {
+            self.draw(rt, elapsed);
+        }
+    }
+
+    /// Has the work draw the line, as no thread can.
+    fn draw_alone<T: Wait + Clock>(&self, rt: &T) {
+        if let Ok(start) = Instant::now(rt) {
+            *self.alone_since.lock(rt) = Some(start);
+        }
+    }
+
     /// Draws the line for a run that has taken so long, and returns whether there is to be a next time: not once it
     /// has ended or the screen has failed.
     pub fn draw<T: Wait>(&self, rt: &T, elapsed: Duration) -> bool {
         let read = self.read.load(Ordering::SeqCst);
+        let cells = self.cells.load(Ordering::SeqCst);
         let written = self.written.load(Ordering::SeqCst);
         let mut line = self.line.lock(rt);
-        line.draw(read, written, elapsed).is_ok() && !line.has_ended()
+        line.draw(read, cells, written, elapsed).is_ok() && !line.has_ended()
     }
 
     /// Wipes the line, and ends the drawing for good.
@@ -86,7 +110,7 @@ impl<E: Write> Progress<E> {
 }
 
 /// Does the work and returns what it returns, while a thread of its own draws its progress each second. If no thread
-/// can be made, nothing is drawn.
+/// can be made, the work draws it with each cell that is done.
 pub fn watched<T: Threads + Wait + Clock + Sync, E: Write + Send, U, F: FnOnce() -> U>(
     rt: &T,
     progress: &Progress<E>,
@@ -102,7 +126,9 @@ pub fn watched<T: Threads + Wait + Clock + Sync, E: Write + Send, U, F: FnOnce()
             requires { F.pre work }
             ensures { F.post work result }
         {
-            let _ = scope.spawn(|| progress.watch(rt));
+            if scope.spawn(|| progress.watch(rt)).is_err() {
+                progress.draw_alone(rt);
+            }
             let result = work();
             progress.end(rt);
             result

@@ -37,7 +37,7 @@ fn octets_pass(rt: HostRuntime) {
 
 #[test]
 fn octets_are_counted(rt: HostRuntime) {
-    let mut room = [0; 64];
+    let mut room = [0; 72];
     let progress = Progress::new(room.as_mut_slice());
     let mut reader = CountedReader::new(&progress, io::repeat(0));
     let mut writer = CountedWriter::new(&progress, io::sink());
@@ -47,7 +47,7 @@ fn octets_are_counted(rt: HostRuntime) {
     }
     progress.draw(&rt, Duration::from_secs(1));
     drop(progress);
-    assert!(rt; room.starts_with(b"\rwarnc: 0.1 MB read, 0.2 MB written, 1 s"));
+    assert!(rt; room.starts_with(b"\rwarnc: 0.1 MB read, 0 cells done, 0.2 MB written, 1 s"));
 }
 
 #[test]
@@ -70,5 +70,5 @@ fn a_write_to_the_same_screen_ends_the_line(rt: HostRuntime) {
     let mut faults = EndingWriter::new(&rt, &progress, Screen { written: &written });
     let _ = faults.write(b"warnc: read failed\n");
     assert!(rt; !progress.draw(&rt, Duration::from_secs(2)));
-    assert_eq!(rt; written.load(Ordering::SeqCst), 40 + 66 + 19);
+    assert_eq!(rt; written.load(Ordering::SeqCst), 54 + 80 + 19);
 }
