@@ -4,6 +4,7 @@ pub mod Serving
 pub mod Written
 pub mod Asked
 mod ApartLaws
+mod InTurn
 pub mod FirstFault
 pub mod OneOutput
 pub mod ReportColumns

@@ -10,6 +10,7 @@ ghost use Rattle.warnc_run.specs.ApartSteps.{records_in, served_with, AreSome, A
 ghost use Rattle.warnc_run.specs.Faults.{IsOfBook};
 ghost use Rattle.warnc_run.specs.RunSteps.{HaveRunLive, IsSomeBook};
 
+use crate::alone::records_alone;
 use crate::fault::RunFault;
 use crate::run::{Sessions, Workers};
 use crate::tapes::records_after;
@@ -40,8 +41,8 @@ impl<G: Gate> Gate for PartGate<'_, G> {
 
 /// The records of some of a book's cells, to which a session of its own orders what the book orders of them; none if
 /// there is no memory, or the run ended early.
-fn records_of_part<T: AllocGlobal + Threads + Wait + Sync, G: Gate>(
-    rt: &T,
+fn records_of_part<G: Gate>(
+    alloc: Global,
     book: &Book,
     slots: u16,
     cells: &[Cell],
@@ -53,17 +54,10 @@ fn records_of_part<T: AllocGlobal + Threads + Wait + Sync, G: Gate>(
     // The book of some cells is fit to be run at a desk, and so is a copy of it.
     book_runs::cells_law();
     book_runs::served_parts_law();
-    let Ok(part) = book.part(rt.alloc(), cells) else {
+    let Ok(part) = book.part(alloc, cells) else {
         return None;
     };
-    match records_after(
-        rt,
-        &part,
-        slots,
-        Sessions { number: 1 },
-        Workers { number: 1 },
-        gate,
-    ) {
+    match records_alone(alloc, &part, slots, gate) {
         Ok(records) => Some(records),
         Err(_) => None,
     }
@@ -97,7 +91,7 @@ fn records_of_parts<T: AllocGlobal + Threads + Wait + Sync, G: Gate>(
             requires { IsSomeBook book.now }
             ensures { IfSome result (λ records.
                 IsServedPart book.entry.now slots (served_with cells.entry.now records.items)) }
-        { records_of_part(rt, book, slots, cells, &PartGate { gate, first }) },
+        { records_of_part(rt.alloc(), book, slots, cells, &PartGate { gate, first }) },
     );
     match made {
         Ok(parts) => Some(parts),

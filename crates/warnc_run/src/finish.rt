@@ -7,6 +7,7 @@ ghost use Rattle.cbch_blocks.specs.RecordBlocks.{tape_of_record};
 ghost use Rattle.device_ends.specs.Sink.{sink_failed, writer_of};
 ghost use Rattle.warnc_run.specs.RunSteps.{TakesFront};
 
+use crate::watch::Watch;
 use bsc_table::CellRecord;
 use cbch_blocks::{Tape, WriteFailed};
 use device_ends::Sink;
@@ -33,11 +34,12 @@ pub(crate) fn write_tapes<W: Write>(tapes: &[Tape], sink: &mut Sink<W>) -> Resul
 }
 
 /// Writes the tapes of records, one after the other, each in the memory of a tape that has as many octets: so one of
-/// them alone is held, and memory can't run out once octets are written.
-pub(crate) fn write_in_turn<W: Write>(
+/// them alone is held, and memory can't run out once octets are written. `watch` is told of each.
+pub(crate) fn write_in_turn<W: Write, G: Watch>(
     mut tape: Tape,
     records: &[CellRecord],
     sink: &mut Sink<W>,
+    watch: &G,
 ) -> Result<(), WriteFailed>
     requires some { 0 < length tape }
     requires same { All (λ r. length (tape_of_record r) ≡ length tape) records.now }
@@ -55,6 +57,7 @@ pub(crate) fn write_in_turn<W: Write>(
     for record in records {
         tape.become_that_of(record);
         tape.write_to(sink)?;
+        watch.done();
     }
     Ok(())
 }

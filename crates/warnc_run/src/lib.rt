@@ -8,12 +8,13 @@
 //! it is settled; one worker hands on nothing: each tape is made of its record when it is written.
 //! [`live_stream`] and [`compile_stream`] are that for the tapes of a book, [`run_book`] gives the records, and
 //! [`run_with_book`] and [`run_group`] give them with the book or with that of a group.
-//! [`run_strictly`] writes only of a run in which every order was done.
+//! [`run_strictly`] writes only of a run in which every order was done. A [`Watch`] is told of each cell that is done.
 //!
 //! What was written is said by definitions of the book's octets alone (`IsMadeBy`), which know of no worker: which
 //! orders each cell answered, at which slot, and what a handset shows that reads its tape.
 #![tactic(auto)]
 
+mod alone;
 mod apart;
 mod book;
 mod fault;
@@ -22,6 +23,7 @@ mod groups;
 mod laws;
 mod live;
 mod network;
+mod octets;
 mod output;
 mod parts;
 pub mod product;
@@ -34,13 +36,16 @@ mod settled;
 pub mod strict;
 mod tapes;
 mod text;
+mod watch;
 mod workers;
 
 pub use fault::RunFault;
 pub use groups::groups_stream;
 pub use laws::{first_shown_law, output_laws, report_column_laws, whole_laws};
 pub use live::{compile_stream, live_stream};
+pub use octets::product_alone;
 pub use product::{Product, ProductFault, run_product};
 pub use records::{RanBook, run_book, run_group, run_with_book};
 pub use run::{BookRun, Books, Run, Sessions, Workers};
 pub use strict::{StrictFault, run_strictly};
+pub use watch::Watch;

@@ -16,6 +16,7 @@ use crate::book::book_from;
 use crate::fault::RunFault;
 use crate::output::write_run;
 use crate::run::{Sessions, Workers};
+use crate::watch::{GateAlone, Watch};
 use alert_book::Origin;
 use device_ends::{Sink, Source};
 use order_desk::{Gate, Open};
@@ -128,7 +129,7 @@ pub fn live_stream<T: AllocGlobal + Threads + Wait + Sync, R: Read, W: Write, G:
         slots,
         sessions,
         workers,
-        gate,
+        &GateAlone { gate },
     )
 }
 
@@ -138,7 +139,7 @@ pub fn live_stream<T: AllocGlobal + Threads + Wait + Sync, R: Read, W: Write, G:
 /// # Errors
 ///
 /// Returns the faults of [`live_stream`], and [`RunFault::NoGroup`] with nothing written.
-pub(crate) fn write_tapes_from<T: AllocGlobal + Threads + Wait + Sync, R: Read, W: Write, G: Gate>(
+pub(crate) fn write_tapes_from<T: AllocGlobal + Threads + Wait + Sync, R: Read, W: Write, G: Watch>(
     rt: &T,
     source: &mut Source<R>,
     sink: &mut Sink<W>,
@@ -146,7 +147,7 @@ pub(crate) fn write_tapes_from<T: AllocGlobal + Threads + Wait + Sync, R: Read, 
     slots: u16,
     sessions: Sessions,
     workers: Workers,
-    gate: &G,
+    watch: &G,
 ) -> Result<(), RunFault>
     ensures ok { IsMade result R.remaining W.contents (IsLiveFrom origin slots sessions.number) source.old source.new
         sink.old sink.new }
@@ -161,6 +162,6 @@ pub(crate) fn write_tapes_from<T: AllocGlobal + Threads + Wait + Sync, R: Read, 
     book_runs::session_laws();
     bsc_table::legal_histories();
     let book = book_from(rt, source, origin)?;
-    write_run(rt, book, sink, slots, sessions, workers, gate)?;
+    write_run(rt, book, sink, slots, sessions, workers, watch)?;
     Ok(())
 }

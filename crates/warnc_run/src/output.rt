@@ -10,11 +10,11 @@ use crate::fault::RunFault;
 use crate::finish::{write_in_turn, write_tapes};
 use crate::run::{Sessions, Workers};
 use crate::tapes::tapes_by_several;
+use crate::watch::{Watch, tell};
 use alert_book::Book;
 use cbch_blocks::Tape;
 use cbsp_wire::Cell;
 use device_ends::Sink;
-use order_desk::Gate;
 use std::alloc::AllocGlobal;
 use std::io::Write;
 use std::sync::Wait;
@@ -23,14 +23,14 @@ use std::thread::Threads;
 /// Runs the sessions of a book's parts, and writes the tapes of its cells. They are made of the settled records, each
 /// once, so there is nothing to compare, and they are made as they are written: one alone is held, whose memory is
 /// taken before the first octet is written.
-fn write_by_records<T: AllocGlobal + Threads + Wait + Sync, W: Write, G: Gate>(
+fn write_by_records<T: AllocGlobal + Threads + Wait + Sync, W: Write, G: Watch>(
     rt: &T,
     book: Book,
     sink: &mut Sink<W>,
     slots: u16,
     sessions: Sessions,
     workers: Workers,
-    gate: &G,
+    watch: &G,
 ) -> Result<(), RunFault>
     requires book { IsSomeBook book }
     ensures ok { OnOk result (HasWritten book slots sessions.number (W.contents (writer_of sink.old))
@@ -45,25 +45,25 @@ fn write_by_records<T: AllocGlobal + Threads + Wait + Sync, W: Write, G: Gate>(
 {
     // The tapes of a run have one size.
     book_runs::session_laws();
-    let records = records_of_run(rt, &book, slots, sessions, workers, gate)?;
+    let records = records_of_run(rt, &book, slots, sessions, workers, watch)?;
     drop(book);
     // any cell will do: every octet is overwritten
     let tape = Tape::open(rt.alloc(), Cell { lac: 0, ci: 0 }, slots)?;
-    match write_in_turn(tape, &records, sink) {
+    match write_in_turn(tape, &records, sink, watch) {
         Ok(()) => Ok(()),
         Err(failed) => Err(RunFault::Write(failed)),
     }
 }
 
 /// Writes the tapes of several sessions with several workers. All tapes are made before the first octet is written.
-fn write_by_several<T: AllocGlobal + Threads + Wait + Sync, W: Write, G: Gate>(
+fn write_by_several<T: AllocGlobal + Threads + Wait + Sync, W: Write, G: Watch>(
     rt: &T,
     book: &Book,
     sink: &mut Sink<W>,
     slots: u16,
     sessions: Sessions,
     workers: Workers,
-    gate: &G,
+    watch: &G,
 ) -> Result<(), RunFault>
     requires book { IsSomeBook book.now }
     ensures ok { OnOk result (HasWritten book.now slots sessions.number (W.contents (writer_of sink.old))
@@ -75,7 +75,8 @@ fn write_by_several<T: AllocGlobal + Threads + Wait + Sync, W: Write, G: Gate>(
     ensures write { IfErr result (λ fault. IsWriteFault fault → sink_failed sink.new ≡ true) }
     ensures stays { sink_failed sink.old ≡ true → sink.new ≡ sink.old }
 {
-    let tapes = tapes_by_several(rt, book, slots, sessions, workers, gate)?;
+    let tapes = tapes_by_several(rt, book, slots, sessions, workers, watch)?;
+    tell(watch, tapes.len());
     match write_tapes(&tapes, sink) {
         Ok(()) => Ok(()),
         Err(fault) => Err(RunFault::Write(fault)),
@@ -84,14 +85,14 @@ fn write_by_several<T: AllocGlobal + Threads + Wait + Sync, W: Write, G: Gate>(
 
 /// Runs the sessions of a book's parts, and writes the tapes of its cells. Nothing is written before the desk is
 /// settled.
-pub(crate) fn write_run<T: AllocGlobal + Threads + Wait + Sync, W: Write, G: Gate>(
+pub(crate) fn write_run<T: AllocGlobal + Threads + Wait + Sync, W: Write, G: Watch>(
     rt: &T,
     book: Book,
     sink: &mut Sink<W>,
     slots: u16,
     sessions: Sessions,
     workers: Workers,
-    gate: &G,
+    watch: &G,
 ) -> Result<(), RunFault>
     requires book { IsSomeBook book }
     ensures ok { OnOk result (HasWritten book slots sessions.number (W.contents (writer_of sink.old))
@@ -105,8 +106,8 @@ pub(crate) fn write_run<T: AllocGlobal + Threads + Wait + Sync, W: Write, G: Gat
     ensures stays { sink_failed sink.old ≡ true → sink.new ≡ sink.old }
 {
     if workers.number == 1 || sessions.number == 1 {
-        write_by_records(rt, book, sink, slots, sessions, workers, gate)
+        write_by_records(rt, book, sink, slots, sessions, workers, watch)
     } else {
-        write_by_several(rt, &book, sink, slots, sessions, workers, gate)
+        write_by_several(rt, &book, sink, slots, sessions, workers, watch)
     }
 }

@@ -10,12 +10,12 @@ use crate::live::write_tapes_from;
 use crate::network::write_network;
 use crate::run::{Books, Run};
 use crate::text::write_text_from;
+use crate::watch::Watch;
 use alert_book::Origin;
 use cbsp_wire::Cell;
 use chart::View;
 use device_ends::{Sink, Source};
 use gsmtap::Start;
-use order_desk::Gate;
 use report::Layout;
 use std::alloc::AllocGlobal;
 use std::io::{Read, Write};
@@ -77,8 +77,8 @@ impl From<RunFault> for ProductFault {
 /// The book's sessions order at a desk as [`live_stream`](crate::live_stream) says. What was written is what the octets
 /// mean (`IsMadeBy`): the tapes of the cells; or the report of what became of each order, or the chart of it, by the
 /// settled desk's records and by what handsets read of their tapes; or the orders file of a cell, the link, or the
-/// loads, by these records; or the report, the loads and the chart. It does not depend on the number of workers. `gate`
-/// is called while a cell is held, but not for the groups of a network.
+/// loads, by these records; or the report, the loads and the chart. It does not depend on the number of workers.
+/// `watch` is called while a cell is held, and told of each that is done, but not for the groups of a network.
 ///
 /// # Errors
 ///
@@ -87,13 +87,13 @@ impl From<RunFault> for ProductFault {
 /// Of a network [`RunFault::Book`] with nothing written, [`ProductFault::Group`] with the first group that has no part,
 /// after those before it are written, and `WriteFailed` with a front of the parts of the first groups. The fault of a
 /// group is one that the run of its book by one worker has, or `Refused`.
-pub fn run_product<T: AllocGlobal + Threads + Wait + Sync, R: Read, W: Write, G: Gate>(
+pub fn run_product<T: AllocGlobal + Threads + Wait + Sync, R: Read, W: Write, G: Watch>(
     rt: &T,
     source: &mut Source<R>,
     sink: &mut Sink<W>,
     run: &Run,
     made: Product,
-    gate: &G,
+    watch: &G,
 ) -> Result<(), ProductFault>
     ensures ok { IsMade result R.remaining W.contents (IsMadeBy run.now made) source.old source.new sink.old sink.new }
     ensures err { IsUnmade result R.remaining W.contents (IsUnmadeBy run.now made) source.old source.new sink.old
@@ -108,25 +108,25 @@ pub fn run_product<T: AllocGlobal + Threads + Wait + Sync, R: Read, W: Write, G:
     match run.books {
         Books::EachGroup => write_network(rt, source, sink, run, made),
         Books::One(origin) => match made {
-            Product::Tapes => write_tapes(rt, source, sink, origin, run, gate),
+            Product::Tapes => write_tapes(rt, source, sink, origin, run, watch),
             Product::Report(_)
             | Product::Chart(_)
             | Product::Orders(_)
             | Product::Link(_)
             | Product::Loads(_)
-            | Product::Tables(_) => write_text_from(rt, source, sink, origin, run, made, gate),
+            | Product::Tables(_) => write_text_from(rt, source, sink, origin, run, made, watch),
         },
     }
 }
 
 /// Writes the tapes of the run of a book, or of a group.
-fn write_tapes<T: AllocGlobal + Threads + Wait + Sync, R: Read, W: Write, G: Gate>(
+fn write_tapes<T: AllocGlobal + Threads + Wait + Sync, R: Read, W: Write, G: Watch>(
     rt: &T,
     source: &mut Source<R>,
     sink: &mut Sink<W>,
     origin: Origin,
     run: &Run,
-    gate: &G,
+    watch: &G,
 ) -> Result<(), ProductFault>
     ensures ok { IsMade result R.remaining W.contents (IsProductOf Product.Tapes (Books.One origin) run.now.slots
         run.now.sessions.number) source.old source.new sink.old sink.new }
@@ -143,7 +143,7 @@ fn write_tapes<T: AllocGlobal + Threads + Wait + Sync, R: Read, W: Write, G: Gat
         run.slots,
         run.sessions,
         run.workers,
-        gate,
+        watch,
     ) {
         Ok(()) => Ok(()),
         Err(fault) => Err(ProductFault::Run(fault)),

@@ -9,6 +9,7 @@ ghost use Rattle.warnc_run.specs.ReadSteps.{readings_in, rows_in, AreAllReadings
 ghost use Rattle.warnc_run.specs.ReadSteps.{HasOwnTape, WasMade, IsReadingAt};
 
 use crate::run::Workers;
+use crate::watch::Watch;
 use bsc_table::CellRecord;
 use cbch_blocks::tape_of;
 use device_ends::Source;
@@ -19,7 +20,7 @@ use std::thread::Threads;
 use std::{slice, thread};
 
 /// What a handset reads of the tape of a record. The only error is out of memory, here and below.
-fn reading_of(alloc: Global, run: &CellRecord) -> Result<Reading, AllocError>
+pub(crate) fn reading_of(alloc: Global, run: &CellRecord) -> Result<Reading, AllocError>
     ensures { IfOk result (λ reading. HasOwnTape run.now → reading_of reading ≡ reading_of_record run.now) }
 {
     // Octets are one tape at most.
@@ -72,10 +73,11 @@ fn no_readings_yet(
 }
 
 /// What comes of each record's tape: its rows.
-fn rows_of_each<T: AllocGlobal + Threads + Sync>(
+fn rows_of_each<T: AllocGlobal + Threads + Sync, G: Watch>(
     rt: &T,
     records: &[CellRecord],
     workers: Workers,
+    watch: &G,
 ) -> Result<Vec<Result<Vec<Row>, AllocError>>, AllocError>
     ensures { IfOk result (λ all. AreAllRows records.now all.items) }
 {
@@ -89,16 +91,18 @@ fn rows_of_each<T: AllocGlobal + Threads + Sync>(
             ensures { AreRowsAt records.entry.now place made.new }
         {
             *made = rows_of(rt.alloc(), &records[place]);
+            watch.done();
         },
     );
     Ok(all)
 }
 
 /// What comes of each record's tape: its reading.
-fn reading_of_each<T: AllocGlobal + Threads + Sync>(
+fn reading_of_each<T: AllocGlobal + Threads + Sync, G: Watch>(
     rt: &T,
     records: &[CellRecord],
     workers: Workers,
+    watch: &G,
 ) -> Result<Vec<Result<Reading, AllocError>>, AllocError>
     ensures { IfOk result (λ all. AreAllReadings records.now all.items) }
 {
@@ -112,6 +116,7 @@ fn reading_of_each<T: AllocGlobal + Threads + Sync>(
             ensures { IsReadingAt records.entry.now place made.new }
         {
             *made = reading_of(rt.alloc(), &records[place]);
+            watch.done();
         },
     );
     Ok(all)
@@ -148,28 +153,31 @@ fn joined_readings(
     Ok(readings)
 }
 
-/// The rows of records, by what handsets read of their tapes. Each worker holds one tape, and what is read of it.
-pub(crate) fn rows_by<T: AllocGlobal + Threads + Sync>(
+/// The rows of records, by what handsets read of their tapes. Each worker holds one tape, and what is read of it. Once
+/// that is there, `watch` is told.
+pub(crate) fn rows_by<T: AllocGlobal + Threads + Sync, G: Watch>(
     rt: &T,
     records: &[CellRecord],
     workers: Workers,
+    watch: &G,
 ) -> Result<Vec<Row>, AllocError>
     requires { All (λ r. IsTape (tape_of_record r) (reading_of_record r)) records.now }
     ensures { IfOk result (λ rows. rows.items ≡ own_rows records.now) }
 {
-    let all = rows_of_each(rt, records, workers)?;
+    let all = rows_of_each(rt, records, workers, watch)?;
     joined_rows(rt.alloc(), all)
 }
 
-/// What handsets read of the tapes of records. Each worker holds one tape.
-pub(crate) fn readings_by<T: AllocGlobal + Threads + Sync>(
+/// What handsets read of the tapes of records. Each worker holds one tape. Once it is read, `watch` is told.
+pub(crate) fn readings_by<T: AllocGlobal + Threads + Sync, G: Watch>(
     rt: &T,
     records: &[CellRecord],
     workers: Workers,
+    watch: &G,
 ) -> Result<Vec<Reading>, AllocError>
     requires { All (λ r. IsTape (tape_of_record r) (reading_of_record r)) records.now }
     ensures { IfOk result (λ readings. readings_of readings.items ≡ map reading_of_record records.now) }
 {
-    let all = reading_of_each(rt, records, workers)?;
+    let all = reading_of_each(rt, records, workers, watch)?;
     joined_readings(rt.alloc(), all)
 }

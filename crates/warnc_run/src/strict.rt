@@ -25,13 +25,13 @@ use crate::finish::write_in_turn;
 use crate::product::{Product, ProductFault};
 use crate::run::{BookRun, Workers};
 use crate::text::{Text, orders_for, text_of_product, text_of_records};
+use crate::watch::Watch;
 use alert_book::Book;
 use asked_orders::lacks_of;
 use bsc_table::CellRecord;
 use cbch_blocks::Tape;
 use cbsp_wire::Cell;
 use device_ends::{Failed, Sink, Source, write_all};
-use order_desk::Gate;
 use std::alloc::{AllocGlobal, Global};
 use std::io::{Read, Write};
 use std::sync::Wait;
@@ -74,20 +74,20 @@ impl From<RunFault> for StrictFault {
 /// Reads a book, or a network book and in it the book of a group, runs it, and writes what is to be made of the run if
 /// every order was done: no cell refused one, and each asked some cell. Else nothing is written.
 ///
-/// What is judged is the run of which it is written, and which [`run_product`](crate::run_product) has, too. `gate` is
-/// called while a cell is held.
+/// What is judged is the run of which it is written, and which [`run_product`](crate::run_product) has, too. `watch` is
+/// called while a cell is held, and told of each that is done.
 ///
 /// # Errors
 ///
 /// [`StrictFault::Undone`] with how many orders weren't done, and nothing written. Else the faults of
 /// [`run_product`](crate::run_product) for one book; no tape is another record's.
-pub fn run_strictly<T: AllocGlobal + Threads + Wait + Sync, R: Read, W: Write, G: Gate>(
+pub fn run_strictly<T: AllocGlobal + Threads + Wait + Sync, R: Read, W: Write, G: Watch>(
     rt: &T,
     source: &mut Source<R>,
     sink: &mut Sink<W>,
     run: &BookRun,
     made: Product,
-    gate: &G,
+    watch: &G,
 ) -> Result<(), StrictFault>
     ensures ok { IsMade result R.remaining W.contents (IsStrictlyMadeBy run.now made) source.old source.new sink.old
         sink.new }
@@ -105,23 +105,23 @@ pub fn run_strictly<T: AllocGlobal + Threads + Wait + Sync, R: Read, W: Write, G
     bsc_table::legal_histories();
     alert_book::book_laws();
     let book = book_from(rt, source, run.origin)?;
-    let records = records_done(rt, &book, run, gate)?;
-    write_product(rt, &book, &records, sink, run, made)?;
+    let records = records_done(rt, &book, run, watch)?;
+    write_product(rt, &book, &records, sink, run, made, watch)?;
     Ok(())
 }
 
 /// Runs the sessions of a book's parts, and returns the records of its cells if every order was done.
-fn records_done<T: AllocGlobal + Threads + Wait + Sync, G: Gate>(
+fn records_done<T: AllocGlobal + Threads + Wait + Sync, G: Watch>(
     rt: &T,
     book: &Book,
     run: &BookRun,
-    gate: &G,
+    watch: &G,
 ) -> Result<Vec<CellRecord>, StrictFault>
     requires book { IsSomeBook book.now }
     ensures ok { IfOk result (λ records. AreDone book.now run.now.slots run.now.sessions.number records.items) }
     ensures err { IfErr result (IsNotDone book.now run.now.slots run.now.sessions.number) }
 {
-    let records = records_of_run(rt, book, run.slots, run.sessions, run.workers, gate)?;
+    let records = records_of_run(rt, book, run.slots, run.sessions, run.workers, watch)?;
     let Ok(lacks) = lacks_of(rt.alloc(), book.given(), &records) else {
         return Err(StrictFault::Product(ProductFault::Run(RunFault::Refused)));
     };
@@ -135,13 +135,14 @@ fn records_done<T: AllocGlobal + Threads + Wait + Sync, G: Gate>(
 }
 
 /// Writes what is to be made of the records of a book's run.
-fn write_product<T: AllocGlobal + Threads + Wait + Sync, W: Write>(
+fn write_product<T: AllocGlobal + Threads + Wait + Sync, W: Write, G: Watch>(
     rt: &T,
     book: &Book,
     records: &[CellRecord],
     sink: &mut Sink<W>,
     run: &BookRun,
     made: Product,
+    watch: &G,
 ) -> Result<(), ProductFault>
     requires tapes { GiveTapes run.now.slots records.now }
     ensures ok { OnOk result (Appends (W.contents (writer_of sink.old)) (W.contents (writer_of sink.new))
@@ -155,7 +156,7 @@ fn write_product<T: AllocGlobal + Threads + Wait + Sync, W: Write>(
 {
     match made {
         Product::Tapes => {
-            write_tapes_of(rt.alloc(), records, sink, run.slots)?;
+            write_tapes_of(rt.alloc(), records, sink, run.slots, watch)?;
             Ok(())
         }
         Product::Report(_)
@@ -165,7 +166,7 @@ fn write_product<T: AllocGlobal + Threads + Wait + Sync, W: Write>(
         | Product::Loads(_)
         | Product::Tables(_) => {
             let text = text_of_product(made, run.origin);
-            let octets = text_of(rt, book, records, text, run.slots, run.workers)?;
+            let octets = text_of(rt, book, records, text, run.slots, run.workers, watch)?;
             match write_all(sink, &octets) {
                 Ok(()) => Ok(()),
                 Err(Failed) => Err(ProductFault::WriteFailed),
@@ -175,11 +176,12 @@ fn write_product<T: AllocGlobal + Threads + Wait + Sync, W: Write>(
 }
 
 /// Writes the tapes of records, of which one alone is held, whose memory is taken before the first octet is written.
-fn write_tapes_of<W: Write>(
+fn write_tapes_of<W: Write, G: Watch>(
     alloc: Global,
     records: &[CellRecord],
     sink: &mut Sink<W>,
     slots: u16,
+    watch: &G,
 ) -> Result<(), RunFault>
     requires sized { All (λ r. length (tape_of_record r) ≡ tape_size slots) records.now }
     ensures ok { OnOk result (Appends (W.contents (writer_of sink.old)) (W.contents (writer_of sink.new))
@@ -193,20 +195,21 @@ fn write_tapes_of<W: Write>(
 {
     // any cell will do: every octet is overwritten
     let tape = Tape::open(alloc, Cell { lac: 0, ci: 0 }, slots)?;
-    match write_in_turn(tape, records, sink) {
+    match write_in_turn(tape, records, sink, watch) {
         Ok(()) => Ok(()),
         Err(failed) => Err(RunFault::Write(failed)),
     }
 }
 
 /// The text of the records of a book's run.
-fn text_of<T: AllocGlobal + Threads + Wait + Sync>(
+fn text_of<T: AllocGlobal + Threads + Wait + Sync, G: Watch>(
     rt: &T,
     book: &Book,
     records: &[CellRecord],
     text: Text,
     slots: u16,
     workers: Workers,
+    watch: &G,
 ) -> Result<Vec<u8>, RunFault>
     requires tapes { GiveTapes slots records.now }
     ensures ok { IfOk result (λ octets. octets.items
@@ -214,6 +217,6 @@ fn text_of<T: AllocGlobal + Threads + Wait + Sync>(
     ensures err { IfErr result IsOfRun }
 {
     let orders = orders_for(rt.alloc(), text, book.given(), records)?;
-    let octets = text_of_records(rt, &orders, records, text, slots, workers)?;
+    let octets = text_of_records(rt, &orders, records, text, slots, workers, watch)?;
     Ok(octets)
 }

@@ -6,6 +6,7 @@ ghost use Rattle.book_runs.specs.Fit.{IsFit};
 ghost use Rattle.warnc_run.specs.Faults.{IsOfBook};
 ghost use Rattle.warnc_run.specs.RunSteps.{AreTapesOf, HaveRunLive, IsOfTapes, IsSomeBook};
 
+use crate::alone::records_alone;
 use crate::fault::RunFault;
 use crate::run::{Sessions, Workers};
 use crate::sessions::run_sessions;
@@ -20,7 +21,8 @@ use std::alloc::{AllocError, AllocGlobal, Global};
 use std::sync::Wait;
 use std::thread::Threads;
 
-/// The records of a book's cells after the sessions of its parts, played out by workers.
+/// The records of a book's cells after the sessions of its parts, played out by workers. One session and one worker
+/// are run in the calling thread.
 pub(crate) fn records_after<T: AllocGlobal + Threads + Wait + Sync, G: Gate>(
     rt: &T,
     book: &Book,
@@ -33,6 +35,9 @@ pub(crate) fn records_after<T: AllocGlobal + Threads + Wait + Sync, G: Gate>(
     ensures ok { IfOk result (λ records. HaveRunLive book.now slots sessions.number records.items) }
     ensures err { IfErr result (IsOfBook book.now slots sessions.number) }
 {
+    if sessions.number == 1 && workers.number == 1 {
+        return records_alone(rt.alloc(), book, slots, gate);
+    }
     let desk = Desk::open(rt.alloc(), book.cells(), slots)?;
     let mut passes = run_sessions(rt, book, &desk, sessions, gate)?;
     let mut played = play_out(rt, &desk, workers, gate)?;

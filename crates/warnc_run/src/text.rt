@@ -9,7 +9,7 @@ ghost use Rattle.warnc_run.specs.Engine.{IsEngineAtEnds, IsOutputFault, IsProduc
 ghost use Rattle.warnc_run.specs.Faults.{IsOfBook, IsOfRun};
 ghost use Rattle.warnc_run.specs.Made.{IsMade, IsUnmade};
 ghost use Rattle.report.specs.ReportText.{text_with};
-ghost use Rattle.warnc_run.specs.Products.{full_layout, is_headed, octets_of, own_rows, reading_of_record};
+ghost use Rattle.warnc_run.specs.Products.{is_headed, octets_of, own_rows, reading_of_record};
 ghost use Rattle.warnc_run.specs.Products.{tables_text, text_named};
 ghost use Rattle.warnc_run.specs.RunSteps.{octets_of_text, IsSomeBook, IsTextOf};
 ghost use Rattle.alert_book.specs.declared.book.order.Order.{Order};
@@ -23,6 +23,7 @@ use crate::fault::RunFault;
 use crate::product::{Product, ProductFault};
 use crate::read::{readings_by, rows_by};
 use crate::run::{Books, Run, Sessions, Workers};
+use crate::watch::{Watch, tell};
 use alert_book::{Book, Order, Origin};
 use asked_orders::orders_of_run;
 use bsc_table::CellRecord;
@@ -33,7 +34,6 @@ use device_ends::{Failed, Sink, Source, write_all};
 use gsmtap::Start;
 use handset::Reading;
 use itoa::Buffer;
-use order_desk::Gate;
 use record_link::run_link;
 use record_orders::orders_in;
 use report::{BookOrders, Columns, Layout, ReportFault, text_with};
@@ -63,14 +63,14 @@ pub(crate) enum Text {
 }
 
 /// Reads a book, or the book of a group, and writes the text of its run. Nothing is written before all of it is made.
-pub(crate) fn write_text_from<T: AllocGlobal + Threads + Wait + Sync, R: Read, W: Write, G: Gate>(
+pub(crate) fn write_text_from<T: AllocGlobal + Threads + Wait + Sync, R: Read, W: Write, G: Watch>(
     rt: &T,
     source: &mut Source<R>,
     sink: &mut Sink<W>,
     origin: Origin,
     run: &Run,
     made: Product,
-    gate: &G,
+    watch: &G,
 ) -> Result<(), ProductFault>
     requires { IsText made }
     ensures ok { IsMade result R.remaining W.contents (IsProductOf made (Books.One origin) run.now.slots
@@ -84,7 +84,7 @@ pub(crate) fn write_text_from<T: AllocGlobal + Threads + Wait + Sync, R: Read, W
     bsc_table::legal_histories();
     let book = book_from(rt, source, origin)?;
     let text = text_of_product(made, origin);
-    let octets = text_of_book(rt, book, text, run.slots, run.sessions, run.workers, gate)?;
+    let octets = text_of_book(rt, book, text, run.slots, run.sessions, run.workers, watch)?;
     match write_all(sink, &octets) {
         Ok(()) => Ok(()),
         Err(Failed) => Err(ProductFault::WriteFailed),
@@ -120,14 +120,14 @@ fn is_headed(origin: Origin) -> bool
 }
 
 /// The text of the run of a book.
-pub(crate) fn text_of_book<T: AllocGlobal + Threads + Wait + Sync, G: Gate>(
+pub(crate) fn text_of_book<T: AllocGlobal + Threads + Wait + Sync, G: Watch>(
     rt: &T,
     book: Book,
     text: Text,
     slots: u16,
     sessions: Sessions,
     workers: Workers,
-    gate: &G,
+    watch: &G,
 ) -> Result<Vec<u8>, RunFault>
     requires book { IsSomeBook book }
     ensures ok { IfOk result (λ octets. IsTextOf text book slots sessions.number octets.items) }
@@ -136,11 +136,11 @@ pub(crate) fn text_of_book<T: AllocGlobal + Threads + Wait + Sync, G: Gate>(
     // No book has over 64 cells, and each record gives a tape.
     alert_book::book_laws();
     book_runs::session_laws();
-    let records = records_of_run(rt, &book, slots, sessions, workers, gate)?;
+    let records = records_of_run(rt, &book, slots, sessions, workers, watch)?;
     let orders = orders_for(rt.alloc(), text, book.given(), &records)?;
     // what else the book holds is free for the tapes
     drop(book);
-    let octets = text_of_records(rt, &orders, &records, text, slots, workers)?;
+    let octets = text_of_records(rt, &orders, &records, text, slots, workers, watch)?;
     Ok(octets)
 }
 
@@ -169,13 +169,14 @@ pub(crate) fn orders_for(
 }
 
 /// The text of records, by the orders that asked their cells and by what handsets read of their tapes.
-pub(crate) fn text_of_records<T: AllocGlobal + Threads + Wait + Sync>(
+pub(crate) fn text_of_records<T: AllocGlobal + Threads + Wait + Sync, G: Watch>(
     rt: &T,
     orders: &BookOrders,
     records: &[CellRecord],
     text: Text,
     slots: u16,
     workers: Workers,
+    watch: &G,
 ) -> Result<Vec<u8>, RunFault>
     requires few { length records.now ≤ max_listed }
     requires tapes { All (λ r. IsTape (tape_of_record r) (reading_of_record r)) records.now }
@@ -184,19 +185,19 @@ pub(crate) fn text_of_records<T: AllocGlobal + Threads + Wait + Sync>(
 {
     match text {
         Text::Report(layout, headed) => {
-            let rows = rows_by(rt, records, workers)?;
+            let rows = rows_by(rt, records, workers, watch)?;
             let octets = text_with(rt.alloc(), layout, headed, orders, &rows)?;
             Ok(octets)
         }
         Text::Chart(view) => {
-            let readings = readings_by(rt, records, workers)?;
+            let readings = readings_by(rt, records, workers, watch)?;
             match chart_octets(rt.alloc(), slots, view, orders, records, &readings) {
                 Ok(octets) => Ok(octets),
                 Err(fault) => Err(of_memory(fault)),
             }
         }
         Text::ChartPart(group, is_last, view) => {
-            let readings = readings_by(rt, records, workers)?;
+            let readings = readings_by(rt, records, workers, watch)?;
             match part_octets(
                 rt.alloc(),
                 slots,
@@ -213,44 +214,42 @@ pub(crate) fn text_of_records<T: AllocGlobal + Threads + Wait + Sync>(
         }
         Text::Orders(cell) => {
             let octets = orders_in(rt.alloc(), cell, records)?;
+            tell(watch, records.len());
             Ok(octets)
         }
         Text::Link(start) => {
             let octets = run_link(rt.alloc(), start, records)?;
+            tell(watch, records.len());
             Ok(octets)
         }
         Text::Loads(start, headed) => {
             let octets = loads_text(rt.alloc(), start, headed, records)?;
+            tell(watch, records.len());
             Ok(octets)
         }
         Text::Tables(view, headed) => {
-            let readings = readings_by(rt, records, workers)?;
+            let readings = readings_by(rt, records, workers, watch)?;
             tables_text(rt.alloc(), slots, view, headed, orders, records, &readings)
         }
     }
 }
 
-/// The full report of records, by what handsets read of their tapes.
-fn full_report(
+/// The report of records, by what handsets read of their tapes.
+pub(crate) fn report_read(
     alloc: Global,
-    view: View,
+    layout: Layout,
     headed: bool,
     orders: &BookOrders,
     records: &[CellRecord],
     readings: &[Reading],
 ) -> Result<Vec<u8>, RunFault>
     requires { readings_of readings.now ≡ map reading_of_record records.now }
-    ensures ok { IfOk result (λ octets. octets.items
-        ≡ text_with (full_layout view) headed orders.now (own_rows records.now)) }
+    ensures ok { IfOk result (λ octets. octets.items ≡ text_with layout headed orders.now (own_rows records.now)) }
     ensures err { IfErr result IsOfRun }
 {
     let rows = match report::rows(alloc, records, readings) {
         Ok(rows) => rows,
         Err(fault) => return Err(of_memory(fault)),
-    };
-    let layout = Layout {
-        columns: Columns::Full,
-        start: view.wording.start,
     };
     let octets = text_with(alloc, layout, headed, orders, &rows)?;
     Ok(octets)
@@ -269,7 +268,7 @@ fn push_named(octets: &mut Vec<u8>, name: &str, text: &[u8]) -> Result<(), Alloc
 }
 
 /// The full report, the loads and the chart of records, by what handsets read of their tapes.
-fn tables_text(
+pub(crate) fn tables_text(
     alloc: Global,
     slots: u16,
     view: View,
@@ -282,7 +281,11 @@ fn tables_text(
     ensures ok { IfOk result (λ octets. octets.items ≡ tables_text slots view headed orders.now records.now) }
     ensures err { IfErr result IsOfRun }
 {
-    let report = full_report(alloc, view, headed, orders, records, readings)?;
+    let layout = Layout {
+        columns: Columns::Full,
+        start: view.wording.start,
+    };
+    let report = report_read(alloc, layout, headed, orders, records, readings)?;
     let loads = loads_text(alloc, view.wording.start, headed, records)?;
     let chart = match chart_octets(alloc, slots, view, orders, records, readings) {
         Ok(octets) => octets,
@@ -296,7 +299,7 @@ fn tables_text(
 }
 
 /// The fault of a text whose readings are of the same cells as the records, and which nobody wrote: memory ran out.
-fn of_memory(fault: ReportFault) -> RunFault
+pub(crate) fn of_memory(fault: ReportFault) -> RunFault
     requires { fault ≡ ReportFault.Refused }
     ensures { result ≡ faults.Refused }
 {

@@ -76,6 +76,7 @@ impl Engine {
         match verb {
             "compile" => Engine::Compile,
             "records" => Engine::Records,
+            "tapes" => Engine::Product(Books::One(Origin::Book), Product::Tapes),
             "report" => Engine::Product(Books::One(Origin::Book), Product::Report(PLAIN)),
             "full" => Engine::Product(Books::One(Origin::Book), Product::Report(FULL)),
             "times" => Engine::Product(Books::One(Origin::Book), Product::Report(TIMES)),
@@ -218,7 +219,7 @@ pub struct Bench {
     pub is_unseen: bool,
     /// What memory is left to the next call, if it is short of it.
     pub shortage: Option<Shortage>,
-    gate: Crossing,
+    pub gate: Crossing,
 }
 
 impl Bench {

@@ -219,6 +219,53 @@ live 9 2 3 -> done
 all -> worked
 ";
 
+/// Of a book's cells whoever watches is told once each, whatever is made of them and by how many workers; of the groups
+/// of a network nothing is told.
+const TOLD: &str = "
+in cell,1,1
+in cell,1,2
+in cell,1,3
+in write,0,a,4370,0,1,en,2,2,0,*,@
+tapes 4 1 -> done
+cells -> 1-1 1-2 1-3
+told -> 3
+tapes 4 2 -> done
+cells -> 1-1 1-2 1-3
+told -> 3
+report 4 1 -> done
+keep
+told -> 3
+report 4 2 -> done
+all -> worked
+told -> 3
+chart 4 1 -> done
+keep
+told -> 3
+orders 4 1 -> done
+keep
+told -> 3
+link 4 1 -> done
+keep
+told -> 3
+loads 4 1 -> done
+keep
+told -> 3
+tables 4 2 -> done
+keep
+told -> 3
+network-report 4 1 -> done
+keep
+told -> 0
+report 0 1 -> done
+keep
+told -> 3
+";
+
+#[test]
+fn cells_that_are_done_are_told(rt: HostRuntime) -> Result<(), Fail> {
+    expect_rows(&rt, TOLD)
+}
+
 #[test]
 fn books_give_the_tapes_that_they_mean(rt: HostRuntime) -> Result<(), Fail> {
     expect_rows(&rt, WORKED)?;

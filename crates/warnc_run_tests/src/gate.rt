@@ -7,6 +7,7 @@ use std::sync::atomic::{AtomicU64, Ordering};
 use std::test::Fail;
 use std::thread;
 use test_support::{Room, take_all};
+use warnc_run::Watch;
 
 /// What a gate does with whoever enters.
 #[derive(Clone, Copy, PartialEq, Eq)]
@@ -44,6 +45,8 @@ pub struct Crossing {
     shortage: Option<Shortage>,
     /// How many have entered, in whichever cell.
     entries: AtomicU64,
+    /// Of how many cells it was told that they are done.
+    done: AtomicU64,
     room: Mutex<Room>,
 }
 
@@ -60,6 +63,7 @@ impl Crossing {
             blocks: AtomicU64::new(0),
             shortage: None,
             entries: AtomicU64::new(0),
+            done: AtomicU64::new(0),
             room: Mutex::new(Room::new(alloc)?),
         })
     }
@@ -73,6 +77,12 @@ impl Crossing {
         self.blocks = AtomicU64::new(0);
         self.shortage = shortage;
         self.entries = AtomicU64::new(0);
+        self.done = AtomicU64::new(0);
+    }
+
+    /// Of how many cells it was told that they are done.
+    pub fn cells_done(&self) -> u64 {
+        self.done.load(Ordering::SeqCst)
     }
 
     /// Begins the shortage, if this is where it does: at the start of the call, or at an entry.
@@ -159,5 +169,11 @@ impl Gate for Crossing {
             self.take();
         }
         self.left.fetch_add(1, Ordering::SeqCst);
+    }
+}
+
+impl Watch for Crossing {
+    fn done(&self) {
+        self.done.fetch_add(1, Ordering::SeqCst);
     }
 }

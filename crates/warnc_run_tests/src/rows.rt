@@ -12,10 +12,10 @@
 //!
 //! The calls:
 //!
-//! - `compile SLOTS WORKERS -> done`, or the fault; `live SLOTS SESSIONS WORKERS -> done`; `records`, `report`, `full`
-//!   (the full report), `times` (that with times), `chart`, `orders` (of the cell 1-1), `link`, `loads`, `tables` (and
-//!   the chart), `network-tapes`, `network-report`, `network-full`, `network-times`, `network-chart`, `network-orders`,
-//!   `network-loads` and `network-tables` with the numbers of `compile`;
+//! - `compile SLOTS WORKERS -> done`, or the fault; `live SLOTS SESSIONS WORKERS -> done`; `records`, `tapes`,
+//!   `report`, `full` (the full report), `times` (that with times), `chart`, `orders` (of the cell 1-1), `link`,
+//!   `loads`, `tables` (and the chart), `network-tapes`, `network-report`, `network-full`, `network-times`,
+//!   `network-chart`, `network-orders`, `network-loads` and `network-tables` with the numbers of `compile`;
 //! - `meet SLOTS SESSIONS WORKERS -> done, in both cells at once`: threads wait for each other in two cells;
 //! - `starve SLOTS SESSIONS WORKERS`: so too; then one of them takes all memory, and gives it back when the call has
 //!   ended;
@@ -31,6 +31,8 @@
 //! - `aired -> SERIAL-AND-IDENTIFIER ..`: the first block of each slot, 2b2b2b2b if it is idle;
 //! - `cells -> LAC-CI ..`: whose tapes these are;
 //! - `shown N -> IDENTIFIER SERIAL TEXT, ..`: what a handset shows of the Nth tape.
+//!
+//! `told -> N`: of how many cells the last call told that they are done.
 //!
 //! An answer may be one of two, `A or B`.
 
@@ -135,6 +137,7 @@ fn done<T: AllocGlobal + Threads + Wait + Sync>(
         | "meet"
         | "starve"
         | "records"
+        | "tapes"
         | "report"
         | "full"
         | "times"
@@ -152,6 +155,7 @@ fn done<T: AllocGlobal + Threads + Wait + Sync>(
         | "network-times"
         | "network-chart" => called(rt, bench, verb, words),
         "all" | "aired" | "cells" | "shown" => read_back(rt.alloc(), bench, verb, words),
+        "told" => Ok(format!(in rt.alloc(); "{}", bench.gate.cells_done())?),
         _ => set(rt.alloc(), bench, verb, words),
     }
 }

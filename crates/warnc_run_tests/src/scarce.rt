@@ -59,13 +59,13 @@ shown 2 -> 4371 0020 aaaaaaaaaaaaaaaaaaaaaaaaaaaaaaaaaaaaaaaaaaaaaaaaaaaaaaaaaaa
 
 # Memory ends in the first cell that an order names, in the second, at the update, and when the second cell is played
 # out after the first: so a worker plays both, which the settlement would hide.
-late 1 150 live 8 1 1 -> refused; done
+late 1 20 live 8 1 1 -> refused; done
 all -> worked
-late 2 150 live 8 1 1 -> refused; done
+late 2 20 live 8 1 1 -> refused; done
 all -> worked
-late 3 150 live 8 1 1 -> refused; done
+late 3 20 live 8 1 1 -> refused; done
 all -> worked
-late 6 150 live 8 1 1 -> refused; done
+late 6 20 live 8 1 1 -> refused; done
 all -> worked
 
 scarce-threads 400 live 8 2 2 -> refused to the end

@@ -6,7 +6,7 @@ use Rattle.warnc_run.proofs.Written.{joined_tapes}
 use Rattle.warnc_run.proofs.strict.write_tapes_of.Goals as goal
 
 pub write_in_turn-requires-clause-same : goal.write_in_turn-requires-clause-same
-write_in_turn-requires-clause-same g c =
+write_in_turn-requires-clause-same g c κs within =
     has_room c.args.slots c.args.records.now (record { lac = 0; ci = 0 }) c.in_ok-tape.tape c.in_ok-tape.ensures
     c.requires.sized
 
