@@ -3,6 +3,7 @@
 
 ghost use Rattle.std.specs.Prelude.{◌≡◌, ◌≤◌, ◌⊎◌, IfErr};
 
+use order_desk::{Gate, Open};
 use progress::{CountedReader, CountedWriter, EndingWriter, Progress, watched};
 use std::alloc::AllocGlobal;
 use std::convert::AsStr;
@@ -14,22 +15,43 @@ use std::sync::Wait;
 use std::thread::Threads;
 use std::time::Clock;
 use std::{env, io};
-use warnc_cli::book_file;
-use warnc_cli::run::{run, run_with_book};
+use warnc_cli::run::run_watched;
 use warnc_cli::status::{MEMORY, USAGE};
+use warnc_cli::{Unreadable, book_file};
+use warnc_run::Watch;
 
 fn main(rt: HostRuntime) -> ExitCode {
     let status = match words_of(&rt) {
         Ok(words) if shows_progress(&rt) => {
             let words = words.as_slice();
             let progress = Progress::new(rt.stderr());
+            let watch = CellCount {
+                rt: &rt,
+                progress: &progress,
+            };
             let mut faults = EndingWriter::new(&rt, &progress, rt.stderr());
             if rt.stdout().is_terminal() {
                 let mut writer = EndingWriter::new(&rt, &progress, rt.stdout());
-                run_watched(&rt, words, &progress, rt.stdin(), &mut writer, &mut faults)
+                run_shown(
+                    &rt,
+                    words,
+                    &progress,
+                    rt.stdin(),
+                    &mut writer,
+                    &mut faults,
+                    &watch,
+                )
             } else {
                 let mut writer = CountedWriter::new(&progress, rt.stdout());
-                run_watched(&rt, words, &progress, rt.stdin(), &mut writer, &mut faults)
+                run_shown(
+                    &rt,
+                    words,
+                    &progress,
+                    rt.stdin(),
+                    &mut writer,
+                    &mut faults,
+                    &watch,
+                )
             }
         }
         Ok(words) => run_opened(
@@ -38,6 +60,7 @@ fn main(rt: HostRuntime) -> ExitCode {
             &mut rt.stdin(),
             &mut rt.stdout(),
             &mut rt.stderr(),
+            &Open,
         ),
         Err(status) => status,
     };
@@ -49,43 +72,70 @@ fn shows_progress(rt: &HostRuntime) -> bool {
     rt.stderr().is_terminal() && !rt.stdin().is_terminal()
 }
 
-/// Opens the file of the book that the words name, if they name one, and does what [`run_with_book`] does. Without a
-/// file, or if it can't be opened, that is what [`run`] does.
+/// Counts the cells that a run has done in its progress.
+#[derive(Drop)]
+struct CellCount<'a, T, E> {
+    rt: &'a T,
+    progress: &'a Progress<E>,
+}
+
+impl<T: Wait + Sync, E: Write + Send> Gate for CellCount<'_, T, E> {
+    fn inside(&self, _place: u16) {}
+}
+
+impl<T: Wait + Clock + Sync, E: Write + Send> Watch for CellCount<'_, T, E> {
+    fn done(&self) {
+        self.progress.add_cell(self.rt);
+    }
+}
+
+/// Opens the file of the book that the words name, if they name one, and does what [`run_watched`] of warnc_cli does.
+/// Without a file, or if it can't be opened, its book can't be read.
 fn run_opened<
     S: AsStr,
     T: AllocGlobal + Threads + Wait + Files + Sync,
     R: Read,
     W: Write,
     F: Write,
->(rt: &T, words: &[S], reader: &mut R, writer: &mut W, faults: &mut F) -> u8
+    G: Watch,
+>(rt: &T, words: &[S], reader: &mut R, writer: &mut W, faults: &mut F, watch: &G) -> u8
     ensures { result ≤ 4 }
 {
     let Some(file) = book_file(words) else {
-        return run(rt, words, reader, writer, faults);
+        return run_watched(rt, words, &mut Unreadable, reader, writer, faults, watch);
     };
     // If standard input is closed, the next file that is opened takes its number. So a folder is, of which each read
     // fails, and the tapes aren't read from the book.
     let _place = File::open(rt, "/");
     match File::open(rt, file) {
-        Ok(mut book) => run_with_book(rt, words, &mut book, reader, writer, faults),
-        Err(_) => run(rt, words, reader, writer, faults),
+        Ok(mut book) => run_watched(rt, words, &mut book, reader, writer, faults, watch),
+        Err(_) => run_watched(rt, words, &mut Unreadable, reader, writer, faults, watch),
     }
 }
 
 /// Does what [`run_opened`] does, while a thread of its own draws the progress.
-fn run_watched<
+fn run_shown<
     S: AsStr,
     T: AllocGlobal + Threads + Wait + Files + Clock + Sync,
     E: Write + Send,
     R: Read + Drop,
     W: Write,
     F: Write,
->(rt: &T, words: &[S], progress: &Progress<E>, reader: R, writer: &mut W, faults: &mut F) -> u8
+    G: Watch,
+>(
+    rt: &T,
+    words: &[S],
+    progress: &Progress<E>,
+    reader: R,
+    writer: &mut W,
+    faults: &mut F,
+    watch: &G,
+) -> u8
     ensures { result ≤ 4 }
 {
     let mut reader = CountedReader::new(progress, reader);
     watched(rt, progress, || {
-        run_opened(rt, words, &mut reader, writer, faults)
+        run_opened(rt, words, &mut reader, writer, faults, watch)
     })
 }
 

@@ -12,3 +12,4 @@ pub mod status;
 mod unreadable;
 
 pub use command::book_file;
+pub use unreadable::Unreadable;

@@ -52,7 +52,7 @@ use warnc_inspect::page::{PageForm, page_stream};
 use warnc_inspect::read::read_stream;
 use warnc_inspect::slots::slots_stream;
 use warnc_inspect::whole::whole_stream;
-use warnc_run::{BookRun, Product, Run, Workers, groups_stream, run_product, run_strictly};
+use warnc_run::{BookRun, Product, Run, Watch, Workers, groups_stream, run_product, run_strictly};
 use warnc_verdict::{VerdictTerms, verify_orders_stream};
 use warnc_verify::verify_stream;
 
@@ -92,10 +92,36 @@ pub fn run_with_book<
         → RefusesInput (map S.text words.now) (B.remaining book.old) (R.remaining reader.old) }
     ensures statuses { result ≤ 4 }
 {
+    run_watched(rt, words, book, reader, writer, faults, &Open)
+}
+
+/// The same with somebody who watches the run of a book, and is told of each cell that is done: by `compile`, `live`,
+/// `report`, `chart`, `load`, `link` and `orders` of a book or a group.
+pub fn run_watched<
+    T: AllocGlobal + Threads + Wait + Sync,
+    S: AsStr,
+    B: Read,
+    R: Read,
+    W: Write,
+    F: Write,
+    G: Watch,
+>(
+    rt: &T,
+    words: &[S],
+    book: &mut B,
+    reader: &mut R,
+    writer: &mut W,
+    faults: &mut F,
+    watch: &G,
+) -> u8
+    ensures refused { result ≡ REFUSED_INPUT
+        → RefusesInput (map S.text words.now) (B.remaining book.old) (R.remaining reader.old) }
+    ensures statuses { result ≤ 4 }
+{
     let mut book = Noted::new(book);
     let mut input = Noted::new(reader);
     let mut line = OpenLine::new(faults);
-    let status = run_noted(rt, words, &mut book, &mut input, writer, &mut line);
+    let status = run_noted(rt, words, &mut book, &mut input, writer, &mut line, watch);
     line.end(if status == REFUSED_INPUT {
         mistaken_for(words, book.front(), input.front())
     } else {
@@ -112,6 +138,7 @@ fn run_noted<
     R: Read,
     W: Write,
     F: Write,
+    G: Watch,
 >(
     rt: &T,
     words: &[S],
@@ -119,6 +146,7 @@ fn run_noted<
     reader: &mut Noted<R>,
     writer: &mut W,
     faults: &mut F,
+    watch: &G,
 ) -> u8
     ensures refused { result ≡ REFUSED_INPUT → RefusesInput (map S.text words.now)
         (B.remaining (noted_reader book.old)) (R.remaining (noted_reader reader.old)) }
@@ -127,7 +155,7 @@ fn run_noted<
     let mut book = Source::new(book);
     let mut source = Source::new(reader);
     let mut sink = Sink::new(writer);
-    run_between(rt, words, &mut book, &mut source, &mut sink, faults)
+    run_between(rt, words, &mut book, &mut source, &mut sink, faults, watch)
 }
 
 /// The same, between the ends. With status 0 what the words ask for is written. That is one octet at least, but for
@@ -143,6 +171,7 @@ pub fn run_between<
     R: Read,
     W: Write,
     F: Write,
+    G: Watch,
 >(
     rt: &T,
     words: &[S],
@@ -150,6 +179,7 @@ pub fn run_between<
     source: &mut Source<R>,
     sink: &mut Sink<W>,
     faults: &mut F,
+    watch: &G,
 ) -> u8
     ensures done { result ≡ DONE → ByInputs B.remaining R.remaining W.contents
         (WroteWhatIsAsked (map S.text words.now)) book.old source.old sink.old sink.new }
@@ -173,7 +203,7 @@ pub fn run_between<
 {
     let alloc = rt.alloc();
     match task_of(alloc, words) {
-        Ok(Some(task)) => run_task(rt, &task, book, source, sink, faults),
+        Ok(Some(task)) => run_task(rt, &task, book, source, sink, faults, watch),
         Ok(None) => {
             let _ = writeln!(faults, "warnc: {}", wrong_value(words));
             USAGE
@@ -203,13 +233,14 @@ fn wrong_value<S: AsStr>(words: &[S]) -> &'static str {
 }
 
 /// Runs a task, and returns the status.
-fn run_task<T: AllocGlobal + Threads + Wait + Sync, B: Read, R: Read, W: Write, F: Write>(
+fn run_task<T: AllocGlobal + Threads + Wait + Sync, B: Read, R: Read, W: Write, F: Write, G: Watch>(
     rt: &T,
     task: &Task,
     book: &mut Source<B>,
     source: &mut Source<R>,
     sink: &mut Sink<W>,
     faults: &mut F,
+    watch: &G,
 ) -> u8
     ensures { HasRun task.now result B.remaining R.remaining W.contents book.old book.new source.old source.new
         sink.old sink.new }
@@ -244,8 +275,8 @@ fn run_task<T: AllocGlobal + Threads + Wait + Sync, B: Read, R: Read, W: Write, 
         } => run_remark(rt, what, slots, start, strict, source, sink, faults),
         Task::Plan => run_plan(alloc, source, sink, faults),
         Task::Texts { what, pages } => run_texts(alloc, what, pages, source, sink, faults),
-        Task::Make { run, made } => run_books(rt, run, made, source, sink, faults),
-        Task::Strict { run, made } => run_strict(rt, run, made, source, sink, faults),
+        Task::Make { run, made } => run_books(rt, run, made, source, sink, faults, watch),
+        Task::Strict { run, made } => run_strict(rt, run, made, source, sink, faults, watch),
         Task::Verify {
             origin,
             slots,
@@ -573,13 +604,14 @@ fn run_texts<R: Read, W: Write, F: Write>(
 }
 
 /// Runs `compile`, `live`, `report` or `chart`, and returns the status.
-fn run_books<T: AllocGlobal + Threads + Wait + Sync, R: Read, W: Write, F: Write>(
+fn run_books<T: AllocGlobal + Threads + Wait + Sync, R: Read, W: Write, F: Write, G: Watch>(
     rt: &T,
     run: Run,
     made: Product,
     source: &mut Source<R>,
     sink: &mut Sink<W>,
     faults: &mut F,
+    watch: &G,
 ) -> u8
     ensures done { IsDoneBy (Task.Make run made) result R.remaining W.contents source.old sink.old sink.new }
     ensures wrote { WroteSomeBy (Task.Make run made) result W.contents sink.old sink.new }
@@ -587,20 +619,21 @@ fn run_books<T: AllocGlobal + Threads + Wait + Sync, R: Read, W: Write, F: Write
     ensures front { WroteFrontBy (Task.Make run made) result R.remaining W.contents source.old sink.old sink.new }
     ensures ends { IsRunBetween (Task.Make run made) result W.contents source.new sink.old sink.new }
 {
-    match run_product(rt, source, sink, &run, made, &Open) {
+    match run_product(rt, source, sink, &run, made, watch) {
         Ok(()) => DONE,
         Err(fault) => failed(&fault, faults),
     }
 }
 
 /// Makes of one book what is asked for if every order was done, and returns the status.
-fn run_strict<T: AllocGlobal + Threads + Wait + Sync, R: Read, W: Write, F: Write>(
+fn run_strict<T: AllocGlobal + Threads + Wait + Sync, R: Read, W: Write, F: Write, G: Watch>(
     rt: &T,
     run: BookRun,
     made: Product,
     source: &mut Source<R>,
     sink: &mut Sink<W>,
     faults: &mut F,
+    watch: &G,
 ) -> u8
     ensures done { IsDoneBy (Task.Strict run made) result R.remaining W.contents source.old sink.old sink.new }
     ensures wrote { WroteSomeBy (Task.Strict run made) result W.contents sink.old sink.new }
@@ -608,7 +641,7 @@ fn run_strict<T: AllocGlobal + Threads + Wait + Sync, R: Read, W: Write, F: Writ
     ensures front { WroteFrontBy (Task.Strict run made) result R.remaining W.contents source.old sink.old sink.new }
     ensures ends { IsRunBetween (Task.Strict run made) result W.contents source.new sink.old sink.new }
 {
-    match run_strictly(rt, source, sink, &run, made, &Open) {
+    match run_strictly(rt, source, sink, &run, made, watch) {
         Ok(()) => DONE,
         Err(fault) => failed(&fault, faults),
     }

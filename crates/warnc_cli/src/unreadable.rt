@@ -9,7 +9,7 @@ use std::io::{Error, ErrorKind, Read};
 
 /// A reader that stands for a book that isn't there or can't be opened: each read of it fails.
 #[derive(Drop)]
-pub(crate) struct Unreadable;
+pub struct Unreadable;
 
 impl Read for Unreadable {
     ghost remaining = { λ _. None };

@@ -110,13 +110,13 @@ worked-hex 2f2b2b2b2b2b2b2b2b2b2b2b2b2b2b2b2b2b2b2b2b2b2b
 worked-hex 2f2b2b2b2b2b2b2b2b2b2b2b2b2b2b2b2b2b2b2b2b2b2b
 worked-hex 2f2b2b2b2b2b2b2b2b2b2b2b2b2b2b2b2b2b2b2b2b2b2b
 args compile --slots 2
-scarce 18 2600 -> worked
+scarce 10 2600 -> worked
 args compile --slots 2 --group 0
-scarce 19 2600 -> worked
+scarce 11 2600 -> worked
 args compile --slots 2 --strict
-scarce 19 2600 -> worked
+scarce 11 2600 -> worked
 args compile --slots 2 --network
-scarce 20 2600 -> worked
+scarce 12 2600 -> worked
 ";
 
 /// So too of one session, which works in the calling thread, and the number of groups.
@@ -133,9 +133,9 @@ worked-hex 2f2b2b2b2b2b2b2b2b2b2b2b2b2b2b2b2b2b2b2b2b2b2b
 worked-hex 2f2b2b2b2b2b2b2b2b2b2b2b2b2b2b2b2b2b2b2b2b2b2b
 worked-hex 2f2b2b2b2b2b2b2b2b2b2b2b2b2b2b2b2b2b2b2b2b2b2b
 args live --slots 2 --group 0
-scarce 19 2600 -> worked
+scarce 11 2600 -> worked
 args live --slots 2 --network
-scarce 20 2600 -> worked
+scarce 12 2600 -> worked
 
 args groups
 in cell,1,1
@@ -149,11 +149,11 @@ in write,0,a,4370,0,1,en,2,2,0,1-1,@
 worked lac,ci,id,serial,start,end,completed,shown
 worked 1,1,4370,0010,0,2,1,yes
 args report --slots 2
-scarce 22 4600 -> worked
+scarce 14 4500 -> worked
 args report --slots 2 --group 0
-scarce 23 4600 -> worked
+scarce 15 4500 -> worked
 args report --slots 2 --network
-scarce 24 4600 -> worked
+scarce 16 4500 -> worked
 ";
 
 const CHART: &str = "
@@ -162,19 +162,19 @@ in write,0,a,4370,0,1,en,2,2,0,1-1,@
 args chart --slots 2
 run -> 0
 keep
-scarce 22 4800 -> worked
+scarce 14 4800 -> worked
 args chart --slots 2 --from 1 --to 2
 run -> 0
 keep
-scarce 22 4800 -> worked
+scarce 14 4800 -> worked
 args chart --slots 2 --group 0
 run -> 0
 keep
-scarce 23 4800 -> worked
+scarce 15 4800 -> worked
 args chart --slots 2 --network
 run -> 0
 keep
-scarce 24 4800 -> worked
+scarce 16 4800 -> worked
 ";
 
 const VERIFY: &str = "
@@ -187,11 +187,11 @@ in-hex 2f2b2b2b2b2b2b2b2b2b2b2b2b2b2b2b2b2b2b2b2b2b2b
 in-hex 2f2b2b2b2b2b2b2b2b2b2b2b2b2b2b2b2b2b2b2b2b2b2b
 in-hex 2f2b2b2b2b2b2b2b2b2b2b2b2b2b2b2b2b2b2b2b2b2b2b
 worked lac,ci,id,serial,slot,difference
-scarce 21 2600 -> worked
+scarce 13 2600 -> worked
 args verify --slots 1 --book network.csv --group 0
-scarce 22 2600 -> worked
+scarce 14 2600 -> worked
 args verify --slots 1 --short --book book.csv
-scarce 21 2600 -> worked
+scarce 13 2600 -> worked
 
 # a page that is due after the tape
 args verify --orders orders.csv --cell 1-1
@@ -207,13 +207,13 @@ in write,0,a,4370,0,1,en,2,2,1,1-0 1-64,@
 args compile --slots 1 --network
 run -> 0
 keep
-scarce-later 21 6400 32 380 -> worked
+scarce-later 13 6400 16 300 -> worked
 
 args report --slots 2 --network
 worked lac,ci,id,serial,start,end,completed,shown
 worked 1,0,4370,0010,0,2,1,yes
 worked 1,64,4370,0010,0,2,1,yes
-scarce-later 88 67 102 380 -> worked
+scarce-later 80 67 86 300 -> worked
 ";
 
 /// With so little memory no thread can be made: a session works in the calling thread. Memory ends before there are
@@ -231,7 +231,7 @@ worked-hex 2f2b2b2b2b2b2b2b2b2b2b2b2b2b2b2b2b2b2b2b2b2b2b
 worked-hex 2f2b2b2b2b2b2b2b2b2b2b2b2b2b2b2b2b2b2b2b2b2b2b
 worked-hex 2f2b2b2b2b2b2b2b2b2b2b2b2b2b2b2b2b2b2b2b2b2b2b
 args live --slots 2
-scarce 18 2600 -> worked
+scarce 10 2600 -> worked
 args live --slots 2 --sessions 2
 scarce-threads 10 2700 -> worked
 run -> 0
@@ -263,7 +263,7 @@ worked-hex 21000d000d000d000d000d000d000d000d000d000d000d
 worked-hex 22000d000d000d000d000d000d000d000d000d000d000d
 worked-hex 33000d000d000d000d000d000d000d000d000d000d000d
 args compile --slots 2
-scarce 18 2900 -> worked
+scarce 10 2900 -> worked
 
 args read
 in-worked
