@@ -1,4 +1,5 @@
-/* libwarnc: texts to the pages of GSM cell broadcast messages (3GPP TS 23.041, TS 23.038 and TS 44.012), and back.
+/* libwarnc: texts to the pages of GSM cell broadcast messages (3GPP TS 23.041, TS 23.038 and TS 44.012), and back; and
+ * books of alerts to the tapes, the report and the chart of what cells send.
  *
  * What each call answers and puts is proved of its code, for all that a caller may hand over; docs/library.md says what
  * that rests on. A call answers with a number of enum warnc_status. Where that isn't WARNC_OK, what it would have put
@@ -30,7 +31,10 @@ enum warnc_status {
     WARNC_ROOM = 9,       /* the room is too small */
     WARNC_SHORT = 10,     /* the octets end inside a tape */
     WARNC_LONG = 11,      /* there are more than 64 tapes, or one says that it has more than 65,535 slots */
-    WARNC_GSM = 12        /* GSM 7-bit has each character */
+    WARNC_GSM = 12,       /* GSM 7-bit has each character */
+    WARNC_BOOK = 13,      /* the octets are no book: a row or its text has a fault, or they are over 16 MiB */
+    WARNC_ENDED = 14,     /* the run ended early, though there was memory; none is known that does */
+    WARNC_SLOTS = 15      /* the number of slots is 0 */
 };
 
 #define WARNC_MOST_PAGES 15
@@ -39,6 +43,7 @@ enum warnc_status {
 #define WARNC_BLOCKS 4   /* blocks of a page */
 #define WARNC_BLOCK 23   /* octets of a block */
 #define WARNC_TEXT 279   /* octets that the text of a page has at most, in UTF-8 */
+#define WARNC_TAPE(slots) (8 + 92 * (size_t)(slots)) /* octets of a tape of so many slots */
 
 struct warnc_pages {
     uint8_t octets[WARNC_MOST_PAGES][WARNC_CONTENT]; /* what the pages hold, page 1 first */
@@ -80,6 +85,25 @@ uint32_t warnc_page_text(const uint8_t page[WARNC_PAGE], uint8_t *room, size_t r
  * WARNC_OK, WARNC_ROOM, WARNC_SHORT, WARNC_LONG, WARNC_MEMORY. */
 uint32_t warnc_read(const uint8_t *tapes, size_t length, bool short_pages, uint8_t *room, size_t room_length,
                     size_t *written);
+
+/* Runs a book of 0 to 64 cells for 1 to 65,535 slots, and puts the tapes of its cells into `room`, one after another:
+ * what the command `warnc compile --slots` writes of it. Each has WARNC_TAPE(slots) octets. *written is how many octets
+ * the tapes have, also with WARNC_ROOM, where the room stays as it was. With WARNC_BOOK *row is the row that has the
+ * fault, from 1, or 0 if the book is too long.
+ *
+ * WARNC_OK, WARNC_ROOM, WARNC_SLOTS, WARNC_BOOK, WARNC_ENDED, WARNC_MEMORY. */
+uint32_t warnc_compile(const uint8_t *book, size_t length, uint16_t slots, uint8_t *room, size_t room_length,
+                       size_t *written, uint32_t *row);
+
+/* Runs a book, and puts the report of what became of each order in each cell: the CSV that `warnc report --slots`
+ * writes, or with `full` that of `warnc report --full --slots`. The answers are those of warnc_compile. */
+uint32_t warnc_report(const uint8_t *book, size_t length, uint16_t slots, bool full, uint8_t *room, size_t room_length,
+                      size_t *written, uint32_t *row);
+
+/* Runs a book, and puts its chart, a page in HTML in English: what `warnc chart --slots` writes. The answers are those
+ * of warnc_compile. */
+uint32_t warnc_chart(const uint8_t *book, size_t length, uint16_t slots, uint8_t *room, size_t room_length,
+                     size_t *written, uint32_t *row);
 
 #ifdef __cplusplus
 }

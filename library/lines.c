@@ -7,6 +7,10 @@
  *     text PAGE ROOM                       status written and the whole room
  *     read TAPES ROOM                      the same
  *     short TAPES ROOM                     the same, with short pages
+ *     compile SLOTS BOOK ROOM              status written row and the whole room
+ *     report SLOTS BOOK ROOM               the same
+ *     full SLOTS BOOK ROOM                 the same, of the report with all columns
+ *     chart SLOTS BOOK ROOM                the same
  *     memory N                             nothing; the Nth block of memory that the next call asks for is refused
  *
  * Octets are in hexadecimal, none is "-", and ROOM is how many octets there are room for. A room begins as octets of
@@ -160,6 +164,25 @@ static void into_room(bool is_text, bool has_short_pages) {
     free(room.at);
 }
 
+static void run(char kind) {
+    uint16_t slots = (uint16_t)number();
+    struct octets book = octets_of(word()), room = room_of(number());
+    memset(room.at, 0xAA, room.length);
+    size_t written = 77;
+    uint32_t row = 77, status;
+    if (kind == 'c') {
+        status = warnc_compile(book.at, book.length, slots, room.at, room.length, &written, &row);
+    } else if (kind == 'h') {
+        status = warnc_chart(book.at, book.length, slots, room.at, room.length, &written, &row);
+    } else {
+        status = warnc_report(book.at, book.length, slots, kind == 'f', room.at, room.length, &written, &row);
+    }
+    printf("%u %zu %u ", status, written, row);
+    print(room.at, room.length);
+    free(book.at);
+    free(room.at);
+}
+
 int main(void) {
     static char line[1 << 22];
     while (fgets(line, sizeof line, stdin) != NULL) {
@@ -177,6 +200,10 @@ int main(void) {
         else if (strcmp(call, "text") == 0) into_room(true, false);
         else if (strcmp(call, "read") == 0) into_room(false, false);
         else if (strcmp(call, "short") == 0) into_room(false, true);
+        else if (strcmp(call, "compile") == 0) run('c');
+        else if (strcmp(call, "report") == 0) run('r');
+        else if (strcmp(call, "full") == 0) run('f');
+        else if (strcmp(call, "chart") == 0) run('h');
         else die("no such call");
         printf("\nblocks %ld\n", asked);
         if (held != 0) die("a block of memory is left");

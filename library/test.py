@@ -6,7 +6,8 @@ Usage: test.py PROGRAM [RUNS]      RUNS random texts and a quarter as many input
 
 library/lines.c is compiled with dist/libwarnc.a, with a heap of its own that refuses memory where it is asked to. Every
 text goes through all calls: its pages have to be the blocks that `warnc page` writes, or its fault that of the command;
-the texts of the pages, joined, have to be the text; and tapes have to give the table or the fault of `warnc read`. Rooms
+the texts of the pages, joined, have to be the text; tapes have to give the table or the fault of `warnc read`, and books
+the tapes, the report and the chart that commands write, or the row of their fault. Rooms
 are as large as what comes, an octet smaller, and empty. Memory is refused at each block that a call asks for. The same
 is done once more under the sanitizers of addresses and of undefined behaviour, and a part of it under valgrind, where
 they are there. Without a compiler of C all of this is skipped, but for Python's calls of dist/libwarnc.so.
@@ -218,6 +219,48 @@ def try_tapes(lines, program, rng, runs):
     return len(inputs)
 
 
+# the calls that run a book, and the words of their commands
+RUNS = {"compile": ["compile"], "report": ["report"], "full": ["report", "--full"], "chart": ["chart"]}
+
+
+def books_for():
+    """Returns the books of examples/, and one without rows."""
+    found = [b""]
+    for name in sorted(os.listdir(os.path.join(TOP, "examples"))):
+        if name.endswith(".csv"):
+            with open(os.path.join(TOP, "examples", name), "rb") as it:
+                found.append(it.read())
+    return found
+
+
+def wanted_of_run(program, words, slots, book):
+    """Returns rooms for what the program writes of a run, and what has to be answered with each."""
+    if slots == 0:
+        return {0: [str(warnc.SLOTS), "77", "77", "-"]}
+    written, fault = of_program(program, [*words, "--slots", str(slots)], book)
+    if fault:
+        row = fault.removeprefix("row ").split(":")[0] if fault.startswith("row ") else "0"
+        return {2: [str(warnc.BOOK), "77", row, "aaaa"]}
+    return {room: [*it[:2], "77", *it[2:]] for room, it in rooms_of(written).items()}
+
+
+def try_runs(lines, program, rng, runs):
+    """Runs books, also cut and spoilt ones; returns how many there were."""
+    asked, wanted, books = [], [], books_for()
+    for at in range(runs):
+        book = bytearray(rng.choice(books))
+        for _ in range(rng.choice((0, 0, 1, 3)) if book else 0):
+            book[rng.randrange(len(book))] = rng.choice(b"0123456789,-*\nabc\xff")
+        book = bytes(book[:rng.randrange(len(book) + 1)] if rng.random() < 0.2 else book)
+        slots = rng.choice((0, 1, 8, 60, 300)) if at else 0
+        for call, words in RUNS.items():
+            answers = wanted_of_run(program, words, slots, book)
+            asked += [f"{call} {slots} {digits(book)} {room}" for room in answers]
+            wanted += answers.values()
+    compare("runs", [it for it, _ in lines.answers(asked)], wanted)
+    return runs
+
+
 def try_memory(lines, program):
     """Refuses memory at each block that a call asks for; returns how many times it was refused."""
     tape = min(tapes_for(program), key=len)
@@ -226,6 +269,8 @@ def try_memory(lines, program):
              for text in ("Stay in!", "a" * 1395, "{€" * 200, "Вода" * 100)}
     calls[f"text {digits(page)} 3"] = ["5", "77", "aaaaaa"]
     calls[f"read {digits(tape)} 3"] = ["5", "77", "aaaaaa"]
+    book = b"cell,1,1\nwrite,0,a,4370,0,1,en,2,2,0,*,One\nupdate,1,a,en,2,2,0,*,Two\nstop,2,a,*\n"
+    calls |= {f"{it} 4 {digits(book)} 3": ["5", "77", "77", "aaaaaa"] for it in RUNS}
     refused = 0
     for call, wanted in calls.items():
         ((_, asked),) = lines.answers([call])
@@ -259,6 +304,15 @@ def try_python(program, rng, runs):
         compare("Python's table", warnc.read(tapes), of_program(program, ["read"], tapes)[0].decode())
         cut = bytes(shortened(rng, tapes))
         compare("Python's table", warnc.read(cut, True), of_program(program, ["read", "--short"], cut)[0].decode())
+    for book in books_for():
+        for words, call in ((["compile"], warnc.compile), (["report"], warnc.report), (["chart"], warnc.chart),
+                            (["report", "--full"], lambda book, slots: warnc.report(book, slots, True))):
+            written, fault = of_program(program, [*words, "--slots", "60"], book)
+            try:
+                made = call(book, 60)
+                compare("Python's run", made if isinstance(made, bytes) else made.encode(), written)
+            except warnc.Fault as why:
+                compare("Python's fault", (why.status, f"row {why.place}" in fault), (warnc.BOOK, True))
     return good
 
 
@@ -279,18 +333,21 @@ def try_c(program, runs):
         print("library: there is no compiler of C: SKIPPED what programs in C get")
         return
     with tempfile.TemporaryDirectory(prefix="warnc-library-") as room:
-        # a small stack is enough
-        lines = Lines("/bin/sh", "-c", 'ulimit -s 128 && exec "$0"', compiled(room, compiler, "lines", "-O2"))
+        # small stacks are enough: in kB, for texts and tapes, and for runs of books
+        made = compiled(room, compiler, "lines", "-O2")
+        lines, runs_of_books = (Lines("/bin/sh", "-c", f'ulimit -s {stack} && exec "$0"', made) for stack in (64, 256))
         good = try_texts(lines, program, random.Random(1), runs)
         print(f"library: {runs} texts, {good} with pages; {try_numbers(lines)} pages by their numbers;"
               f" {try_tapes(lines, program, random.Random(2), runs // 4)} inputs of tapes;"
-              f" memory refused {try_memory(lines, program)} times")
+              f" {try_runs(runs_of_books, program, random.Random(7), runs // 8)} books;"
+              f" memory refused {try_memory(runs_of_books, program)} times")
         watched = compiled(room, compiler, "watched", "-g", "-fsanitize=address,undefined", "-fno-sanitize-recover")
         if watched is None:
             print("library: the compiler has no sanitizers: SKIPPED them")
         else:
             try_texts(Lines(watched), program, random.Random(3), runs // 4)
             try_tapes(Lines(watched), program, random.Random(4), runs // 16)
+            try_runs(Lines(watched), program, random.Random(8), runs // 32)
             refused = try_memory(Lines(watched), program)
             print(f"library: {runs // 4} texts, {runs // 16} tapes and {refused} refusals under the sanitizers")
         if shutil.which("valgrind") is None:

@@ -1,4 +1,5 @@
-"""Pages of GSM cell broadcast messages by libwarnc, whose calls are proved: include/warnc.h says what each answers.
+"""Pages and runs of GSM cell broadcast messages by libwarnc, whose calls are proved: include/warnc.h says what each
+answers.
 
     >>> import warnc
     >>> pages = warnc.paginate("Stay in!", "en")
@@ -13,16 +14,19 @@ import ctypes
 import os
 
 MOST_PAGES, CONTENT, PAGE, BLOCKS, BLOCK = 15, 82, 88, 4, 23
-OK, LANGUAGE, EMPTY, CHARACTER, PAGES, MEMORY, UTF8, NUMBER, UNREADABLE, ROOM, SHORT, LONG, GSM = range(13)
+OK, LANGUAGE, EMPTY, CHARACTER, PAGES, MEMORY, UTF8, NUMBER, UNREADABLE, ROOM, SHORT, LONG, GSM, \
+    BOOK, ENDED, SLOTS = range(16)
 WORDS = {
     LANGUAGE: "unknown language", EMPTY: "text is empty", CHARACTER: "bad character at {}", PAGES: "too many pages",
     MEMORY: "out of memory", UTF8: "text is not UTF-8", NUMBER: "no such page number", UNREADABLE: "unreadable page",
-    SHORT: "tape is short", LONG: "tape is long",
+    SHORT: "tape is short", LONG: "tape is long", BOOK: "no book, by row {}", ENDED: "run ended early",
+    SLOTS: "no slots",
 }
 
 
 class Fault(ValueError):
-    """Why a call has no result: `status` is its number in include/warnc.h, `place` that of a bad character."""
+    """Why a call has no result: `status` is its number in include/warnc.h, `place` that of a bad character, or the row
+    of a book's fault."""
 
     def __init__(self, status, place=None):
         super().__init__(WORDS[status].format(place))
@@ -102,13 +106,14 @@ def cut(whole):
     return [bytes(it) for it in blocks]
 
 
-def _filled(call, *given, room):
-    """Calls what puts octets into a room; once more, if there were more than that."""
+def _filled(call, *given, room, row=None):
+    """Calls what puts octets into a room, and tells a row if there is one; once more, if there were more than that."""
+    rows = () if row is None else (ctypes.byref(row),)
     while True:
         put, written = (ctypes.c_uint8 * max(1, room))(), ctypes.c_size_t()
-        status = call(*given, put, ctypes.c_size_t(room), ctypes.byref(written))
+        status = call(*given, put, ctypes.c_size_t(room), ctypes.byref(written), *rows)
         if status != ROOM:
-            _checked(status)
+            _checked(status, None if row is None else row.value)
             return bytes(put[:written.value])
         room = written.value
 
@@ -123,3 +128,24 @@ def page_text(whole):
 def read(tapes, short_pages=False):
     """Returns the table of what phones show of tapes, as CSV; with short pages also by those of one to three blocks."""
     return _filled(_LIBRARY.warnc_read, *_octets(tapes), ctypes.c_bool(short_pages), room=65536).decode()
+
+
+def _run(call, book, slots, *more, room):
+    if not 0 <= slots < 1 << 16:
+        raise ValueError("a run has 1 to 65535 slots")
+    return _filled(call, *_octets(book), ctypes.c_uint16(slots), *more, room=room, row=ctypes.c_uint32())
+
+
+def compile(book, slots):  # pylint: disable=redefined-builtin
+    """Returns the tapes of a book's cells, one after another, in runs of so many slots."""
+    return _run(_LIBRARY.warnc_compile, book, slots, room=8 + 92 * slots)
+
+
+def report(book, slots, full=False):
+    """Returns the report of what became of a book's orders in its cells, as CSV; with all columns if it is full."""
+    return _run(_LIBRARY.warnc_report, book, slots, ctypes.c_bool(full), room=65536).decode()
+
+
+def chart(book, slots):
+    """Returns the chart of a book's run, a page in HTML."""
+    return _run(_LIBRARY.warnc_chart, book, slots, room=1 << 20).decode()

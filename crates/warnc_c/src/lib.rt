@@ -8,5 +8,6 @@
 mod output;
 pub mod page;
 pub mod paging;
+pub mod runs;
 pub mod status;
 pub mod tapes;

@@ -38,3 +38,12 @@ pub const LONG: u32 = 11;
 
 /// GSM 7-bit has each character of the text.
 pub const GSM: u32 = 12;
+
+/// The octets are no book: a row or its text has a fault, or there are more than 16 MiB of them.
+pub const BOOK: u32 = 13;
+
+/// The run ended early, though there was memory. None is known that does.
+pub const ENDED: u32 = 14;
+
+/// There are no slots to run.
+pub const SLOTS: u32 = 15;
