@@ -25,7 +25,8 @@ i64 write(int file, const u8 *at, u64 count) {
     return (i64)count;
 }
 i64 __write(int file, const u8 *at, u64 count) { return write(file, at, count); }
-int isatty(int file) { return 0; }
+/* Standard error is a screen: a run draws there how far it has come. */
+int isatty(int file) { return file == 2; }
 int open(const u8 *path, int flags, ...) {
     error = NO_SUCH_FILE;
     return -1;
@@ -59,7 +60,7 @@ int sched_getaffinity(int process, u64 size, u8 *processors) {
 }
 int sched_yield(void) { return 0; }
 
-/* No thread can be made, so `--workers 1` is what the page asks for. */
+/* No thread can be made, so `--workers 1` is what the page asks for, and a run draws its progress by itself. */
 int pthread_create(u64 *thread, void *how, void *start, void *with) { return TRY_LATER; }
 int pthread_attr_init(void *how) { return 0; }
 int pthread_attr_setguardsize(void *how, u64 size) { return 0; }

@@ -17,8 +17,22 @@ function joined(parts) {
     return whole;
 }
 
+// A screen has what was written since the last carriage return. A run draws there how many cells are done, and wipes
+// that before it says anything else; `tell` gets each such number once.
+function screenOf(tell) {
+    let line = "", told = 0;
+    return {
+        line: () => line,
+        write(octets) {
+            line = (line + decode(octets)).replace(/^[^]*\r/, "");
+            const cells = +(/(\d+) cells done/.exec(line)?.[1] ?? 0);
+            if (cells > told) tell(told = cells);
+        },
+    };
+}
+
 // What browser/host.c asks of the page. Numbers of 64 bits come and go as BigInt.
-function pageOf(memory, words, input, written) {
+function pageOf(memory, words, input, output, screen) {
     let at = 0;
     return {
         read(to, room) {
@@ -27,7 +41,11 @@ function pageOf(memory, words, input, written) {
             at += part.length;
             return BigInt(part.length);
         },
-        write(file, from, count) { written[file].push(memory().slice(Number(from), Number(from) + Number(count))); },
+        write(file, from, count) {
+            const octets = memory().slice(Number(from), Number(from) + Number(count));
+            if (file === 2) screen.write(octets);
+            else output.push(octets);
+        },
         words: () => BigInt(words.length),
         word(number, to, room) {
             const word = words[Number(number)];
@@ -46,11 +64,12 @@ let had = 0;
 const pagesFor = ({ length }) => Math.min(MOST_AT_FIRST, Math.max(had, (length * OCTETS_OF_AN_OCTET) / WASM_PAGE));
 
 // Runs the program once, in memory of its own, and returns its status, its output and its line of standard error.
-function run(words, input = "") {
-    const written = { 1: [], 2: [] }, all = ["warnc", ...words.map(String)].map(encode);
+// `tell` gets how many cells of a book are done.
+function run(words, input = "", tell = () => {}) {
+    const output = [], screen = screenOf(tell), all = ["warnc", ...words.map(String)].map(encode);
     const given = typeof input === "string" ? encode(input) : input;
     let made = null, status = 0;
-    const page = pageOf(() => new Uint8Array(made.memory.buffer), all, given, written);
+    const page = pageOf(() => new Uint8Array(made.memory.buffer), all, given, output, screen);
     made = new WebAssembly.Instance(program, { page }).exports;
     const { memory } = made, pages = () => memory.buffer.byteLength / WASM_PAGE;
     memory.grow(BigInt(Math.max(0, Math.ceil(pagesFor(given) - pages()))));
@@ -61,7 +80,7 @@ function run(words, input = "") {
         status = end.status;
     }
     had = pages();
-    return { status, out: joined(written[1]), says: decode(joined(written[2])).trim().replace(/^warnc: /, "") };
+    return { status, out: joined(output), says: screen.line().trim().replace(/^warnc: /, "") };
 }
 
 const compiled = (packed) => WebAssembly.compileStreaming(unpacked(packed, "application/wasm"));

@@ -119,9 +119,9 @@ class Desk {
 
     open() {
         this.worker = workers.pop() || new Worker(workerUrl);
-        this.worker.onmessage = ({ data: { number, stage, result } }) => {
+        this.worker.onmessage = ({ data: { number, stage, cells, result } }) => {
             const job = this.jobs.get(number);
-            if (stage) job?.tell?.(stage);
+            if (stage) job?.tell?.(stage, cells);
             else if (this.jobs.delete(number)) job.done(result);
         };
     }
@@ -240,12 +240,14 @@ async function stop(isTold = true) {
     tell(say("cancelled"), false, button(say("again"), compute));
 }
 
-// That something is under way, and how far it is, is shown after 0.3 s.
+// That something is under way, and how far it is, is shown after 0.3 s: the stage, and how many cells are done in it.
 let busyTimer = 0, tellTimer = 0;
-function showBusy(stage) {
+function showBusy(stage, done = 0) {
+    const cells = state.book.cells.length, isLate = $("busy").hidden;
     busyTimer ||= setTimeout(() => { $("busy").hidden = false; }, QUIET);
-    $("bar").value = stage - 1;
-    tell(`${say("working")}: ${say(`stage${stage}`)}`, true);
+    $("bar").value = stage - 1 + (done && Math.min(1, done / cells));
+    const words = `${say("working")}: ${say(`stage${stage}`)}`;
+    tell(done ? `${words}, ${say("cellsDone", number(done), number(cells))}` : words, isLate);
 }
 function showIdle() {
     busyTimer = clearTimeout(busyTimer);

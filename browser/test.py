@@ -493,6 +493,25 @@ def texts_of_rows_are_written(page, program, _):
     return [] if good else [f"{first!r}, {then}"], "a row's text is typed and mended in the pane of texts"
 
 
+def cells_that_are_done_are_told(page, program, _):
+    """A run tells of each of its cells once, in order, and what it tells isn't in its line of standard error."""
+    book = "".join(books.cell_line((7, it)) for it in range(9)) + "write,0,a,4370,0,1,en,2,4,0,*,Stay in!\n"
+    told, result = page.run(f"""const told = [];
+        const result = await bookDesk.ask("book", {{ text: {json.dumps(book)}, slots: 40 }},
+            (stage, cells) => told.push([stage, cells ?? 0]));
+        return [told, result.fault ?? ""]""")
+    wrong = [] if told == [[1, it] for it in range(1, 10)] + [[2, 0]] and result == "" else [f"{told} {result!r}"]
+    shown = page.run("""showBusy(1, 3); $("busy").hidden = false; showBusy(1, 4);
+        const said = [$("state").textContent, $("bar").value]; showIdle(); showState(); return said""")
+    cells = page.run("return state.book.cells.length")
+    if f"4 of {cells} cells" not in shown[0] or abs(shown[1] - 4 / cells) > 0.01:
+        wrong.append(f"the state says {shown}")
+    refused = in_page(page, [["compile", "--slots", 9]], b"cell,1,1\nsell\n")
+    if refused != ran(program, ["compile", "--slots", 9], b"cell,1,1\nsell\n"):
+        wrong.append(f"a refusal is {refused}")
+    return wrong, "a run tells of each cell that is done"
+
+
 def work_is_cancelled(page, program, _):
     """A run that takes long can be cancelled, and the book be computed again; remarks of an older book are dropped."""
     page.run("showPane('air')")
@@ -582,7 +601,8 @@ TESTS = (
     (texts_cost_what_the_program_says, 0.5), (csv_is_read_as_the_program_reads_it, 1), (hostile_texts_do_nothing, 0),
     (faults_stand_at_their_fields, 0), (what_would_go_unsaid_is_noted, 0), (a_book_is_made_by_keys, 0),
     (files_of_spreadsheets_are_taken, 0), (files_are_saved_as_the_program_writes_them, 0),
-    (texts_of_rows_are_written, 0), (work_is_cancelled, 0), (nothing_is_wider_than_the_window, 0),
+    (texts_of_rows_are_written, 0), (cells_that_are_done_are_told, 0),
+    (work_is_cancelled, 0), (nothing_is_wider_than_the_window, 0),
     (nothing_is_asked_for, 0))
 
 

@@ -56,7 +56,8 @@ const jobs = {
 
     book({ text, slots }, say) {
         tapes = null;
-        const made = run(["chart", "--tables", "--slots", slots, "--workers", 1], text);
+        const words = ["chart", "--tables", "--slots", slots, "--workers", 1];
+        const made = run(words, text, (cells) => say(1, cells));
         if (made.status) return { fault: made.says, faults: tableBy(["check"], text) };
         say(2);
         const book = readBook(text), { report, load, chart } = textsIn(made.out), reported = linesOf(report);
@@ -89,7 +90,7 @@ const jobs = {
 async function work(data) {
     let result;
     try {
-        result = await jobs[data.job](data, (stage) => postMessage({ number: data.number, stage }));
+        result = await jobs[data.job](data, (stage, cells) => postMessage({ number: data.number, stage, cells }));
     } catch (fault) {
         result = { fault: String((fault && fault.message) || fault) };
     }
