@@ -65,7 +65,7 @@ late 2 20 live 8 1 1 -> refused; done
 all -> worked
 late 3 20 live 8 1 1 -> refused; done
 all -> worked
-late 6 20 live 8 1 1 -> refused; done
+late 6 10 live 8 1 1 -> refused; done
 all -> worked
 
 scarce-threads 400 live 8 2 2 -> refused to the end
