@@ -1,4 +1,4 @@
 pub mod Tables
-pub mod OwnSeptets
+pub mod Latin
 pub mod AlphabetLaws
 mod Worked
