@@ -8,6 +8,7 @@ pub mod Repeats
 pub mod TapeLaws
 pub mod TapeExtents
 pub mod Recordings
+pub mod NextRecording
 mod RecordingLaws
 mod Worked
 pub mod TapeKinds

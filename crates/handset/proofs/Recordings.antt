@@ -1,20 +1,14 @@
 -- What tapes hold, one after another, and that a handset reads them so.
 use Rattle.std.proofs.Common.{◌≡◌, ℕ, ◌*◌, ◌≤◌, List, [], ◌∷◌, ◌++◌, Option, IfSome, length, map}
-use Rattle.std.proofs.Common.{refl, sym, ap, ◌∙◌, arith, append_assoc, append-nil}
+use Rattle.std.proofs.Common.{refl, sym, ap, ◌∙◌, subst, arith, append_assoc, append-nil}
 use Rattle.std.specs.Io.KnownBytes.{Consumes, IsAtEnd}
 use Rattle.std.specs.Simd.{first_chunks}
 use Rattle.std.proofs.KnownBytes.{Consumes-trans, Consumes-nil}
 use Rattle.handset.specs.Recording.{TapeRecording, reading_of_recording, HoldsRecording, AreJoinedRecordings}
-use Rattle.handset.specs.Recording.{AreRecordings}
+use Rattle.handset.specs.Recording.{AreRecordings, ReadsRecording, ReadsRecordings}
 use Rattle.handset.specs.Tape.{AreJoined, IsTape, cell_in, max_tapes, slots_in}
-use Rattle.handset.specs.TapeSteps.{ReadsHeader, ReadsRecording, ReadsTape}
+use Rattle.handset.specs.TapeSteps.{ReadsHeader, ReadsTape}
 use Rattle.handset.proofs.TapeLaws.{ReadsTapes, at_end, chunks_each, chunks_joined, chunks_long}
-
--- the reader gave tapes that hold these
-pub record ReadsRecordings (old new : Option (List ℕ)) (recordings : List TapeRecording) : Type 0 where
-  pub octets : List ℕ
-  pub consumed : Consumes old new octets
-  pub joined : AreJoinedRecordings octets recordings
 
 -- a header and the octets of its blocks are a tape
 pub recording_from : (a b c : Option (List ℕ)) (header octets : List ℕ) → ReadsHeader a b header
@@ -93,6 +87,20 @@ joined_more octets tape (first ∷ recordings) r joined is = (
   joined_more joined.1 tape recordings r joined.4 is,
 )
 
+-- tapes after tapes
+joined_both : (octets others : List ℕ) (recordings more : List TapeRecording) → AreJoinedRecordings octets recordings
+    → AreJoinedRecordings others more
+    → AreJoinedRecordings (octets ++ others) (recordings ++ more)
+joined_both octets others [] more joined after =
+    subst (λ (o : List ℕ). AreJoinedRecordings o more) (ap (λ (o : List ℕ). o ++ others) (sym joined)) after
+joined_both octets others (r ∷ recordings) more joined after = (
+  joined.0,
+  joined.1 ++ others,
+  ap (λ (o : List ℕ). o ++ others) joined.2 ∙ append_assoc joined.0 joined.1 others,
+  joined.3,
+  joined_both joined.1 others recordings more joined.4 after,
+)
+
 -- no recording is read of nothing
 pub none_read : (old : Option (List ℕ)) → ReadsRecordings old old []
 none_read old = record { octets = []; consumed = Consumes-nil old; joined = refl }
@@ -106,6 +114,16 @@ one_more_read a b c recordings r reads next = record {
   octets = reads.octets ++ next.octets;
   consumed = Consumes-trans a b c reads.octets next.octets reads.consumed next.consumed;
   joined = joined_more reads.octets next.octets recordings r reads.joined next.holds;
+}
+
+-- some recordings more are read after those before them
+pub some_more_read : (a b c : Option (List ℕ)) (recordings more : List TapeRecording) → ReadsRecordings a b recordings
+    → ReadsRecordings b c more
+    → ReadsRecordings a c (recordings ++ more)
+some_more_read a b c recordings more reads next = record {
+  octets = reads.octets ++ next.octets;
+  consumed = Consumes-trans a b c reads.octets next.octets reads.consumed next.consumed;
+  joined = joined_both reads.octets next.octets recordings more reads.joined next.joined;
 }
 
 -- all of the input was read

@@ -164,6 +164,17 @@ stops-at-last most a b c readings reads all none = record {
 nothing : (a : Option (List ℕ)) → AreGone a a [] []
 nothing a = record { front = []; joined = refl; consumed = Consumes-nil a }
 
+-- a reader that failed before the next tape
+pub stops-between : (most : ℕ) (a b : Option (List ℕ)) (readings : List TapeReading) → ReadsTapes a b readings →
+    length readings ≤ most → StopsAt most a b fault.ReadFailed
+stops-between most a b readings reads few = record {
+  readings = readings;
+  part = [];
+  gone = gone a b b readings [] reads (Consumes-nil b);
+  few = few;
+  cut = λ some. absurd (omega (arith, some));
+}
+
 -- a failed device stops a reader at any place
 pub stops-failed : (most : ℕ) (a : Option (List ℕ)) → StopsAt most a a fault.ReadFailed
 stops-failed most a = record {

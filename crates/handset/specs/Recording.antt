@@ -1,8 +1,12 @@
 -- What a tape holds: a cell, the number of its slots and their blocks, as they were sent. Own.
 use Rattle.std.specs.Prelude.{◌≡◌, ℕ, ◌≤◌, List, [], ◌∷◌, ◌++◌, length, Option, IfSome}
+use Rattle.std.specs.Io.KnownBytes.{Consumes}
 use Rattle.cbsp_wire.specs.declared.message.Cell.{Cell}
 use Rattle.handset.specs.Reception.{shown_in}
 use Rattle.handset.specs.Tape.{TapeReading, AreSlots, cell_in, max_slots, max_tapes, octets_of_blocks, slots_in}
+use Rattle.handset.specs.Tape.{IsTapesFault}
+use Rattle.handset.specs.TapeExtent.{StopsAt}
+use Rattle.handset.specs.declared.tape.TapeFault.{TapeFault}
 
 pub record TapeRecording : Type 0 where
   pub cell : Cell
@@ -44,3 +48,35 @@ pub record AreRecorded {G T : Type 0} (HasTaken : G → T → List TapeRecording
   pub of_some : (octets : List ℕ) × AreRecordings octets recordings
   pub taken : (given : G) (before : List TapeRecording) → HasTaken given old before
       → HasTaken given new (before ++ recordings)
+
+-- the reader gave whole tapes, one after another, that hold these
+pub record ReadsRecordings (old new : Option (List ℕ)) (recordings : List TapeRecording) : Type 0 where
+  pub octets : List ℕ
+  pub consumed : Consumes old new octets
+  pub joined : AreJoinedRecordings octets recordings
+
+-- the reader gave the tape that holds this
+pub record ReadsRecording (old new : Option (List ℕ)) (r : TapeRecording) : Type 0 where
+  pub octets : List ℕ
+  pub consumed : Consumes old new octets
+  pub holds : HoldsRecording octets r
+
+-- so many tapes of an input were read before, whatever they hold, and there are no more, since they were all
+abbrev pub GivesNoMore : (count : ℕ) (left : Option (List ℕ)) → Type 0
+GivesNoMore count left = (first : Option (List ℕ)) (before : List TapeRecording)
+    → ReadsRecordings first left before
+    → length before ≡ count
+    → IfSome first (λ input. AreRecordings input before) × ((octets : List ℕ) × AreRecordings octets before)
+
+-- or the input, of which so many were read, has this fault; and so far it was read then
+abbrev pub GivesFault : (count : ℕ) (left : Option (List ℕ)) → TapeFault → Type 0
+GivesFault count left fault = (first : Option (List ℕ)) (before : List TapeRecording)
+    → ReadsRecordings first left before
+    → length before ≡ count
+    → IfSome first (λ input. IsTapesFault input fault)
+
+abbrev pub StopsAfter : (count : ℕ) (left new : Option (List ℕ)) → TapeFault → Type 0
+StopsAfter count left new fault = (first : Option (List ℕ)) (before : List TapeRecording)
+    → ReadsRecordings first left before
+    → length before ≡ count
+    → StopsAt max_tapes first new fault

@@ -1,6 +1,6 @@
 -- Steps over a tape: blocks that a handset reads, slots, and whole tapes. Contracts of private functions alone speak of
 -- it.
-use Rattle.std.specs.Prelude.{◌≡◌, ℕ, ◌+◌, ◌/◌, ◌<◌, ◌≤◌, List, ◌++◌, Option, length}
+use Rattle.std.specs.Prelude.{◌≡◌, ℕ, ◌+◌, ◌/◌, ◌<◌, ◌≤◌, List, ◌++◌, Option, IfSome, length}
 use Rattle.std.specs.Simd.{first_chunks}
 use Rattle.std.specs.Io.KnownBytes.{Consumes, IsAtEnd}
 use Rattle.handset.specs.Reception.{ShownMessage, shown_in}
@@ -10,7 +10,6 @@ use Rattle.handset.specs.declared.tape.TapeFault.TheVariants as fault
 use Rattle.handset.specs.Tape.{TapeReading, IsTape, AreSlots, IsCut, IsOversized, octets_of_blocks, slots_in}
 use Rattle.handset.specs.Tape.{max_slots}
 use Rattle.handset.specs.Tape.{tape_length}
-use Rattle.handset.specs.Recording.{TapeRecording, HoldsRecording}
 
 -- the reader gave this many octets, and a handset has read the blocks that they are
 pub record ReadsPiece (old new : Option (List ℕ)) (count : ℕ) (before after : HandsetState) : Type 0 where
@@ -71,8 +70,15 @@ pub record ReadsHeader (old new : Option (List ℕ)) (header : List ℕ) : Type 
   pub eight : length header ≡ 8
   pub few : slots_in header ≤ max_slots
 
--- the reader gave the tape that holds this
-pub record ReadsRecording (old new : Option (List ℕ)) (r : TapeRecording) : Type 0 where
-  pub octets : List ℕ
-  pub consumed : Consumes old new octets
-  pub holds : HoldsRecording octets r
+-- an input has as many tapes as it may, and isn't at its end: one octet more was read, or the read failed
+abbrev pub IsMoreThanAll : (left : Option (List ℕ)) → TapeFault → Type 0
+IsMoreThanAll left fault.Short = ⊥
+IsMoreThanAll left fault.Long = IfSome left (λ octets. 0 < length octets)
+IsMoreThanAll left fault.ReadFailed = Unit {0}
+IsMoreThanAll left fault.Refused = ⊥
+
+abbrev pub LastStopsAt : (old new : Option (List ℕ)) → TapeFault → Type 0
+LastStopsAt old new fault.Short = ⊥
+LastStopsAt old new fault.Long = ReadsCount old new 1
+LastStopsAt old new fault.ReadFailed = ReadsFewer old new 1
+LastStopsAt old new fault.Refused = ⊥

@@ -19,7 +19,7 @@ pub use blocks::page_in_front;
 pub use handset::Handset;
 pub use laws::{reading_laws, recording_laws, tape_laws};
 pub use messages::{Refused, Shown};
-pub use recording::{Recording, TakesRecordings, record_each};
+pub use recording::{Recorder, Recording, TakesRecordings, record_each};
 pub use tape::{
     MAX_SLOTS, MAX_TAPES, Reading, TakesReadings, TapeFault, read_each, read_tape, read_tapes,
 };

@@ -1,14 +1,15 @@
 //! Tapes as they are: the blocks that they hold, and not what these show.
 
-ghost use Rattle.std.specs.Prelude.{◌≡◌, ◌≢◌, ◌<◌, ◌++◌, ◌∷◌, [], List, false, length, true, IfErr, IfNone, IfOk};
-ghost use Rattle.std.specs.Prelude.{IfSome, OnOk};
+ghost use Rattle.std.specs.Prelude.{◌≡◌, ◌≢◌, ◌<◌, ◌≤◌, ◌+◌, ◌++◌, ◌∷◌, [], List, false, length, true, IfErr, IfNone};
+ghost use Rattle.std.specs.Prelude.{IfOk, IfSome, OnOk};
 ghost use Rattle.std.specs.Io.KnownBytes.{Consumes, IsAtEnd};
 ghost use Rattle.device_ends.specs.Source.{reader_of, source_failed};
 ghost use Rattle.device_ends.specs.Stream.{Reads};
-ghost use Rattle.handset.specs.Recording.{TapeRecording, AreRecorded};
+ghost use Rattle.handset.specs.Recording.{TapeRecording, AreRecorded, GivesFault, GivesNoMore, ReadsRecording};
+ghost use Rattle.handset.specs.Recording.{StopsAfter};
 ghost use Rattle.handset.specs.Tape.{max_tapes, reports_read_failed, IsTapesFault};
 ghost use Rattle.handset.specs.TapeExtent.{StopsAt};
-ghost use Rattle.handset.specs.TapeSteps.{IsNextTapeFault, NextStopsAt, ReadsRecording, StopsInOctets};
+ghost use Rattle.handset.specs.TapeSteps.{IsMoreThanAll, IsNextTapeFault, LastStopsAt, NextStopsAt, StopsInOctets};
 
 use crate::input::read_front;
 use crate::tape::{MAX_TAPES, SLOT, TapeFault, cell_of, is_at_end, next_header, slots_of, zeros};
@@ -93,6 +94,92 @@ impl TakesRecordings for Vec<Recording> {
     }
 }
 
+/// Reads the tapes of an input one after another: how many were read.
+#[derive(Debug, Drop)]
+pub struct Recorder {
+    read: usize,
+}
+
+impl Model for Recorder {
+    ghost use Rattle.std.specs.Prelude.{ℕ, ◌≤◌};
+    ghost use Rattle.handset.specs.Tape.{max_tapes};
+
+    ghost Value = { ℕ };
+
+    ghost view = { λ r. r.read };
+
+    ghost invariant = { λ r. r.read ≤ max_tapes };
+}
+
+impl Recorder {
+    /// Of an input of which none was read.
+    pub fn new() -> Recorder
+        ensures { result ≡ 0 }
+    {
+        Recorder { read: 0 }
+    }
+
+    /// Reads the next tape of the input, if there is one: at most 64 have one. So whoever calls it decides how many are
+    /// in memory at a time. [`record_each`] is its loop.
+    ///
+    /// # Errors
+    ///
+    /// Those of [`read_tapes`](crate::read_tapes).
+    pub fn next<R: Read>(
+        &mut self,
+        alloc: Global,
+        source: &mut Source<R>,
+    ) -> Result<Option<Recording>, TapeFault>
+        ensures tape { IfOk result (λ next. IfSome next (λ recording. Reads R.remaining (λ old new.
+            ReadsRecording old new recording) source.old source.new)) }
+        ensures count { IfOk result (λ next. IfSome next (λ _. self.new ≡ self.old + 1)) }
+        ensures few { IfOk result (λ next. IfSome next (λ _. self.new ≤ max_tapes)) }
+        ensures end { IfOk result (λ next. IfNone next (GivesNoMore self.old
+            (R.remaining (reader_of source.old)))) }
+        ensures err { IfErr result (GivesFault self.old (R.remaining (reader_of source.old))) }
+
+        // How far the source was read: to its end, or as the fault says and no further.
+        ensures whole { IfOk result (λ next. IfNone next (IsAtEnd (R.remaining (reader_of source.new)))) }
+        ensures extent { IfErr result (λ fault. Reads R.remaining (λ old new. StopsAfter self.old old new fault)
+            source.old source.new) }
+
+        // At any reader.
+        ensures failed { source_failed source.new ≡ reports_read_failed result }
+        ensures failed_stays { source_failed source.old ≡ true → source.new ≡ source.old }
+    {
+        let is_full = self.read == MAX_TAPES;
+        if source.failed() {
+            return Err(TapeFault::ReadFailed);
+        }
+        if is_full {
+            return none_at_end(source);
+        }
+        let next = next_recording(alloc, source)?;
+        if next.is_some() {
+            self.read += 1;
+        }
+        Ok(next)
+    }
+}
+
+/// No tape, at the end of an input that has as many as it may.
+fn none_at_end<R: Read>(source: &mut Source<R>) -> Result<Option<Recording>, TapeFault>
+    requires { source_failed source.old ≡ false }
+    ensures none { IfOk result (λ next. IfSome next (λ _. ⊥)) }
+    ensures end { IfOk result (λ next. IfNone next (IsAtEnd (R.remaining (reader_of source.old)))) }
+    ensures whole { IfOk result (λ next. IfNone next (IsAtEnd (R.remaining (reader_of source.new)))) }
+    ensures more { IfErr result (IsMoreThanAll (R.remaining (reader_of source.old))) }
+    ensures extent { IfErr result (LastStopsAt (R.remaining (reader_of source.old))
+        (R.remaining (reader_of source.new))) }
+    ensures failed { source_failed source.new ≡ reports_read_failed result }
+{
+    match is_at_end(source) {
+        Ok(true) => Ok(None),
+        Ok(false) => Err(TapeFault::Long),
+        Err(Failed) => Err(TapeFault::ReadFailed),
+    }
+}
+
 /// Reads tapes up to the end of the input as [`read_each`](crate::read_each) does, with the same faults, and hands on
 /// what each holds before it reads the next one. So one tape is in memory at a time, unless they are kept. After a
 /// fault some may have been handed on.
@@ -118,23 +205,11 @@ pub fn record_each<R: Read, T: TakesRecordings>(
     ensures failed { source_failed source.new ≡ reports_read_failed result }
     ensures failed_stays { source_failed source.old ≡ true → source.new ≡ source.old }
 {
-    if source.failed() {
-        return Err(TapeFault::ReadFailed);
+    let mut recorder = Recorder::new();
+    while let Some(recording) = recorder.next(alloc, source)? {
+        taker.take(recording)?;
     }
-    let mut count = 0;
-    while count < MAX_TAPES {
-        match next_recording(alloc, source) {
-            Ok(Some(recording)) => taker.take(recording)?,
-            Ok(None) => return Ok(()),
-            Err(fault) => return Err(fault),
-        }
-        count += 1;
-    }
-    match is_at_end(source) {
-        Ok(true) => Ok(()),
-        Ok(false) => Err(TapeFault::Long),
-        Err(Failed) => Err(TapeFault::ReadFailed),
-    }
+    Ok(())
 }
 
 /// Reads the next tape, if there is one.
