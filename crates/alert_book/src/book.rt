@@ -164,6 +164,9 @@ pub(crate) fn fault_of_row(row: u32, fault: RowFault) -> BookFault
 /// # Errors
 ///
 /// The first fault of a row, or out of memory.
+//
+// It stays a function of its own, so that the stack of its reader is free for what comes after it.
+#[inline(never)]
 pub fn read_rows(alloc: Global, octets: &[u8]) -> Result<BookRows, BookFault>
     ensures ok { IfOk result (λ known. AreRowsOf octets.now known) }
     ensures err { IfErr result (λ fault. (fault ≡ refused) ⊎ IsRowFault octets.now fault) }

@@ -10,10 +10,11 @@ use itoa::Buffer;
 use slot_times::{Start, slot_time};
 use std::alloc::{AllocError, Global};
 
-/// The line of the columns' names, and lines of loads.
+/// The line of the columns' names, and lines of loads. The writer's own buffer lies on the heap, so that a table is
+/// moved as cheaply as a list.
 #[derive(Drop)]
 pub(crate) struct Table {
-    writer: Writer<Vec<u8>>,
+    writer: Box<Writer<Vec<u8>>>,
 }
 
 /// What marks the line of the slot at which a cell is fullest.
@@ -32,7 +33,7 @@ impl Table {
     ) -> Result<Table, AllocError>
         ensures { IfOk result (λ table. IsTable table (heading start headed)) }
     {
-        let mut table = Table::empty(alloc);
+        let mut table = Table::empty(alloc)?;
         if !headed {
             return Ok(table);
         }
@@ -41,12 +42,16 @@ impl Table {
     }
 
     /// A table with no line.
-    fn empty(alloc: Global) -> Table
-        ensures { IsTable result [] }
+    //
+    // It stays a function of its own, as `into_octets` does, so that the stack of a writer is free in between.
+    #[inline(never)]
+    fn empty(alloc: Global) -> Result<Table, AllocError>
+        ensures { IfOk result (λ table. IsTable table []) }
     {
-        Table {
-            writer: WriterBuilder::new().from_writer(Vec::new(alloc)),
-        }
+        let writer = WriterBuilder::new().from_writer(Vec::new(alloc));
+        Ok(Table {
+            writer: Box::new(alloc, writer)?,
+        })
     }
 
     /// Appends the line of the columns' names, with one for times if slot 0 has one.
@@ -141,10 +146,11 @@ impl Table {
     }
 
     /// The table's octets.
+    #[inline(never)]
     pub(crate) fn into_octets(self) -> Result<Vec<u8>, AllocError>
         ensures { IfOk result (λ octets. (text : List ℕ) → IsTable self text → octets.items ≡ text) }
     {
-        match self.writer.into_inner() {
+        match Box::into_inner(self.writer).into_inner() {
             Ok(octets) => Ok(octets),
             Err(_) => Err(AllocError),
         }

@@ -170,6 +170,9 @@ pub fn rows_in(
 /// # Errors
 ///
 /// Out of memory.
+//
+// It stays a function of its own, so that only this text takes the stack of its writer.
+#[inline(never)]
 pub fn orders_in(alloc: Global, cell: Cell, records: &[CellRecord]) -> Result<Vec<u8>, AllocError>
     ensures { IfOk result (λ octets. octets.items ≡ orders_in cell records.now) }
 {

@@ -85,7 +85,7 @@ impl Table {
     pub fn full(alloc: Global, headed: bool) -> Result<Table, AllocError>
         ensures { IfOk result (λ table. (orders : Orders) → IsTable table (full_part_text headed orders [])) }
     {
-        let mut table = Table::empty(alloc);
+        let mut table = Table::empty(alloc)?;
         if !headed {
             return Ok(table);
         }

@@ -12,10 +12,11 @@ use csv::{Writer, WriterBuilder};
 use itoa::Buffer;
 use std::alloc::{AllocError, Global};
 
-/// The text of a part of a report: the line of the columns' names, if it is headed, and a line for each row.
+/// The text of a part of a report: the line of the columns' names, if it is headed, and a line for each row. The
+/// writer's own buffer lies on the heap, so that a table is moved as cheaply as a list.
 #[derive(Drop)]
 pub struct Table {
-    writer: Writer<Vec<u8>>,
+    writer: Box<Writer<Vec<u8>>>,
 }
 
 /// The text of a serial number.
@@ -47,7 +48,7 @@ impl Table {
     pub fn new(alloc: Global, headed: bool) -> Result<Table, AllocError>
         ensures { IfOk result (λ table. IsTable table (part_text headed [])) }
     {
-        let mut table = Table::empty(alloc);
+        let mut table = Table::empty(alloc)?;
         if !headed {
             return Ok(table);
         }
@@ -72,13 +73,17 @@ impl Table {
         ])
     }
 
-    /// No text.
-    pub(crate) fn empty(alloc: Global) -> Table
-        ensures { IsTable result [] }
+    /// No text. The only error is out of memory.
+    //
+    // It stays a function of its own, as `into_octets` does, so that the stack of a writer is free in between.
+    #[inline(never)]
+    pub(crate) fn empty(alloc: Global) -> Result<Table, AllocError>
+        ensures { IfOk result (λ table. IsTable table []) }
     {
-        Table {
-            writer: WriterBuilder::new().from_writer(Vec::new(alloc)),
-        }
+        let writer = WriterBuilder::new().from_writer(Vec::new(alloc));
+        Ok(Table {
+            writer: Box::new(alloc, writer)?,
+        })
     }
 
     /// Appends the lines of the rows at the front that are of one cell, and returns how many they are. The cell's
@@ -170,10 +175,11 @@ impl Table {
     /// # Errors
     ///
     /// Out of memory.
+    #[inline(never)]
     pub fn into_octets(self) -> Result<Vec<u8>, AllocError>
         ensures { IfOk result (λ octets. (text : List ℕ) → IsTable self text → octets.items ≡ text) }
     {
-        match self.writer.into_inner() {
+        match Box::into_inner(self.writer).into_inner() {
             Ok(octets) => Ok(octets),
             Err(_) => Err(AllocError),
         }

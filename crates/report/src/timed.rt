@@ -42,7 +42,7 @@ impl Table {
         ensures { IfOk result (λ table. (start : Start) (orders : Orders)
             → IsTable table (timed_part_text columns start headed orders [])) }
     {
-        let mut table = Table::empty(alloc);
+        let mut table = Table::empty(alloc)?;
         if !headed {
             return Ok(table);
         }

@@ -8,4 +8,4 @@ returns c =
     let headed : c.args.headed ≡ true = search (rules, c.if-not-headed.false) in
     subst (λ (xs : List ℕ). IsTable c.push_names.new.self xs)
     (sym (ap (λ (b : Bool). heading c.args.start b) headed))
-    (c.in_ok-push_names.ensures [] c.empty-table.ensures)
+    (c.in_ok-push_names.ensures [] c.in_ok-table.ensures)

@@ -9,4 +9,4 @@ returns c =
     λ orders.
     subst (λ (xs : List ℕ). IsTable c.push_full_names.new.self xs)
     (sym (ap (λ (b : Bool). full_part_text b orders []) headed ∙ append-nil full_header_line))
-    (c.in_ok-push_full_names.ensures [] c.empty-table.ensures)
+    (c.in_ok-push_full_names.ensures [] c.in_ok-table.ensures)

@@ -10,4 +10,4 @@ returns c =
     subst (λ (xs : List ℕ). IsTable c.push_timed_names.new.self xs)
     (sym (ap (λ (b : Bool). timed_part_text c.args.columns start b orders []) headed
     ∙ append-nil (timed_header_line c.args.columns)))
-    (c.in_ok-push_timed_names.ensures [] c.empty-table.ensures)
+    (c.in_ok-push_timed_names.ensures [] c.in_ok-table.ensures)
