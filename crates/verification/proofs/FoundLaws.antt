@@ -1,12 +1,14 @@
 -- What is kept of tapes, after none and after one more.
-use Rattle.std.proofs.Common.{◌≡◌, ℕ, ◌<◌, Bool, true, false, cond, Option, Some, None, List, [], ◌∷◌, ◌++◌, length}
-use Rattle.std.proofs.Common.{map, find, get_or, refl, sym, ◌∙◌, ap, subst, arith, All, append-nil, append_assoc}
+use Rattle.std.proofs.Common.{◌≡◌, ℕ, suc, ◌+◌, ◌<◌, ◌≤◌, Bool, true, false, cond, Option, Some, None, List, [], ◌∷◌}
+use Rattle.std.proofs.Common.{◌++◌, length, map, find, get_or, min, set, take, refl, sym, ◌∙◌, ap, subst, arith, All}
+use Rattle.std.proofs.Common.{append-nil, append_assoc}
 use Rattle.std.specs.Prelude.{◌&&◌, ◌||◌, ◌==◌, MatchBool, if◌then◌else◌}
-use Rattle.std.specs.List.{AllByRecursion, flat_map, list_any}
+use Rattle.std.specs.List.{AllByRecursion, AllZip, flat_map, list_any}
 use Rattle.std.specs.Cmp.{nat_eq_equiv}
-use Rattle.std.proofs.lemmas.List.{ext_get_or, get_or-map, map-append, length-map}
+use Rattle.std.proofs.lemmas.List.{length-append, map-append, take_more}
 use Rattle.std.proofs.lemmas.List.Concat.{flat_map-cons}
-use Rattle.std.proofs.lemmas.List.Elements.{All-nil, All-cons, recursion_from_All}
+use Rattle.std.proofs.lemmas.List.Elements.{All-nil, All-cons, All-from_recursion, recursion_from_All}
+use Rattle.std.proofs.lemmas.Slice.Zip.{all_zipped_more}
 use Rattle.cbsp_wire.specs.declared.message.Cell.{Cell}
 use Rattle.cbsp_wire.specs.Range.{is_cell}
 use Rattle.cbsp_wire.proofs.CellLists.{same_cell}
@@ -15,15 +17,16 @@ use Rattle.verification.specs.declared.detail.Detail.{Detail}
 use Rattle.verification.specs.declared.detail.Detail.TheVariants as detail
 use Rattle.verification.specs.declared.detail.TableLayout.{TableLayout}
 use Rattle.verification.specs.declared.difference.Difference.{Difference}
-use Rattle.verification.specs.declared.findings.CellFinding.{CellFinding}
-use Rattle.verification.specs.declared.findings.CellFinding.TheVariants as found
-use Rattle.verification.specs.declared.findings.CellState.{CellState}
+use Rattle.verification.specs.declared.judgement.CellFinding.{CellFinding}
+use Rattle.verification.specs.declared.judgement.CellFinding.TheVariants as found
+use Rattle.verification.specs.declared.judgement.CellState.{CellState}
 use Rattle.verification.specs.declared.row.Finding.TheVariants as findings
 use Rattle.verification.specs.declared.row.Row.{Row}
 use Rattle.verification.specs.Found.{FindingsState, HasTaken, IsFound, IsFoundBy, IsFoundIn, lines_with, unjudged}
-use Rattle.verification.specs.FoundSteps.{AreJudgedBy, IsJudgedBy, explained_found, lines_of_found, lines_of_state}
+use Rattle.verification.specs.FoundSteps.{explained_found, lines_of_found, lines_of_state, put_each, put_found}
 use Rattle.verification.specs.FoundSteps.{rows_of_finding, rows_of_found, rows_of_state, text_of_detail}
 use Rattle.verification.specs.FoundSteps.{text_of_found, text_of_layout}
+use Rattle.verification.specs.Judgement.{AreFoundOf, IsFoundOf}
 use Rattle.verification.specs.Table.{AreLinesOfCells, IsExplained, IsTable, IsTextWith, difference_lines}
 use Rattle.verification.specs.Table.{explained_header, finding_line, finds_untimely, lines_in_front, lines_of_cell}
 use Rattle.verification.specs.Table.{lines_of_finding, other_line, shift_lines}
@@ -116,33 +119,30 @@ stays-seen layout tapes tape c seen is = by_test (is_cell c.run.cell tape.cell) 
         subst (λ o. IsFoundBy layout c.run o c.finding) (sym (find-kept (is_tape_of c.run.cell) tapes tape had)) is
     by_test false other = stays layout tapes tape c other is
 
--- a cell that had no tape, if this tape is of it
-judged-first : (layout : TableLayout) (tapes : List TapeRecording) (tape : TapeRecording) (old new : CellState) →
-    list_any (is_tape_of tape.cell) tapes ≡ false → IsJudgedBy layout tape old new → IsFound layout tapes old →
-    IsFound layout (tapes ++ tape ∷ []) new
-judged-first layout tapes tape old new unseen judged is =
-    subst (λ r. IsFoundBy layout r (find (is_tape_of r.cell) (tapes ++ tape ∷ [])) new.finding) (sym judged.run)
-    (by_test (is_cell old.run.cell tape.cell) refl)
-  where
-    by_test : (here : Bool) → is_cell old.run.cell tape.cell ≡ here →
-        IsFoundBy layout old.run (find (is_tape_of old.run.cell) (tapes ++ tape ∷ [])) new.finding
-    by_test true same =
-        let none : list_any (is_tape_of old.run.cell) tapes ≡ false =
-        ap (λ cell. list_any (is_tape_of cell) tapes) (same_cell old.run.cell tape.cell same) ∙ unseen in
-        let found : IsFoundIn layout old.run tape.slots tape.blocks new.finding =
-        subst (λ b. MatchBool b (IsFoundIn layout old.run tape.slots tape.blocks new.finding)
-        (new.finding ≡ old.finding)) same
-        judged.finding in
-        subst (λ o. IsFoundBy layout old.run o new.finding)
-        (sym (find-new (is_tape_of old.run.cell) tapes tape none same)) found
-    by_test false other =
-        let kept : new.finding ≡ old.finding =
-        subst (λ b. MatchBool b (IsFoundIn layout old.run tape.slots tape.blocks new.finding)
-        (new.finding ≡ old.finding))
-        other
-        judged.finding in
-        subst (λ f. IsFoundBy layout old.run (find (is_tape_of old.run.cell) (tapes ++ tape ∷ [])) f) (sym kept)
-        (stays layout tapes tape old other is)
+-- a cell, if none of the tapes before this one is of its cell
+one-put : (layout : TableLayout) (tapes : List TapeRecording) (tape : TapeRecording) (c : CellState)
+    (f : Option CellFinding) →
+    list_any (is_tape_of tape.cell) tapes ≡ false → IsFoundOf layout tape c.run f → IsFound layout tapes c →
+    IsFound layout (tapes ++ tape ∷ []) (put_found c f)
+one-put layout tapes tape c None unseen found is = stays layout tapes tape c found is
+one-put layout tapes tape c (Some finding) unseen found is =
+    let none : list_any (is_tape_of c.run.cell) tapes ≡ false =
+    ap (λ cell. list_any (is_tape_of cell) tapes) (same_cell c.run.cell tape.cell found.0) ∙ unseen in
+    subst (λ o. IsFoundBy layout c.run o finding) (sym (find-new (is_tape_of c.run.cell) tapes tape none found.0))
+    found.1
+
+each-put : (layout : TableLayout) (tapes : List TapeRecording) (tape : TapeRecording) (cells : List CellState)
+    (found : List (Option CellFinding)) →
+    list_any (is_tape_of tape.cell) tapes ≡ false →
+    AllZip (IsFoundOf layout tape) (map (λ (c : CellState). c.run) cells) found →
+    AllByRecursion (IsFound layout tapes) cells →
+    AllByRecursion (IsFound layout (tapes ++ tape ∷ [])) (put_each cells found)
+each-put layout tapes tape [] found unseen are is = tt
+each-put layout tapes tape (c ∷ cells) [] unseen are is = absurd are
+each-put layout tapes tape (c ∷ cells) (f ∷ found) unseen are is = (
+  one-put layout tapes tape c f unseen are.0 is.0,
+  each-put layout tapes tape cells found unseen are.1 is.1,
+)
 
 -- the rows of one more tape that isn't judged
 others-more : (records : List Record) (before tapes : List TapeRecording) (tape : TapeRecording) →
@@ -249,46 +249,150 @@ taken-second layout records old new tapes tape layout_is taken known second cell
           ∙ sym (others-more records [] tapes tape);
     }
 
--- the runs of cells that were judged
-runs-same : (layout : TableLayout) (tape : TapeRecording) (old new : List CellState) → AreJudgedBy layout tape old new →
-    map (λ (c : CellState). c.run) new ≡ map (λ (c : CellState). c.run) old
-runs-same layout tape [] [] judged = refl
-runs-same layout tape [] (n ∷ new) judged = absurd (let less : ⊥ = omega (arith, judged.long) in less)
-runs-same layout tape (c ∷ old) new judged =
-    let run : CellState → Record = λ s. s.run in
-    ext_get_or c.run (map run new) (map run (c ∷ old))
-    (length-map new run ∙ judged.long ∙ sym (length-map (c ∷ old) run))
-    (λ i within.
-    let in_new : i < length new = omega (arith, length-map new run) in
-    let in_old : i < length (c ∷ old) = omega (arith, judged.long) in
-    get_or-map run new i c c.run in_new ∙ (judged.each i c in_old).run
-    ∙ sym (get_or-map run (c ∷ old) i c c.run in_old))
+-- a cell keeps its run
+run-put : (c : CellState) (f : Option CellFinding) → (put_found c f).run ≡ c.run
+run-put c None = refl
+run-put c (Some finding) = refl
+
+runs-put : (cells : List CellState) (found : List (Option CellFinding)) →
+    map (λ (c : CellState). c.run) (put_each cells found) ≡ map (λ (c : CellState). c.run) cells
+runs-put [] found = refl
+runs-put (c ∷ cells) [] = refl
+runs-put (c ∷ cells) (f ∷ found) =
+    ap (λ r. r ∷ map (λ (s : CellState). s.run) (put_each cells found)) (run-put c f)
+    ∙ ap (λ rs. c.run ∷ rs) (runs-put cells found)
 
 -- the first tape of a cell is judged
 pub taken-first : (layout : TableLayout) (records : List Record) (old new : FindingsState) (tapes : List TapeRecording)
-    (tape : TapeRecording)
-    →
+    (tape : TapeRecording) (found : List (Option CellFinding)) →
     new.layout ≡ old.layout → HasTaken layout records old tapes → is_known (map (λ (c : CellState). c.run) old.cells)
     tape.cell ≡ true →
-    list_any (is_cell tape.cell) old.seen ≡ false →
-    AreJudgedBy layout tape old.cells new.cells → new.seen ≡ old.seen ++ tape.cell ∷ [] →
+    list_any (is_cell tape.cell) old.seen ≡ false → AreFoundOf layout records tapes tape found →
+    new.cells ≡ put_each old.cells found → new.seen ≡ old.seen ++ tape.cell ∷ [] →
     new.others ≡ old.others → HasTaken layout records new (tapes ++ tape ∷ [])
-taken-first layout records old new tapes tape layout_is taken known first judged seen others =
+taken-first layout records old new tapes tape found layout_is taken known first are cells seen others =
     let unseen : list_any (is_tape_of tape.cell) tapes ≡ false =
     sym (seen-any tape.cell tapes) ∙ ap (list_any (is_cell tape.cell)) (sym taken.seen) ∙ first in
     record {
       layout_is = layout_is ∙ taken.layout_is;
-      cells = runs-same layout tape old.cells new.cells judged ∙ taken.cells;
-      found = λ k d within.
-          let inside : k < length old.cells = omega (arith, judged.long) in
-          judged-first layout tapes tape (get_or old.cells k d) (get_or new.cells k d) unseen (judged.each k d inside)
-          (taken.found k d inside);
+      cells = ap (map (λ (c : CellState). c.run)) cells ∙ runs-put old.cells found ∙ taken.cells;
+      found = subst (All (IsFound layout (tapes ++ tape ∷ []))) (sym cells)
+          (All-from_recursion (IsFound layout (tapes ++ tape ∷ [])) (put_each old.cells found)
+          (each-put layout tapes tape old.cells found unseen
+          (subst (λ rs. AllZip (IsFoundOf layout tape) rs found) (sym taken.cells) (are unseen))
+          (recursion_from_All (IsFound layout tapes) old.cells taken.found)));
       seen = seen-more old tapes tape new.seen taken.seen seen;
       others = others ∙ taken.others ∙ sym (append-nil (other_rows records [] tapes))
           ∙ ap (λ rows. other_rows records [] tapes ++ rows)
           (sym (row-by records tapes tape true false (known-of records old tape.cell true taken.cells known) unseen))
           ∙ sym (others-more records [] tapes tape);
     }
+
+-- nothing is said of what a second tape finds
+pub second-found : (layout : TableLayout) (records : List Record) (f : FindingsState) (tapes : List TapeRecording)
+    (tape : TapeRecording) (found : List (Option CellFinding)) →
+    HasTaken layout records f tapes → list_any (is_cell tape.cell) f.seen ≡ true →
+    AreFoundOf layout records tapes tape found
+second-found layout records f tapes tape found taken second unseen =
+    let had : list_any (is_tape_of tape.cell) tapes ≡ true =
+    sym (seen-any tape.cell tapes) ∙ ap (list_any (is_cell tape.cell)) (sym taken.seen) ∙ second in
+    cc
+
+-- what the first tape of a cell finds
+pub first-found : (layout : TableLayout) (records : List Record) (f : FindingsState) (tapes : List TapeRecording)
+    (tape : TapeRecording) (found : List (Option CellFinding)) →
+    HasTaken layout records f tapes →
+    AllZip (IsFoundOf f.layout tape) (map (λ (c : CellState). c.run) f.cells) found →
+    AreFoundOf layout records tapes tape found
+first-found layout records f tapes tape found taken are unseen =
+    subst (λ (l : TableLayout). AllZip (IsFoundOf l tape) records found) taken.layout_is
+    (subst (λ rs. AllZip (IsFoundOf f.layout tape) rs found) taken.cells are)
+
+-- what a tape finds stays so when further tapes are taken before it
+none-here : (here there all : Bool) → (here || all) ≡ false → (all ≡ false → there ≡ false) → (here || there) ≡ false
+none-here true there all none later = cc
+none-here false there all none later = later none
+
+none-before : {X : Type 0} (test : X → Bool) (xs ys : List X) → list_any test (xs ++ ys) ≡ false →
+    list_any test xs ≡ false
+none-before test [] ys none = refl
+none-before test (x ∷ xs) ys none =
+    none-here (test x) (list_any test xs) (list_any test (xs ++ ys)) none (none-before test xs ys)
+
+-- what a tape finds after some tapes it finds after more of them
+pub found-later : (layout : TableLayout) (records : List Record) (before more : List TapeRecording)
+    (tape : TapeRecording) (found : List (Option CellFinding)) →
+    AreFoundOf layout records before tape found → AreFoundOf layout records (before ++ more) tape found
+found-later layout records before more tape found are unseen =
+    are (none-before (is_tape_of tape.cell) before more unseen)
+
+-- one more cell of which that was found
+pub found-next : (P : Record → Option CellFinding → Type 0) (cells : List CellState) (i : ℕ) (c : CellState)
+    (found : List (Option CellFinding)) (f : Option CellFinding) →
+    i < length cells → c ≡ get_or cells i c → AllZip P (map (λ (s : CellState). s.run) (take i cells)) found →
+    P c.run f → AllZip P (map (λ (s : CellState). s.run) (take (i + 1) cells)) (found ++ f ∷ [])
+found-next P cells i c found f within is so_far this =
+    subst (λ rs. AllZip P rs (found ++ f ∷ []))
+    (sym (ap (map (λ (s : CellState). s.run)) (take_more cells i c within)
+    ∙ map-append (λ (s : CellState). s.run) (take i cells) (get_or cells i c ∷ [])))
+    (all_zipped_more P (map (λ (s : CellState). s.run) (take i cells)) found (get_or cells i c).run f so_far
+    (subst (λ (s : CellState). P s.run f) is this))
+
+-- where nothing was found nothing is put
+pub put-none : (cells : List CellState) → cells ≡ put_each cells []
+put-none [] = refl
+put-none (c ∷ cells) = refl
+
+-- one more finding that is put
+put-next : (cells : List CellState) (found : List (Option CellFinding)) (f : Option CellFinding) (d : CellState) →
+    length found < length cells →
+    set (put_each cells found) (length found) (put_found (get_or (put_each cells found) (length found) d) f)
+    ≡ put_each cells (found ++ f ∷ [])
+put-next [] found f d within = absurd (let less : ⊥ = omega arith in less)
+put-next (x ∷ cells) [] f d within = ap (λ xs. put_found x f ∷ xs) (put-none cells)
+put-next (x ∷ cells) (g ∷ found) f d within =
+    ap (λ xs. put_found x g ∷ xs) (put-next cells found f d (omega arith))
+
+put-past : (cells : List CellState) (found : List (Option CellFinding)) (f : Option CellFinding) →
+    length cells ≤ length found → put_each cells (found ++ f ∷ []) ≡ put_each cells found
+put-past [] found f past = refl
+put-past (x ∷ cells) [] f past = absurd (let less : ⊥ = omega arith in less)
+put-past (x ∷ cells) (g ∷ found) f past = ap (λ xs. put_found x g ∷ xs) (put-past cells found f (omega arith))
+
+-- as many cells stay
+pub length-put : (cells : List CellState) (found : List (Option CellFinding)) →
+    length (put_each cells found) ≡ length cells
+length-put [] found = refl
+length-put (x ∷ cells) [] = refl
+length-put (x ∷ cells) (g ∷ found) = ap suc (length-put cells found)
+
+-- one more cell gets what was found of it
+pub put-turn : (cells now : List CellState) (found : List (Option CellFinding)) (f : Option CellFinding) (place : ℕ)
+    (d new : CellState) →
+    place ≡ min (length found) (length cells) → now ≡ put_each cells found → place < length now →
+    new ≡ put_found (get_or now place d) f →
+    (place + 1 ≡ min (length (found ++ f ∷ [])) (length cells))
+    × (set now place new ≡ put_each cells (found ++ f ∷ []))
+put-turn cells now found f place d new many put within new_is =
+    let long : length now ≡ length cells = ap length put ∙ length-put cells found in
+    let at : place ≡ length found = omega arith in (
+      omega (arith, length-append found (f ∷ [])),
+      ap (λ ns. set ns place new) put ∙ ap (λ i. set (put_each cells found) i new) at
+          ∙ ap (set (put_each cells found) (length found))
+          (new_is ∙ ap (λ s. put_found s f)
+          (ap (λ ns. get_or ns place d) put ∙ ap (λ i. get_or (put_each cells found) i d) at))
+          ∙ put-next cells found f d (omega arith),
+    )
+
+-- past the last cell nothing is put
+pub put-passed : (cells now : List CellState) (found : List (Option CellFinding)) (f : Option CellFinding) (place : ℕ) →
+    place ≡ min (length found) (length cells) → now ≡ put_each cells found → length now ≤ place →
+    (place ≡ min (length (found ++ f ∷ [])) (length cells)) × (now ≡ put_each cells (found ++ f ∷ []))
+put-passed cells now found f place many put past =
+    let long : length now ≡ length cells = ap length put ∙ length-put cells found in (
+      omega (arith, length-append found (f ∷ [])),
+      put ∙ sym (put-past cells found f (omega arith)),
+    )
 
 -- the rows of what was found are those of the tapes
 of-tape : (layout : TableLayout) (r : Record) (tape : TapeRecording) (finding : CellFinding)

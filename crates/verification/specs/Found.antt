@@ -8,9 +8,9 @@ use Rattle.verification.specs.declared.detail.Detail.{Detail}
 use Rattle.verification.specs.declared.detail.Detail.TheVariants as detail
 use Rattle.verification.specs.declared.detail.TableLayout.{TableLayout}
 use Rattle.verification.specs.declared.difference.Difference.{Difference}
-use Rattle.verification.specs.declared.findings.CellFinding.{CellFinding}
-use Rattle.verification.specs.declared.findings.CellFinding.TheVariants as found
-use Rattle.verification.specs.declared.findings.CellState.{CellState}
+use Rattle.verification.specs.declared.judgement.CellFinding.{CellFinding}
+use Rattle.verification.specs.declared.judgement.CellFinding.TheVariants as found
+use Rattle.verification.specs.declared.judgement.CellState.{CellState}
 use Rattle.verification.specs.declared.row.Row.{Row}
 use Rattle.verification.specs.Difference.{AreDifferences}
 use Rattle.handset.specs.Recording.{TapeRecording}

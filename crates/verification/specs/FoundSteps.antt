@@ -1,32 +1,30 @@
 -- What one more tape changes of what is kept (own). The contracts of private functions alone speak of it.
-use Rattle.std.specs.Prelude.{◌≡◌, ℕ, ◌<◌, Option, List, [], ◌∷◌, ◌++◌, length, map, slice_index_or, MatchBool}
+use Rattle.std.specs.Prelude.{ℕ, Option, Some, None, List, [], ◌∷◌, ◌++◌, map}
 use Rattle.std.specs.List.{flat_map}
 use Rattle.cbsp_wire.specs.declared.message.Cell.{Cell}
-use Rattle.cbsp_wire.specs.Range.{is_cell}
 use Rattle.verification.specs.declared.detail.Detail.{Detail}
 use Rattle.verification.specs.declared.detail.Detail.TheVariants as detail
 use Rattle.verification.specs.declared.detail.TableLayout.{TableLayout}
-use Rattle.verification.specs.declared.findings.CellFinding.{CellFinding}
-use Rattle.verification.specs.declared.findings.CellFinding.TheVariants as found
-use Rattle.verification.specs.declared.findings.CellState.{CellState}
+use Rattle.verification.specs.declared.judgement.CellFinding.{CellFinding}
+use Rattle.verification.specs.declared.judgement.CellFinding.TheVariants as found
+use Rattle.verification.specs.declared.judgement.CellState.{CellState}
 use Rattle.verification.specs.declared.row.Finding.TheVariants as findings
 use Rattle.verification.specs.declared.row.Row.{Row}
-use Rattle.verification.specs.Found.{FindingsState, IsFoundIn}
-use Rattle.handset.specs.Recording.{TapeRecording}
+use Rattle.verification.specs.Found.{FindingsState}
 use Rattle.slot_times.specs.declared.start.Start.{Start}
 use Rattle.verification.specs.Rows.{difference_row, finding_row}
 use Rattle.verification.specs.Table.{explained_header, finding_line, other_line, plain_table}
 
--- the first tape of a cell is judged, and other cells stay as they are
-pub record IsJudgedBy (layout : TableLayout) (tape : TapeRecording) (old new : CellState) : Type 0 where
-  pub run : new.run ≡ old.run
-  pub finding : MatchBool (is_cell old.run.cell tape.cell) (IsFoundIn layout old.run tape.slots tape.blocks new.finding)
-      (new.finding ≡ old.finding)
+-- a cell with what a tape found of it, if the tape is of it
+abbrev pub put_found : CellState → Option CellFinding → CellState
+put_found c None = c
+put_found c (Some finding) = record { run = c.run; finding = finding }
 
-pub record AreJudgedBy (layout : TableLayout) (tape : TapeRecording) (old new : List CellState) : Type 0 where
-  pub long : length new ≡ length old
-  pub each : (k : ℕ) (d : CellState) → k < length old
-      → IsJudgedBy layout tape (slice_index_or old k d) (slice_index_or new k d)
+-- each cell with what a tape found of it
+abbrev pub put_each : List CellState → List (Option CellFinding) → List CellState
+put_each [] found = []
+put_each (c ∷ cells) [] = c ∷ cells
+put_each (c ∷ cells) (f ∷ found) = put_found c f ∷ put_each cells found
 
 -- the rows of a cell, by what was found of it
 abbrev pub rows_of_finding : Cell → CellFinding → List Row

@@ -12,6 +12,7 @@ pub mod RowText
 pub mod Times
 pub mod Found
 pub mod FoundSteps
+pub mod Judgement
 pub mod Explained
 pub mod Shift
 pub mod ShiftSteps

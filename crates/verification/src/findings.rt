@@ -1,20 +1,18 @@
 //! What the tapes of a run have, tape by tape.
 
-ghost use Rattle.std.specs.Prelude.{◌≡◌, ◌++◌, [], IfOk, OnOk, map};
+ghost use Rattle.std.specs.Prelude.{◌≡◌, ℕ, ◌++◌, List, [], IfOk, OnOk, map};
 ghost use Rattle.std.specs.List.{flat_map, list_any};
 ghost use Rattle.cbsp_wire.specs.Range.{is_cell};
-ghost use Rattle.bsc_table.specs.Record.{Record};
-ghost use Rattle.verification.specs.Found.{AreRowsOfTaken, HasTaken, IsFoundIn, IsTableOfTaken, TakesTape};
-ghost use Rattle.verification.specs.Found.{lines_told, unjudged};
-ghost use Rattle.verification.specs.FoundSteps.{AreJudgedBy, IsJudgedBy, explained_found, lines_of_state};
-ghost use Rattle.verification.specs.FoundSteps.{rows_of_found, rows_of_state, text_of_found};
+ghost use Rattle.verification.specs.Found.{AreRowsOfTaken, HasTaken, IsTableOfTaken, TakesTape, unjudged};
+ghost use Rattle.verification.specs.FoundSteps.{explained_found, lines_of_state, rows_of_found, rows_of_state};
+ghost use Rattle.verification.specs.FoundSteps.{text_of_found};
+ghost use Rattle.verification.specs.Judgement.{FindsOf, TakesJudged};
 ghost use Rattle.verification.specs.Rows.{difference_row, is_known, tape_of};
 ghost use Rattle.verification.specs.Table.{other_line};
 
-use crate::cell::differences;
 use crate::detail::{Detail, TableLayout};
 use crate::difference::Difference;
-use crate::explained::explained_lines;
+use crate::judgement::{CellFinding, CellState, Judgement, judgement_of, put_each};
 use crate::lines::{finding_line, header_line};
 use crate::row::{Finding, Row};
 use crate::timed::plain_table;
@@ -23,26 +21,6 @@ use cbsp_wire::Cell;
 use slot_times::Start;
 use std::alloc::{AllocError, Global};
 use std::marker::Model;
-
-/// What was found of a cell.
-#[derive(Drop)]
-pub enum CellFinding {
-    /// It had no tape.
-    NoTape,
-    /// Its tape has another number of slots than the run.
-    OtherSlots,
-    /// Its tape has these differences, which the explained table, if it is wanted, tells in these lines.
-    Judged(Vec<Difference>, Vec<u8>),
-}
-
-/// A cell of the run, and what was found of it.
-#[derive(Drop)]
-pub struct CellState {
-    /// The record of its run.
-    pub run: CellRecord,
-    /// What was found.
-    pub finding: CellFinding,
-}
 
 /// What was found of the tapes of a run so far.
 #[derive(Drop)]
@@ -76,40 +54,6 @@ pub struct Table {
     pub text: Vec<u8>,
 }
 
-/// The lines that the explained table has of a cell's differences, if that is wanted. The only error is out of memory.
-fn told_lines(
-    alloc: Global,
-    layout: TableLayout,
-    run: &CellRecord,
-    blocks: &[[u8; 23]],
-    found: &[Difference],
-) -> Result<Vec<u8>, AllocError>
-    ensures { IfOk result (λ lines. lines.items ≡ lines_told layout run.now blocks.now found.now) }
-{
-    match layout.detail {
-        Detail::Plain => Ok(Vec::new(alloc)),
-        Detail::Explained => explained_lines(alloc, layout.start, run, blocks, found),
-    }
-}
-
-/// What was found of a cell by a tape of this many slots, with these blocks. The only error is out of memory.
-fn judge(
-    alloc: Global,
-    layout: TableLayout,
-    run: &CellRecord,
-    slots: u32,
-    blocks: &[[u8; 23]],
-) -> Result<CellFinding, AllocError>
-    ensures { IfOk result (IsFoundIn layout run.now slots blocks.now) }
-{
-    if slots != u32::from(run.slots()) {
-        return Ok(CellFinding::OtherSlots);
-    }
-    let found = differences(alloc, run, blocks)?;
-    let lines = told_lines(alloc, layout, run, blocks, &found)?;
-    Ok(CellFinding::Judged(found, lines))
-}
-
 /// The cells of these records, before any tape. The only error is out of memory.
 fn unjudged_cells(alloc: Global, records: Vec<CellRecord>) -> Result<Vec<CellState>, AllocError>
     ensures { IfOk result (λ cells. cells.items ≡ map unjudged records.items) }
@@ -134,40 +78,6 @@ fn is_among(cells: &[Cell], cell: Cell) -> bool
         }
     }
     false
-}
-
-/// Judges a tape, if it is of a cell. The only error is out of memory.
-fn judge_cell(
-    alloc: Global,
-    layout: TableLayout,
-    state: &mut CellState,
-    cell: Cell,
-    slots: u32,
-    blocks: &[[u8; 23]],
-) -> Result<(), AllocError>
-    ensures { OnOk result (IsJudgedBy layout (tape_of cell slots blocks.now) state.old state.new) }
-{
-    if state.run.cell() == cell {
-        state.finding = judge(alloc, layout, &state.run, slots, blocks)?;
-    }
-    Ok(())
-}
-
-/// Judges a tape in each of some cells of which it is. The only error is out of memory.
-fn judge_cells(
-    alloc: Global,
-    layout: TableLayout,
-    cells: &mut [CellState],
-    cell: Cell,
-    slots: u32,
-    blocks: &[[u8; 23]],
-) -> Result<(), AllocError>
-    ensures { OnOk result (AreJudgedBy layout (tape_of cell slots blocks.now) cells.old cells.new) }
-{
-    for place in 0..cells.len() {
-        judge_cell(alloc, layout, &mut cells[place], cell, slots, blocks)?;
-    }
-    Ok(())
 }
 
 /// Whether a cell is one of the run's.
@@ -247,14 +157,36 @@ impl Findings {
         })
     }
 
-    /// Takes the next tape: of which cell it is, how many slots it has, and its blocks. The first tape of a cell is
-    /// judged.
+    /// What a tape finds: of which cell it is, how many slots it has, and its blocks. This takes nothing, so that tapes
+    /// may be judged side by side and taken in their order. Nothing is found of the second tape of a cell.
+    ///
+    /// # Errors
+    ///
+    /// Out of memory.
+    pub fn judged(
+        &self,
+        cell: Cell,
+        slots: u32,
+        blocks: &[[u8; 23]],
+    ) -> Result<Judgement, AllocError>
+        ensures { IfOk result (λ judgement. FindsOf self.now (tape_of cell slots blocks.now) judgement) }
+    {
+        if is_among(&self.seen, cell) {
+            return Ok(Judgement {
+                found: Vec::new(self.alloc),
+            });
+        }
+        judgement_of(self.alloc, self.layout, &self.cells, cell, slots, blocks)
+    }
+
+    /// Takes the next tape, which is of a cell and was judged. The first tape of a cell counts.
     ///
     /// # Errors
     ///
     /// Out of memory. Some of the tape may then have been taken.
-    pub fn take(&mut self, cell: Cell, slots: u32, blocks: &[[u8; 23]]) -> Result<(), AllocError>
-        ensures { OnOk result (TakesTape self.old self.new (tape_of cell slots blocks.now)) }
+    pub fn take_judged(&mut self, cell: Cell, judgement: Judgement) -> Result<(), AllocError>
+        ensures { OnOk result ((slots : ℕ) (blocks : List (List ℕ)) →
+            TakesJudged self.old self.new (tape_of cell slots blocks) judgement) }
     {
         if !is_known(&self.cells, cell) {
             self.others.push(Row {
@@ -267,17 +199,23 @@ impl Findings {
                 finding: Finding::SecondTape,
             })?;
         } else {
-            judge_cells(
-                self.alloc,
-                self.layout,
-                self.cells.as_mut_slice(),
-                cell,
-                slots,
-                blocks,
-            )?;
+            put_each(self.cells.as_mut_slice(), judgement);
         }
         self.seen.push(cell)?;
         Ok(())
+    }
+
+    /// Takes the next tape: of which cell it is, how many slots it has, and its blocks. The first tape of a cell is
+    /// judged.
+    ///
+    /// # Errors
+    ///
+    /// Out of memory. Some of the tape may then have been taken.
+    pub fn take(&mut self, cell: Cell, slots: u32, blocks: &[[u8; 23]]) -> Result<(), AllocError>
+        ensures { OnOk result (TakesTape self.old self.new (tape_of cell slots blocks.now)) }
+    {
+        let judgement = self.judged(cell, slots, blocks)?;
+        self.take_judged(cell, judgement)
     }
 
     /// The rows of the cells, in the order of their records, and then those of tapes that weren't judged, in their

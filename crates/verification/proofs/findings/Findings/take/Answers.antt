@@ -1,83 +1,9 @@
-use Rattle.std.proofs.Common.{◌≡◌, ◌∙◌, ◌++◌, ◌∷◌, [], ap, sym, subst, map, refl}
-use Rattle.std.specs.List.{list_any}
-use Rattle.std.proofs.lemmas.List.{with_items_is}
-use Rattle.cbsp_wire.specs.Range.{is_cell}
-use Rattle.verification.specs.declared.detail.TableLayout.{TableLayout}
-use Rattle.verification.specs.declared.findings.CellState.{CellState}
-use Rattle.verification.specs.declared.findings.Findings.TheInside.{Inside}
-use Rattle.verification.specs.declared.row.Finding.TheVariants as findings
-use Rattle.verification.specs.Found.{FindingsState}
-use Rattle.verification.specs.FoundSteps.{AreJudgedBy}
-use Rattle.handset.specs.Recording.{TapeRecording}
-use Rattle.verification.specs.Rows.{is_known, finding_row, tape_of}
-use Rattle.verification.proofs.FoundLaws.{taken-first, taken-second, taken-unknown}
+use Rattle.std.proofs.lemmas.Result.{on_ok_weaker}
 use Rattle.verification.proofs.findings.Findings.take.Goals as goal
-use Rattle.verification.proofs.findings.Findings.take.Goals.{then-not-is_known+in_ok-push}
-use Rattle.verification.proofs.findings.Findings.take.Goals.{else-not-is_known+then-is_among+in_ok-push-2}
-use Rattle.verification.proofs.findings.Findings.take.Goals.{else-not-is_known+else-is_among+in_ok-judge_cells}
-
-tape : (c : goal.In_ok-push-3) → TapeRecording
-tape c = tape_of c.args.cell c.args.slots c.args.blocks.now
-
-new : (c : goal.In_ok-push-3) → FindingsState
-new c = record {
-  layout = c.if-not-is_known.self-inside.layout;
-  cells = c.if-not-is_known.self-inside.cells.items;
-  seen = c.push-2.new.self.items;
-  others = c.if-not-is_known.self-inside.others.items;
-}
-
--- whether the cell is the run's
-known : (c : goal.In_ok-push-3) → is_known (map (λ (s : CellState). s.run) c.args.self.now.cells) c.args.cell
-    ≡ c.is_known.result
-known c =
-    ap (λ (f : FindingsState). is_known (map (λ (s : CellState). s.run) f.cells) c.args.cell) (sym c.self.view_is)
-    ∙ ap (λ cells. is_known (map (λ (s : CellState). s.run) cells) c.args.cell) (sym c.deref.ensures.value)
-    ∙ sym c.is_known.ensures
 
 pub returns : goal.returns
-unfolding tape new
-returns c = λ layout records tapes taken. elim c.if-not-is_known.branch [
-  | then-not-is_known+in_ok-push w ↦ taken-unknown layout records c.args.self.now (new c) tapes (tape c)
-      (ap (λ (i : Inside). i.layout) w.self-inside-is ∙ ap (λ (f : FindingsState). f.layout) c.self.view_is) taken
-      (known c ∙ w.if-not-is_known.true)
-      (ap (λ (i : Inside). i.cells.items) w.self-inside-is ∙ ap (λ (f : FindingsState). f.cells) c.self.view_is)
-      (c.in_ok-push-3.ensures.items
-      ∙ ap (λ (i : Inside). i.seen.items ++ c.args.cell ∷ []) w.self-inside-is
-      ∙ ap (λ (f : FindingsState). f.seen ++ c.args.cell ∷ []) c.self.view_is)
-      (ap (λ (i : Inside). i.others.items) w.self-inside-is ∙ w.in_ok-push.ensures.items
-      ∙ ap (λ (f : FindingsState). f.others ++ finding_row c.args.cell findings.UnknownCell ∷ []) c.self.view_is)
-  | else-not-is_known+then-is_among+in_ok-push-2 w ↦ taken-second layout records c.args.self.now (new c) tapes (tape c)
-      (ap (λ (i : Inside). i.layout) w.self-inside-is ∙ ap (λ (f : FindingsState). f.layout) c.self.view_is) taken
-      (known c ∙ w.if-not-is_known.false)
-      (ap (λ (f : FindingsState). list_any (is_cell c.args.cell) f.seen) (sym c.self.view_is)
-      ∙ ap (list_any (is_cell c.args.cell)) (sym w.deref-else-not-is_known.ensures.value)
-      ∙ sym w.is_among.ensures ∙ w.if-is_among.true)
-      (ap (λ (i : Inside). i.cells.items) w.self-inside-is ∙ ap (λ (f : FindingsState). f.cells) c.self.view_is)
-      (c.in_ok-push-3.ensures.items
-      ∙ ap (λ (i : Inside). i.seen.items ++ c.args.cell ∷ []) w.self-inside-is
-      ∙ ap (λ (f : FindingsState). f.seen ++ c.args.cell ∷ []) c.self.view_is)
-      (ap (λ (i : Inside). i.others.items) w.self-inside-is ∙ w.in_ok-push-2.ensures.items
-      ∙ ap (λ (f : FindingsState). f.others ++ finding_row c.args.cell findings.SecondTape ∷ []) c.self.view_is)
-  | else-not-is_known+else-is_among+in_ok-judge_cells w ↦ taken-first layout records c.args.self.now (new c) tapes
-      (tape c)
-      (ap (λ (i : Inside). i.layout) w.self-inside-is ∙ ap (λ (f : FindingsState). f.layout) c.self.view_is)
-      taken
-      (known c ∙ w.if-not-is_known.false)
-      (ap (λ (f : FindingsState). list_any (is_cell c.args.cell) f.seen) (sym c.self.view_is)
-      ∙ ap (list_any (is_cell c.args.cell)) (sym w.deref-else-not-is_known.ensures.value)
-      ∙ sym w.is_among.ensures ∙ w.if-is_among.false)
-      (subst (λ (t : TableLayout). AreJudgedBy t (tape c) c.args.self.now.cells (new c).cells)
-      (ap (λ (f : FindingsState). f.layout) c.self.view_is ∙ taken.layout_is)
-      (subst (AreJudgedBy c.self.inside.layout (tape c) c.args.self.now.cells)
-      (sym (ap (λ (i : Inside). i.cells.items) w.self-inside-is
-      ∙ with_items_is c.self.inside.cells w.judge_cells.new.cells
-      (w.in_ok-judge_cells.ensures.long ∙ w.as_mut_slice.ensures.len ∙ refl)))
-      (subst (λ cells. AreJudgedBy c.self.inside.layout (tape c) cells w.judge_cells.new.cells)
-      (w.as_mut_slice.ensures.value ∙ ap (λ (f : FindingsState). f.cells) c.self.view_is)
-      w.in_ok-judge_cells.ensures)))
-      (c.in_ok-push-3.ensures.items
-      ∙ ap (λ (i : Inside). i.seen.items ++ c.args.cell ∷ []) w.self-inside-is
-      ∙ ap (λ (f : FindingsState). f.seen ++ c.args.cell ∷ []) c.self.view_is)
-      (ap (λ (i : Inside). i.others.items) w.self-inside-is ∙ ap (λ (f : FindingsState). f.others) c.self.view_is)
-]
+returns c =
+    on_ok_weaker c.take_judged.result
+    (λ takes. λ layout records tapes taken. takes c.args.slots c.args.blocks.now layout records tapes taken
+    (c.in_ok-judgement.ensures layout records tapes taken))
+    c.take_judged.ensures
