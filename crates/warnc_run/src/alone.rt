@@ -61,6 +61,9 @@ fn play_cells<G: Gate>(
 /// # Errors
 ///
 /// Returns the faults of [`records_after`](crate::tapes::records_after) with one session and one worker.
+//
+// It stays a function of its own, so that its stack is free while a book is read.
+#[inline(never)]
 pub(crate) fn records_alone<G: Gate>(
     alloc: Global,
     book: &Book,

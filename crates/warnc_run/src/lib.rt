@@ -43,7 +43,7 @@ pub use fault::RunFault;
 pub use groups::groups_stream;
 pub use laws::{first_shown_law, output_laws, report_column_laws, whole_laws};
 pub use live::{compile_stream, live_stream};
-pub use octets::product_alone;
+pub use octets::{product_alone, run_octets};
 pub use product::{Product, ProductFault, run_product};
 pub use records::{RanBook, run_book, run_group, run_with_book};
 pub use run::{BookRun, Books, Run, Sessions, Workers};

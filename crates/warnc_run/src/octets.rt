@@ -2,6 +2,7 @@
 
 ghost use Rattle.std.specs.Prelude.{◌≡◌, ◌≤◌, ℕ, List, length, map, All, IfErr, IfOk};
 ghost use Rattle.std.specs.List.{flat_map};
+ghost use Rattle.alert_book.specs.Book.{IsBook};
 ghost use Rattle.alert_book.specs.declared.network.Origin.TheVariants as origin;
 ghost use Rattle.asked_orders.specs.Asked.{orders_of_run};
 ghost use Rattle.cbsp_wire.specs.Range.{max_listed};
@@ -12,12 +13,15 @@ ghost use Rattle.warnc_run.specs.Alone.{IsUnmadeOf};
 ghost use Rattle.warnc_run.specs.Engine.{IsProductOf};
 ghost use Rattle.warnc_run.specs.Faults.{IsOfRun};
 ghost use Rattle.warnc_run.specs.Products.{octets_of, reading_of_record};
+ghost use Rattle.warnc_run.specs.Records.{IsRunWith};
+ghost use Rattle.warnc_run.specs.RunSteps.{HaveRunLive};
 ghost use Rattle.warnc_run.specs.declared.run.Books.TheVariants as books;
 
 use crate::alone::records_alone;
 use crate::fault::RunFault;
 use crate::product::Product;
 use crate::read::reading_of;
+use crate::records::RanBook;
 use crate::text::{of_memory, report_read, tables_text};
 use alert_book::{Order, read_octets};
 use asked_orders::orders_of_run;
@@ -115,6 +119,37 @@ fn made_of_records(
     }
 }
 
+/// Reads the book that octets are, and runs it with one session, in the calling thread.
+fn ran_alone(alloc: Global, octets: &[u8], slots: u16) -> Result<RanBook, RunFault>
+    ensures ok { IfOk result (λ ran. IsBook octets.now ran.book × HaveRunLive ran.book slots 1 ran.records.items) }
+    ensures err { IfErr result (IsUnmadeOf slots octets.now) }
+{
+    book_runs::served_parts_law();
+    let book = match read_octets(alloc, octets) {
+        Ok(book) => book,
+        Err(fault) => return Err(RunFault::Book(fault)),
+    };
+    let records = records_alone(alloc, &book, slots, &Open)?;
+    Ok(RanBook { book, records })
+}
+
+/// Runs the book that octets are, with one session, in the calling thread, and returns it with the records of its
+/// cells, in the order of the book, as [`run_with_book`](crate::run_with_book) does. It takes no lock, and makes no
+/// thread.
+///
+/// # Errors
+///
+/// Those of [`product_alone`].
+pub fn run_octets(alloc: Global, octets: &[u8], slots: u16) -> Result<RanBook, RunFault>
+    ensures ok { IfOk result (λ ran. IsRunWith origin.Book slots octets.now ran.book ran.records.items) }
+    ensures err { IfErr result (IsUnmadeOf slots octets.now) }
+{
+    // A handset is shown what the book means, whatever the cells answered, and each cell keeps the guarantee.
+    book_runs::session_laws();
+    bsc_table::legal_histories();
+    ran_alone(alloc, octets, slots)
+}
+
 /// Runs the book that octets are, with one session, in the calling thread, and returns what is made of its run: the
 /// octets that [`run_product`](crate::run_product) writes of such a run. It takes no lock, and makes no thread.
 ///
@@ -136,12 +171,7 @@ pub fn product_alone(
     // cells answered, and each cell keeps the guarantee.
     alert_book::book_laws();
     book_runs::session_laws();
-    book_runs::served_parts_law();
     bsc_table::legal_histories();
-    let book = match read_octets(alloc, octets) {
-        Ok(book) => book,
-        Err(fault) => return Err(RunFault::Book(fault)),
-    };
-    let records = records_alone(alloc, &book, slots, &Open)?;
-    made_of_records(alloc, book.given(), &records, slots, made)
+    let ran = ran_alone(alloc, octets, slots)?;
+    made_of_records(alloc, ran.book.given(), &ran.records, slots, made)
 }
