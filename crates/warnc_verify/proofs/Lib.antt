@@ -1,4 +1,5 @@
 pub mod Tables
 pub mod Inputs
+pub mod Taking
 pub mod CompiledTapes
 pub mod OneTable

@@ -2,6 +2,7 @@
 use Rattle.std.specs.Prelude.{◌≡◌, ⊤, ℕ, ◌<◌, List, [], Option, IfSome, length, map}
 use Rattle.std.specs.Io.KnownBytes.{Appends, Consumes, IsAtEnd}
 use Rattle.alert_book.specs.declared.network.Origin.{Origin}
+use Rattle.alert_book.specs.declared.network.Origin.TheVariants as origin
 use Rattle.device_ends.specs.Moves.{AppendsFront}
 use Rattle.device_ends.specs.Source.{reader_of}
 use Rattle.device_ends.specs.declared.reading.Source.{Source}
@@ -14,6 +15,7 @@ use Rattle.verification.specs.Rows.{AreRows}
 use Rattle.verification.specs.Table.{IsTextOf}
 use Rattle.verification.specs.declared.detail.TableLayout.{TableLayout}
 use Rattle.verification.specs.declared.row.Row.{Row}
+use Rattle.warnc_run.specs.Alone.{IsUnmadeOf}
 use Rattle.warnc_run.specs.Products.{RunOf}
 use Rattle.warnc_run.specs.Records.{HasRunBook, IsRecordsFault}
 use Rattle.warnc_verify.specs.declared.fault.VerifyFault.{VerifyFault}
@@ -135,3 +137,11 @@ HasWritten other = ⊥
 abbrev pub IsOfBookOrRun : VerifyFault → Type 0
 IsOfBookOrRun (faults.Run f) = ⊤
 IsOfBookOrRun other = ⊥
+
+-- why octets aren't judged: they are no book, or its run ended early; or they are a book that has a run, and the others
+-- are no tapes; or memory ran out
+abbrev pub IsUnjudged : (slots : ℕ) (book tapes : List ℕ) → VerifyFault → Type 0
+IsUnjudged slots book tapes (faults.Run f) = IsUnmadeOf slots book f
+IsUnjudged slots book tapes (faults.Tapes f) = HasRun origin.Book slots book × IsTapesFault tapes f
+IsUnjudged slots book tapes faults.Refused = ⊤
+IsUnjudged slots book tapes other = ⊥

@@ -9,8 +9,9 @@
 pub mod fault;
 mod judge;
 mod laws;
+mod side_by_side;
 pub mod verify;
 
 pub use fault::VerifyFault;
 pub use laws::verify_laws;
-pub use verify::verify_stream;
+pub use verify::{verify_octets, verify_stream};
