@@ -20,21 +20,22 @@ extern "C" {
 
 enum warnc_status {
     WARNC_OK = 0,
-    WARNC_LANGUAGE = 1,   /* no language has that word */
-    WARNC_EMPTY = 2,      /* there is no text */
-    WARNC_CHARACTER = 3,  /* a character can't be sent: a control character but LF, or one above U+FFFF */
-    WARNC_PAGES = 4,      /* the text takes more than 15 pages */
-    WARNC_MEMORY = 5,     /* out of memory */
-    WARNC_UTF8 = 6,       /* the text isn't UTF-8 */
-    WARNC_NUMBER = 7,     /* the number of a page isn't from 1 to the total, or the total is over 15 */
-    WARNC_UNREADABLE = 8, /* the data coding of a page has no alphabet, or its number is over the total */
-    WARNC_ROOM = 9,       /* the room is too small */
-    WARNC_SHORT = 10,     /* the octets end inside a tape */
-    WARNC_LONG = 11,      /* there are more than 64 tapes, or one says that it has more than 65,535 slots */
-    WARNC_GSM = 12,       /* GSM 7-bit has each character */
-    WARNC_BOOK = 13,      /* the octets are no book: a row or its text has a fault, or they are over 16 MiB */
-    WARNC_ENDED = 14,     /* the run ended early, though there was memory; none is known that does */
-    WARNC_SLOTS = 15      /* the number of slots is 0 */
+    WARNC_LANGUAGE = 1,    /* no language has that word */
+    WARNC_EMPTY = 2,       /* there is no text */
+    WARNC_CHARACTER = 3,   /* a character can't be sent: a control character but LF, or one above U+FFFF */
+    WARNC_PAGES = 4,       /* the text takes more than 15 pages */
+    WARNC_MEMORY = 5,      /* out of memory */
+    WARNC_UTF8 = 6,        /* the text isn't UTF-8 */
+    WARNC_NUMBER = 7,      /* the number of a page isn't from 1 to the total, or the total is over 15 */
+    WARNC_UNREADABLE = 8,  /* the data coding of a page has no alphabet, or its number is over the total */
+    WARNC_ROOM = 9,        /* the room is too small */
+    WARNC_SHORT = 10,      /* the octets end inside a tape */
+    WARNC_LONG = 11,       /* there are more than 64 tapes, or one says that it has more than 65,535 slots */
+    WARNC_GSM = 12,        /* GSM 7-bit has each character */
+    WARNC_BOOK = 13,       /* the octets are no book: a row or its text has a fault, or they are over 16 MiB */
+    WARNC_ENDED = 14,      /* the run ended early, though there was memory; none is known that does */
+    WARNC_SLOTS = 15,      /* the number of slots is 0 */
+    WARNC_DIFFERENCES = 16 /* tapes differ from what a book asked; the table that says how is there */
 };
 
 #define WARNC_MOST_PAGES 15
@@ -104,6 +105,16 @@ uint32_t warnc_report(const uint8_t *book, size_t length, uint16_t slots, bool f
  * of warnc_compile. */
 uint32_t warnc_chart(const uint8_t *book, size_t length, uint16_t slots, uint8_t *room, size_t room_length,
                      size_t *written, uint32_t *row);
+
+/* Runs a book, reads 0 to 64 tapes, and puts the table of what the tapes have otherwise than the cells of the book were
+ * asked: the CSV that `warnc verify --slots` writes, the row lac,ci,id,serial,slot,difference and a row for each
+ * difference. With `short_pages` it reads pages of one to three blocks, too, as `warnc verify --short` does. *written is
+ * how many octets the table has, also with WARNC_ROOM, where the room stays as it was; *row is that of warnc_compile.
+ *
+ * WARNC_OK if nothing differs, and WARNC_DIFFERENCES if something does; WARNC_ROOM, WARNC_SLOTS, WARNC_BOOK,
+ * WARNC_ENDED, WARNC_SHORT and WARNC_LONG, of the tapes, WARNC_MEMORY. */
+uint32_t warnc_verify(const uint8_t *book, size_t length, uint16_t slots, const uint8_t *tapes, size_t tapes_length,
+                      bool short_pages, uint8_t *room, size_t room_length, size_t *written, uint32_t *row);
 
 #ifdef __cplusplus
 }

@@ -11,6 +11,8 @@
  *     report SLOTS BOOK ROOM               the same
  *     full SLOTS BOOK ROOM                 the same, of the report with all columns
  *     chart SLOTS BOOK ROOM                the same
+ *     verify SLOTS BOOK TAPES ROOM         the same, of the differences of tapes from the book
+ *     briefly SLOTS BOOK TAPES ROOM        the same, with short pages
  *     memory N                             nothing; the Nth block of memory that the next call asks for is refused
  *
  * Octets are in hexadecimal, none is "-", and ROOM is how many octets there are room for. A room begins as octets of
@@ -166,7 +168,8 @@ static void into_room(bool is_text, bool has_short_pages) {
 
 static void run(char kind) {
     uint16_t slots = (uint16_t)number();
-    struct octets book = octets_of(word()), room = room_of(number());
+    struct octets book = octets_of(word());
+    struct octets tapes = octets_of(kind == 'v' || kind == 'b' ? word() : NULL), room = room_of(number());
     memset(room.at, 0xAA, room.length);
     size_t written = 77;
     uint32_t row = 77, status;
@@ -174,12 +177,16 @@ static void run(char kind) {
         status = warnc_compile(book.at, book.length, slots, room.at, room.length, &written, &row);
     } else if (kind == 'h') {
         status = warnc_chart(book.at, book.length, slots, room.at, room.length, &written, &row);
+    } else if (kind == 'v' || kind == 'b') {
+        status = warnc_verify(book.at, book.length, slots, tapes.at, tapes.length, kind == 'b', room.at, room.length,
+                              &written, &row);
     } else {
         status = warnc_report(book.at, book.length, slots, kind == 'f', room.at, room.length, &written, &row);
     }
     printf("%u %zu %u ", status, written, row);
     print(room.at, room.length);
     free(book.at);
+    free(tapes.at);
     free(room.at);
 }
 
@@ -204,6 +211,8 @@ int main(void) {
         else if (strcmp(call, "report") == 0) run('r');
         else if (strcmp(call, "full") == 0) run('f');
         else if (strcmp(call, "chart") == 0) run('h');
+        else if (strcmp(call, "verify") == 0) run('v');
+        else if (strcmp(call, "briefly") == 0) run('b');
         else die("no such call");
         printf("\nblocks %ld\n", asked);
         if (held != 0) die("a block of memory is left");

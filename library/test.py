@@ -7,10 +7,10 @@ Usage: test.py PROGRAM [RUNS]      RUNS random texts and a quarter as many input
 library/lines.c is compiled with dist/libwarnc.a, with a heap of its own that refuses memory where it is asked to. Every
 text goes through all calls: its pages have to be the blocks that `warnc page` writes, or its fault that of the command;
 the texts of the pages, joined, have to be the text; tapes have to give the table or the fault of `warnc read`, and books
-the tapes, the report and the chart that commands write, or the row of their fault. Rooms
-are as large as what comes, an octet smaller, and empty. Memory is refused at each block that a call asks for. The same
-is done once more under the sanitizers of addresses and of undefined behaviour, and a part of it under valgrind, where
-they are there. Without a compiler of C all of this is skipped, but for Python's calls of dist/libwarnc.so.
+the tapes, the report and the chart that commands write, or the row of their fault, and with tapes the table of `verify`.
+Rooms are as large as what comes, an octet smaller, and empty. Memory is refused at each block that a call asks for. The
+same is done once more under the sanitizers of addresses and of undefined behaviour, and a part of it under valgrind,
+where they are there. Without a compiler of C all of this is skipped, but for Python's calls of dist/libwarnc.so.
 """
 import doctest
 import os
@@ -261,6 +261,47 @@ def try_runs(lines, program, rng, runs):
     return runs
 
 
+# the calls that judge tapes by a book, and the words of their commands
+VERDICTS = {"verify": ["verify"], "briefly": ["verify", "--short"]}
+
+
+def wanted_of_verdict(program, words, slots, book, tapes):
+    """Returns rooms for the table that the program writes of tapes and a book, and what has to be answered with each."""
+    if slots == 0:
+        return {0: [str(warnc.SLOTS), "77", "77", "-"]}
+    with tempfile.NamedTemporaryFile() as it:
+        it.write(book)
+        it.flush()
+        table, fault = of_program(program, [*words, "--book", it.name, "--slots", str(slots)], tapes)
+    if not table and fault not in STATUS:
+        row = fault.removeprefix("row ").split(":")[0] if fault.startswith("row ") else "0"
+        return {2: [str(warnc.BOOK), "77", row, "aaaa"]}
+    if not table:
+        return {1: [str(STATUS[fault]), "77", "77", "aa"]}
+    put = str(warnc.DIFFERENCES if fault.startswith("differences: ") else warnc.OK)
+    return {room: [put if it[0] == "0" else it[0], it[1], "77", *it[2:]] for room, it in rooms_of(table).items()}
+
+
+def try_verdicts(lines, program, rng, runs):
+    """Judges tapes by books: their own, those of others, cut and spoilt ones; returns how many there were."""
+    asked, wanted, books = [], [], books_for()
+    for at in range(runs):
+        book, slots = rng.choice(books), rng.choice((1, 8, 60)) if at else 0
+        other = book if rng.random() < 0.7 else rng.choice(books)
+        tapes = of_program(program, ["compile", "--slots", str(slots or 1)], other)[0]
+        tapes = shortened(rng, tapes) if rng.random() < 0.3 else bytearray(tapes)
+        for _ in range(rng.choice((0, 1, 20)) if tapes else 0):
+            tapes[rng.randrange(len(tapes))] = rng.randrange(256)
+        tapes = bytes(tapes[:rng.randrange(len(tapes) + 1)] if rng.random() < 0.1 else tapes)
+        book = book[:rng.randrange(len(book) + 1)] if rng.random() < 0.1 else book
+        for call, words in VERDICTS.items():
+            answers = wanted_of_verdict(program, words, slots, book, tapes)
+            asked += [f"{call} {slots} {digits(book)} {digits(tapes)} {room}" for room in answers]
+            wanted += answers.values()
+    compare("verdicts", [it for it, _ in lines.answers(asked)], wanted)
+    return runs
+
+
 def try_memory(lines, program):
     """Refuses memory at each block that a call asks for; returns how many times it was refused."""
     tape = min(tapes_for(program), key=len)
@@ -271,6 +312,7 @@ def try_memory(lines, program):
     calls[f"read {digits(tape)} 3"] = ["5", "77", "aaaaaa"]
     book = b"cell,1,1\nwrite,0,a,4370,0,1,en,2,2,0,*,One\nupdate,1,a,en,2,2,0,*,Two\nstop,2,a,*\n"
     calls |= {f"{it} 4 {digits(book)} 3": ["5", "77", "77", "aaaaaa"] for it in RUNS}
+    calls |= {f"{it} 4 {digits(book)} {digits(tape)} 3": ["5", "77", "77", "aaaaaa"] for it in VERDICTS}
     refused = 0
     for call, wanted in calls.items():
         ((_, asked),) = lines.answers([call])
@@ -333,14 +375,15 @@ def try_c(program, runs):
         print("library: there is no compiler of C: SKIPPED what programs in C get")
         return
     with tempfile.TemporaryDirectory(prefix="warnc-library-") as room:
-        # small stacks are enough: in kB, for texts and tapes, and for runs of books
+        # a stack of 64 kB is enough
         made = compiled(room, compiler, "lines", "-O2")
-        lines, runs_of_books = (Lines("/bin/sh", "-c", f'ulimit -s {stack} && exec "$0"', made) for stack in (64, 256))
+        lines = Lines("/bin/sh", "-c", 'ulimit -s 64 && exec "$0"', made)
         good = try_texts(lines, program, random.Random(1), runs)
         print(f"library: {runs} texts, {good} with pages; {try_numbers(lines)} pages by their numbers;"
               f" {try_tapes(lines, program, random.Random(2), runs // 4)} inputs of tapes;"
-              f" {try_runs(runs_of_books, program, random.Random(7), runs // 8)} books;"
-              f" memory refused {try_memory(runs_of_books, program)} times")
+              f" {try_runs(lines, program, random.Random(7), runs // 8)} books;"
+              f" {try_verdicts(lines, program, random.Random(9), runs // 8)} books with tapes;"
+              f" memory refused {try_memory(lines, program)} times")
         watched = compiled(room, compiler, "watched", "-g", "-fsanitize=address,undefined", "-fno-sanitize-recover")
         if watched is None:
             print("library: the compiler has no sanitizers: SKIPPED them")
@@ -348,6 +391,7 @@ def try_c(program, runs):
             try_texts(Lines(watched), program, random.Random(3), runs // 4)
             try_tapes(Lines(watched), program, random.Random(4), runs // 16)
             try_runs(Lines(watched), program, random.Random(8), runs // 32)
+            try_verdicts(Lines(watched), program, random.Random(10), runs // 32)
             refused = try_memory(Lines(watched), program)
             print(f"library: {runs // 4} texts, {runs // 16} tapes and {refused} refusals under the sanitizers")
         if shutil.which("valgrind") is None:

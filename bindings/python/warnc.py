@@ -15,7 +15,7 @@ import os
 
 MOST_PAGES, CONTENT, PAGE, BLOCKS, BLOCK = 15, 82, 88, 4, 23
 OK, LANGUAGE, EMPTY, CHARACTER, PAGES, MEMORY, UTF8, NUMBER, UNREADABLE, ROOM, SHORT, LONG, GSM, \
-    BOOK, ENDED, SLOTS = range(16)
+    BOOK, ENDED, SLOTS, DIFFERENCES = range(17)
 WORDS = {
     LANGUAGE: "unknown language", EMPTY: "text is empty", CHARACTER: "bad character at {}", PAGES: "too many pages",
     MEMORY: "out of memory", UTF8: "text is not UTF-8", NUMBER: "no such page number", UNREADABLE: "unreadable page",
@@ -113,7 +113,8 @@ def _filled(call, *given, room, row=None):
         put, written = (ctypes.c_uint8 * max(1, room))(), ctypes.c_size_t()
         status = call(*given, put, ctypes.c_size_t(room), ctypes.byref(written), *rows)
         if status != ROOM:
-            _checked(status, None if row is None else row.value)
+            # a table of differences is there as one without rows is
+            _checked(OK if status == DIFFERENCES else status, None if row is None else row.value)
             return bytes(put[:written.value])
         room = written.value
 
@@ -149,3 +150,9 @@ def report(book, slots, full=False):
 def chart(book, slots):
     """Returns the chart of a book's run, a page in HTML."""
     return _run(_LIBRARY.warnc_chart, book, slots, room=1 << 20).decode()
+
+
+def verify(book, slots, tapes, short_pages=False):
+    """Returns the table of what tapes have otherwise than a book asked in runs of so many slots, as CSV: the line of the
+    columns' names alone if nothing differs. With short pages those of one to three blocks are read, too."""
+    return _run(_LIBRARY.warnc_verify, book, slots, *_octets(tapes), ctypes.c_bool(short_pages), room=65536).decode()

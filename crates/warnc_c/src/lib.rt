@@ -11,3 +11,4 @@ pub mod paging;
 pub mod runs;
 pub mod status;
 pub mod tapes;
+pub mod verdict;

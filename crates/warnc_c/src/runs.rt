@@ -134,7 +134,7 @@ fn put_made(
 }
 
 /// The number of a fault of a run. Out of memory has one number, wherever it comes.
-fn number_of(fault: RunFault, row: &mut u32) -> u32
+pub fn number_of(fault: RunFault, row: &mut u32) -> u32
     ensures number { result ≡ number_of_run_fault fault }
     ensures row { result ≡ 13 → TellsRow fault row.new }
     ensures stays { result ≢ 13 → row.new ≡ row.old }

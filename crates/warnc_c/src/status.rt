@@ -47,3 +47,6 @@ pub const ENDED: u32 = 14;
 
 /// There are no slots to run.
 pub const SLOTS: u32 = 15;
+
+/// The tapes differ from what the book's cells were asked. The table that says how is put.
+pub const DIFFERENCES: u32 = 16;

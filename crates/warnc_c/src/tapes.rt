@@ -53,7 +53,7 @@ fn table_of(alloc: Global, tapes: &[u8], wanted: Pages) -> Result<Vec<u8>, TapeF
 }
 
 /// The pages that are read.
-fn wanted_pages(short_pages: bool) -> Pages
+pub fn wanted_pages(short_pages: bool) -> Pages
     ensures { result ≡ wanted_pages short_pages }
 {
     if short_pages {
@@ -64,7 +64,7 @@ fn wanted_pages(short_pages: bool) -> Pages
 }
 
 /// The number of a fault. Octets in memory can be read, so memory alone can be lacking.
-fn number_of(fault: TapeFault) -> u32
+pub fn number_of(fault: TapeFault) -> u32
     ensures { result ≡ number_of_table_fault fault }
 {
     match fault {
