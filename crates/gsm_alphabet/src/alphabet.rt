@@ -84,15 +84,27 @@ static LATIN: [u8; 256] = [
 
 /// The code of `character`: one septet where the default alphabet has it, an escape and one more where the extension
 /// table has it, and `None` outside the alphabet (TS 23.038, 6.2.1).
-#[tactic(auto, unfolding(crate::specs::Alphabet::main_table, crate::specs::Alphabet::extension_table))]
 pub fn encode_char(character: char) -> Option<Code>
     ensures by_table { result ≡ code_of character }
     ensures decodes { IfSome result (λ code. character_of_code code ≡ character) }
     ensures fits { IfSome result IsSeptetCode }
 {
-    if let Some(septet) = latin_septet(character) {
-        return Some(Code::One(septet));
+    match latin_septet(character) {
+        Some(septet) => Some(Code::One(septet)),
+        None => encode_by_tables(character),
     }
+}
+
+/// The code of `character`, by both tables.
+//
+// It stays a function of its own, so that its caller, which is small, becomes a part of the loops over texts.
+#[inline(never)]
+#[tactic(auto, unfolding(crate::specs::Alphabet::main_table, crate::specs::Alphabet::extension_table))]
+fn encode_by_tables(character: char) -> Option<Code>
+    ensures by_table { result ≡ code_of character }
+    ensures decodes { IfSome result (λ code. character_of_code code ≡ character) }
+    ensures fits { IfSome result IsSeptetCode }
+{
     alphabet!(code_for, character)
 }
 

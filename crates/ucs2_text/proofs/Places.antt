@@ -1,6 +1,7 @@
 -- The octets of a page and the units of its octets, place by place.
 use Rattle.std.proofs.Common.{◌≡◌, ◌==◌, if◌then◌else◌, ℕ, ◌+◌, ◌-◌, ◌*◌, ◌/◌, ◌%◌, ◌<◌, ◌≤◌, zero, suc, List, [], ◌∷◌}
-use Rattle.std.proofs.Common.{◌++◌, length, get_or, replicate, refl, sym, ap, ◌∙◌, arith, length-append}
+use Rattle.std.proofs.Common.{length, get_or, replicate, refl, sym, ap, ◌∙◌, arith, length-append}
+use Rattle.std.proofs.lemmas.List.{length-replicate}
 use Rattle.std.proofs.lemmas.List.FromFn.{fill_by_all}
 use Rattle.std.specs.List.{flat_map}
 use Rattle.ucs2_text.specs.Ucs2.{octets_of_unit, page_units, octets_of_units, units_of_octets}
@@ -33,45 +34,23 @@ octet-at_unit (unit ∷ units) (suc (suc k)) below =
     let parity : suc (suc k) % 2 ≡ k % 2 = omega arith in
     rw (half, parity) (octet-at_unit units k (omega arith))
 
--- what fills a page
-abbrev fill : ℕ → List ℕ
-fill n = replicate n 13
-
-get_or-fill : (n i : ℕ) → get_or (fill n) i 13 ≡ 13
-get_or-fill zero i = refl
-get_or-fill (suc n) zero = refl
-get_or-fill (suc n) (suc i) = get_or-fill n i
-
-get_or-filled : (units : List ℕ) (n i : ℕ) → get_or (units ++ fill n) i 13 ≡ get_or units i 13
-get_or-filled [] n i = get_or-fill n i
-get_or-filled (unit ∷ units) n zero = refl
-get_or-filled (unit ∷ units) n (suc i) = get_or-filled units n i
-
-length-fill : (n : ℕ) → length (fill n) ≡ n
-length-fill zero = refl
-length-fill (suc n) = omega (arith, length-fill n)
-
-length-page_units : (units : List ℕ) → length units ≤ 41 → length (page_units units) ≡ 41
-length-page_units units short =
-    omega (arith, length-append units (fill (41 - length units)), length-fill (41 - length units))
-
 -- 41 units at most fill 82 octets
 pub length-octets_of_units : (units : List ℕ) → length units ≤ 41 → length (octets_of_units units) ≡ 82
-length-octets_of_units units short = omega (arith, length-octets (page_units units), length-page_units units short)
+length-octets_of_units units short =
+    let fill = 41 - length units in
+    omega (
+      arith,
+      length-octets (page_units units),
+      length-append units (replicate fill 13),
+      length-replicate {A = ℕ} fill 13,
+    )
 
--- an octet of the page: past the units of the text it is one of what fills the page
-pub octet-at : (units : List ℕ) (k : ℕ) → length units ≤ 41 → k < 82
-    → get_or (octets_of_units units) k 0 ≡ octet_at_place units k
-octet-at units k short below =
-    let filled = get_or-filled units (41 - length units) (k / 2) in
-    let at = octet-at_unit (page_units units) k (omega (arith, length-page_units units short)) in
-    rw filled at at
-
--- the octets that the loop wrote, each at its place, are those of the page
-pub octets-by_place : (units octets : List ℕ) → length units ≤ 41 → length octets ≡ 82
-    → ((k : ℕ) → k < 82 → get_or octets k 0 ≡ get_or (octets_of_units units) k 0) → octets ≡ octets_of_units units
-octets-by_place units octets short whole each =
-    same_from_places octets (octets_of_units units) 82 whole (length-octets_of_units units short) each
+-- the octets that the loop wrote, each at its place, are those of the page's units
+pub octets-by_place : (units octets : List ℕ) → length units ≡ 41 → length octets ≡ 82
+    → ((k : ℕ) → k < 82 → get_or octets k 0 ≡ octet_at_place units k) → octets ≡ flat_map octets_of_unit units
+octets-by_place units octets all whole each =
+    same_from_places octets (flat_map octets_of_unit units) 82 whole (omega (arith, length-octets units, all))
+    (λ k below. each k below ∙ sym (octet-at_unit units k (omega (arith, all))))
 
 -- two octets make one unit
 pub length-units_of_octets : (n : ℕ) (octets : List ℕ) → length octets ≡ 2 * n → length (units_of_octets octets) ≡ n

@@ -1,7 +1,8 @@
-//! The units of a page as octets and back. Each octet, and each unit, is a function of its place.
+//! The units of a page as octets and back, two octets each, the high one first.
 
-ghost use Rattle.std.specs.Prelude.{◌≡◌, ◌+◌, ◌*◌, ◌<◌, ◌≤◌, length, slice_index};
-ghost use Rattle.ucs2_text.specs.Ucs2.{octets_of_units, units_of_octets};
+ghost use Rattle.std.specs.Prelude.{◌≡◌, ◌+◌, ◌*◌, ◌<◌, ◌≤◌, ◌++◌, drop, length, slice_index};
+ghost use Rattle.std.specs.List.{flat_map};
+ghost use Rattle.ucs2_text.specs.Ucs2.{octets_of_unit, octets_of_units, page_units, units_of_octets};
 
 use arrayvec::ArrayVec;
 
@@ -12,9 +13,7 @@ const FILL: u16 = 0x000D;
 pub fn put_units(units: &ArrayVec<u16, 41>) -> [u8; 82]
     ensures { result ≡ octets_of_units units.now.items }
 {
-    let mut octets = [0; 82];
-    write_units(&mut octets, units.as_slice());
-    octets
+    octets_of(&filled_page(units.as_slice()))
 }
 
 /// The 41 units of the octets of a page, two octets each, the high one first. Those of the fill are among them.
@@ -26,29 +25,34 @@ pub fn units_of(octets: &[u8; 82]) -> [u16; 41]
     units
 }
 
-/// Writes the page of these units.
-fn write_units(octets: &mut [u8], units: &[u16])
-    requires whole_page { length octets.old ≡ 82 }
-    requires at_most_a_page { length units.now ≤ 41 }
-    ensures { octets.new ≡ octets_of_units units.now }
+/// The units, and carriage return up to 41 of them.
+fn filled_page(units: &[u16]) -> [u16; 41]
+    requires { length units.now ≤ 41 }
+    ensures { result ≡ page_units units.now }
 {
-    for (place, octet) in octets.iter_mut().enumerate() {
-        *octet = octet_at(units, place);
-    }
+    let mut page = [FILL; 41];
+    put_first(&mut page, units);
+    page
 }
 
-/// The octet at a place of the page: of the unit at half that place, the high one at an even place.
-fn octet_at(units: &[u16], place: usize) -> u8
-    requires at_most_a_page { length units.now ≤ 41 }
-    requires within { place < 82 }
-    ensures { result ≡ slice_index (octets_of_units units.now) place }
+/// Writes these units over the first ones of a page.
+fn put_first(page: &mut [u16], units: &[u16])
+    requires { length units.now ≤ length page.old }
+    ensures { page.new ≡ units.now ++ drop (length units.now) page.old }
 {
-    let unit = units.get(place / 2).copied().unwrap_or(FILL);
-    if place % 2 == 0 {
-        (unit / 256) as u8
-    } else {
-        (unit % 256) as u8
+    page[..units.len()].copy_from_slice(units);
+}
+
+/// The octets of units, two each, the high one first.
+fn octets_of(units: &[u16; 41]) -> [u8; 82]
+    ensures { result ≡ flat_map octets_of_unit units.now }
+{
+    let mut octets = [0; 82];
+    for place in 0..41 {
+        octets[2 * place] = (units[place] / 256) as u8;
+        octets[2 * place + 1] = (units[place] % 256) as u8;
     }
+    octets
 }
 
 /// Reads the units of a page.
