@@ -13,7 +13,7 @@ mod Ordering
 mod Events
 mod Noted
 mod Logged
-mod OneSession
+pub mod OneSession
 mod Asking
 mod AsksOfCell
 mod Parts

@@ -5,7 +5,6 @@
 //! noted is compared with what the cells hold.
 #![tactic(auto)]
 
-pub mod alone;
 mod cells;
 pub mod closed;
 pub mod desk;
@@ -15,7 +14,6 @@ mod laws;
 pub mod note;
 pub mod settle;
 
-pub use alone::LoneDesk;
 pub use cells::cells_ok;
 pub use closed::Closed;
 pub use desk::Desk;

@@ -5,3 +5,5 @@ pub mod Settled
 pub mod OrderSays
 pub mod Exchanged
 pub mod Replayed
+pub mod Served
+pub mod Serving

@@ -83,7 +83,8 @@ replaying_more book part parts records pass before session request said notes le
 abbrev pub left_of : SessionState → ℕ
 left_of session = left_to_serve session.sent (length session.due + 17 * length (left_in session))
 
-lessens : SessionsEnd → (before session : SessionState) (reached : Standing) (reply : Option Message)
+-- one that has a request leaves less to serve than before it
+pub lessens : SessionsEnd → (before session : SessionState) (reached : Standing) (reply : Option Message)
     (request : Request) (next : Option Request)
     → StandsFor before reached
     → Advances reply before session

@@ -1,3 +1,4 @@
+pub mod AloneSteps
 pub mod Checked
 pub mod NotedSteps
 pub mod ReplaySteps

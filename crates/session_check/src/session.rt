@@ -2,10 +2,11 @@
 
 ghost use Rattle.std.specs.Prelude.{◌≡◌, ◌↔◌, ◌<◌, List, Err, IfNone, IfOk, IfSome, IsTrue, Ok, true};
 ghost use Rattle.cbsp_wire.specs.CellLists.{AreDistinct};
+ghost use Rattle.cbsp_wire.specs.Range.{is_writable};
 ghost use Rattle.cbsp_wire.specs.declared.cause.TheConstants.{UNRECOGNISED_MESSAGE};
 ghost use Rattle.cbsp_wire.specs.declared.message.Cell.{Cell};
 ghost use Rattle.bsc_table.specs.declared.command.Command.{Command};
-ghost use Rattle.bsc_table.specs.Orders.{order_of};
+ghost use Rattle.bsc_table.specs.Orders.{IsWellFormed, order_of};
 ghost use Rattle.book_runs.specs.Run.{Exchange};
 ghost use Rattle.book_runs.specs.Sessions.{IsSessionOf};
 ghost use Rattle.session_check.specs.NotedSteps.{AreStanding, record_cells, commands_in};
@@ -76,11 +77,18 @@ fn copied(alloc: Global, message: &Message) -> Result<Option<Message>, Refused>
 }
 
 /// The cells that a message names, and the command to them; None if it is no order.
-fn order_meant(alloc: Global, message: &Message) -> Result<Option<(Vec<Cell>, Command)>, Refused>
+pub(crate) fn order_meant(
+    alloc: Global,
+    message: &Message,
+) -> Result<Option<(Vec<Cell>, Command)>, Refused>
     ensures some { IfOk result (λ found. IfSome found (λ order. order_of message.now ≡ Ok (order.0.items, order.1))) }
+    ensures formed { IfOk result (λ found. IfSome found (λ order.
+        is_writable message.now ≡ true → IsWellFormed order.1)) }
     ensures none { IfOk result (λ found. IfNone found ((cells : List Cell) (command : Command)
         → order_of message.now ≡ Ok (cells, command) → ⊥)) }
 {
+    // Octets mean a message that can be written.
+    cbsp_wire::meaning_law();
     let Some(message) = copied(alloc, message)? else {
         return Ok(None);
     };

@@ -1,9 +1,7 @@
 //! The end of a run at a desk: its settlement with the passes of the sessions.
 
-ghost use Rattle.std.specs.Prelude.{◌≡◌, ◌≤◌, ℕ, List, length, true, IfErr, IfOk};
-ghost use Rattle.cbsp_wire.specs.Range.{cells_are_valid};
+ghost use Rattle.std.specs.Prelude.{◌≡◌, ◌≤◌, length, IfErr, IfOk};
 ghost use Rattle.book_runs.specs.Fit.{IsFit};
-ghost use Rattle.book_runs.specs.Live.{IsLiveRun};
 ghost use Rattle.warnc_run.specs.Faults.{IsOfBook};
 ghost use Rattle.warnc_run.specs.RunSteps.{HaveRunLive};
 
@@ -11,7 +9,7 @@ use crate::fault::RunFault;
 use crate::run::Sessions;
 use alert_book::Book;
 use bsc_table::CellRecord;
-use order_desk::{Closed, Desk, Pass};
+use order_desk::{Desk, Pass};
 use session_check::check_sessions;
 use std::alloc::Global;
 
@@ -35,28 +33,9 @@ pub(crate) fn settled_records(
     ensures ok { IfOk result (λ records. HaveRunLive book.now desk.slots sessions.number records.items) }
     ensures err { IfErr result (IsOfBook book.now desk.slots sessions.number) }
 {
-    let closed = desk.close()?;
-    records_of_closed(alloc, book, closed, sessions, passes)
-}
-
-/// The same of a desk that is closed.
-pub(crate) fn records_of_closed(
-    alloc: Global,
-    book: &Book,
-    closed: Closed,
-    sessions: Sessions,
-    passes: &[Pass],
-) -> Result<Vec<CellRecord>, RunFault>
-    requires book { IsFit book.now }
-    requires cells { closed.cells ≡ book.now.cells }
-    requires valid { cells_are_valid closed.cells ≡ true }
-    requires books { length closed.cells ≡ length closed.books }
-    requires passes { sessions.number ≤ length passes.now }
-    ensures ok { IfOk result (λ records. HaveRunLive book.now closed.slots sessions.number records.items) }
-    ensures err { IfErr result (IsOfBook book.now closed.slots sessions.number) }
-{
     // What the passes noted is what each cell holds, so the cells hold what the sessions asked.
     book_runs::cells_law();
+    let closed = desk.close()?;
     let records = closed.settle(alloc, passes)?;
     check_sessions(alloc, book, sessions.number, &records, passes)?;
     Ok(records)
