@@ -11,6 +11,7 @@ Usage: bench.py NAME [PROGRAM [OTHER]]      NAME is one of those below; PROGRAM 
 import csv
 import io
 import os
+import statistics
 import subprocess
 import sys
 import tempfile
@@ -61,6 +62,12 @@ def best(command, source, target=os.devnull, status=0, runs=5):
     return min(it[0] for it in found), max(it[1] for it in found)
 
 
+def median(command, source, runs=20):
+    """Returns the median of the seconds of some runs, and the peak memory of all."""
+    found = [timed(command, source) for _ in range(runs)]
+    return statistics.median(it[0] for it in found), max(it[1] for it in found)
+
+
 def compile_books(bench):
     """`compile` on books of 64 cells and 4,096 slots, with one worker and with four, beside `wc -l` on the tapes, and
     its peak memory beside their size. Half a minute."""
@@ -75,6 +82,19 @@ def compile_books(bench):
         print(f"{kind:8} {octets / 1e6:5.1f} MB of tapes  wc -l {lines:.3f} s  warnc compile {compiled:.3f} s, "
               f"{octets / compiled / 1e6:.0f} MB/s, peak {peak / 1e6:.1f} MB, {peak / octets:.2f} times the tapes; "
               f"with 4 workers {several:.3f} s, {compiled / several:.2f} times as fast")
+
+
+def workers(bench):
+    """`compile` and `report` of books of 64 cells and 65,535 slots, with one worker and with four: medians of 20 runs,
+    how many times as fast four are, and the peak memory of each. It needs four processors. Three minutes."""
+    for kind in ("full", "churn", "background"):
+        book = bench.made(kind)
+        for verb in ("compile", "report"):
+            command = [bench.program, verb, "--slots", "65535", "--workers"]
+            one, peak = median([*command, "1"], book)
+            four, large = median([*command, "4"], book)
+            print(f"{verb} of {kind:10} one worker {one:.3f} s, peak {peak / 1e6:.1f} MB; four {four:.3f} s, "
+                  f"{large / 1e6:.1f} MB, {one / four:.2f} times as fast")
 
 
 def cell(bench):
@@ -263,7 +283,7 @@ def tape(bench, mebibytes="1024"):
 
 
 MEASURES = {"cap": cap, "cell": cell, "compile": compile_books, "library": library, "live": live, "network": network,
-            "pack": pack, "read": read, "tape": tape, "verify": verify}
+            "pack": pack, "read": read, "tape": tape, "verify": verify, "workers": workers}
 
 
 def document():

@@ -80,6 +80,22 @@ def background_book(chance):
                            for it in range(4096 - len(CELLS))))
 
 
+def churn_book(chance):
+    """Four alerts at a time in all cells, each replaced 14 times and then stopped, up to the end of the longest run."""
+    rows = 4096 - len(CELLS)
+    orders, number, at = [], 0, lambda: len(orders) * 65535 // rows
+    while len(orders) + 64 <= rows:
+        four = [books.Alert(f"alert{number + it}", 4370 + (number + it) % 30, 1, (number + it) % 1024)
+                for it in range(4)]
+        number += 4
+        for version in range(15):
+            for alert in four:
+                sending = books.Sending("en", 2, 4, 0, some_text(chance, "en"))
+                orders.append(books.Order("update" if version else "write", at(), alert, None, sending))
+        orders += [books.Order("stop", at(), alert, None, None) for alert in four]
+    return book_of(CELLS, (it.line() for it in orders))
+
+
 # --- A book of several sessions ---
 
 LIVE_SLOTS, LIVE_PERIOD = 1024, 64
@@ -248,6 +264,7 @@ def capture(octets):
 MADE = {
     "typical": lambda chance: mixed_book(chance, 200, (30, 60, 120, 240)),
     "full": lambda chance: mixed_book(chance, 4096, (4, 8, 30, 120, 1024)),
+    "churn": churn_book,
     "background": background_book,
     "live": live_book,
     "packed": lambda _: packed_book(),
