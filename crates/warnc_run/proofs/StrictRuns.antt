@@ -1,25 +1,17 @@
 -- What a run writes if every order was done, and why it doesn't.
-use Rattle.std.proofs.Common.{◌≡◌, ◌<◌, ◌≤◌, ◌∙◌, ℕ, List, length, map, All, Option, ap, refl, subst, sym, true}
-use Rattle.std.proofs.lemmas.List.Elements.{All-map, All-weaker}
+use Rattle.std.proofs.Common.{◌≡◌, ◌≤◌, ◌∙◌, ℕ, List, length, map, All, Option, ap, refl, subst, sym, true}
+use Rattle.std.proofs.lemmas.List.Elements.{All-map}
 use native.Mathlib.Omega.{arith}
-use Rattle.std.specs.Io.KnownBytes.{Consumes, IsAtEnd, Keeps}
-use Rattle.std.proofs.lemmas.List.{get_or-map, length-map}
-use Rattle.alert_book.specs.declared.book.order.Order.{Order}
+use Rattle.std.specs.Io.KnownBytes.{Keeps}
 use Rattle.alert_book.specs.declared.network.Origin.{Origin}
 use Rattle.alert_book.specs.Book.{Contents}
 use Rattle.alert_book.specs.Origin.{IsBookFrom}
-use Rattle.asked_orders.specs.Lacks.{lacks_of, no_lacks}
 use Rattle.asked_orders.specs.declared.lacks.Lacks.{Lacks}
 use Rattle.bsc_table.specs.Promised.{LegalHistoriesAreServed}
 use Rattle.bsc_table.specs.Record.{Record}
-use Rattle.book_runs.specs.Live.{IsRunBy}
 use Rattle.book_runs.specs.LiveLaws.{LiveRunsAcceptWhatWasOrdered, LiveRunsShowTheBook}
-use Rattle.book_runs.specs.Meant.{IsMeantIn}
 use Rattle.cbch_blocks.specs.RecordBlocks.{tape_of_record}
-use Rattle.cbch_blocks.specs.Slots.{silent_record}
-use Rattle.cbsp_wire.specs.declared.message.Cell.{Cell}
 use Rattle.cbsp_wire.specs.Range.{cells_are_valid}
-use Rattle.parallel_compile.specs.declared.fault.CompileFault.TheVariants as compile
 use Rattle.warnc_run.specs.declared.fault.RunFault.{RunFault}
 use Rattle.warnc_run.specs.declared.fault.RunFault.TheVariants as run
 use Rattle.warnc_run.specs.declared.product.Product.{Product}
@@ -37,8 +29,7 @@ use Rattle.warnc_run.specs.Strict.{IsStrictFault, IsStrictOutput, HasLacks}
 use Rattle.warnc_run.specs.StrictSteps.{AreDone, GiveTapes, HasUndone, IsNotDone, StopsAtProduct}
 use Rattle.warnc_run.proofs.Readings.{run_has_tapes}
 use Rattle.warnc_run.proofs.Written.{fault_of_reading, fault_of_run, front_taken, joined, joined_tapes, of_any_product}
-use Rattle.warnc_run.proofs.Written.{of_no_product, records_are_few, run_of_book, silent_size}
-use Rattle.warnc_run.proofs.Written.{tapes_have_size}
+use Rattle.warnc_run.proofs.Written.{of_no_product, records_are_few, records_have_size, run_of_book}
 
 -- the records of a run give tapes
 pub give_tapes : LiveRunsShowTheBook → (from : Origin) (input : List ℕ) (book : Contents) (slots parts : ℕ)
@@ -52,26 +43,8 @@ pub give_tapes : LiveRunsShowTheBook → (from : Origin) (input : List ℕ) (boo
 give_tapes law from input book slots parts records shown few is_book valid live is = record {
   few = records_are_few book.cells records shown valid live.run.cells is;
   tapes = run_has_tapes law from input book slots parts records shown few is_book live is;
-  sized = subst (All (λ (r : Record). length (tape_of_record r) ≡ tape_size slots)) (sym is) each;
+  sized = records_have_size law from input book slots parts records shown few is_book live is;
 }
-  where
-    sizes : All (λ tape. length tape ≡ tape_size slots) (map tape_of_record records)
-    sizes = tapes_have_size book slots records (law from input book slots live.sessions records is_book few live.run)
-        (All-weaker (IsRunBy slots live.sessions) (λ (r : Record). r.slots ≡ slots) (λ r run. run.run) records
-        live.run.each)
-
-    each : All (λ r. length (tape_of_record r) ≡ tape_size slots) records
-    each k d within =
-        ap length (sym (get_or-map tape_of_record records k d (tape_of_record d) within))
-        ∙ sizes k (tape_of_record d) (subst (λ (n : ℕ). k < n) (sym (length-map records tape_of_record)) within)
-
--- the tape of a silent cell has as many octets
-pub has_room : (slots : ℕ) (records : List Record) (cell : Cell) (tape : List ℕ)
-    → tape ≡ tape_of_record (silent_record cell slots)
-    → All (λ r. length (tape_of_record r) ≡ tape_size slots) records
-    → All (λ r. length (tape_of_record r) ≡ length tape) records
-has_room slots records cell tape is sized =
-    λ k d within. sized k d within ∙ sym (ap length is ∙ silent_size cell slots)
 
 -- what is made of a run in which every order was done
 pub strict_output : LiveRunsShowTheBook → LiveRunsAcceptWhatWasOrdered → LegalHistoriesAreServed

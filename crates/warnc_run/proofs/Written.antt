@@ -1,6 +1,6 @@
 -- How tapes are written, and of which run they are.
 use Rattle.std.proofs.Common.{◌≡◌, ℕ, ◌<◌, ◌≤◌, List, [], ◌∷◌, ◌++◌, length, map, take, get_or, All}
-use Rattle.std.proofs.Common.{Option, Result, Err, IfErr, refl, sym, subst, ap, append-nil, append_assoc, ◌∙◌, suc}
+use Rattle.std.proofs.Common.{Option, Result, Err, IfErr, refl, sym, subst, ap, append_assoc, ◌∙◌, suc}
 use Rattle.std.proofs.Common.{true, rules, None, replicate}
 use Rattle.std.proofs.Common.{◌⊎◌, inl, inr, ◌+◌, ◌*◌, zero}
 use native.Mathlib.Omega.{arith}
@@ -13,7 +13,7 @@ use Rattle.std.proofs.lemmas.List.{take_all}
 use Rattle.std.proofs.lemmas.List.Elements.{All-head, All-map, All-tail, All-weaker}
 use Rattle.std.proofs.Math.Nat.{mul-le-mul_left}
 use Rattle.std.proofs.lemmas.Bool.{cases_lt}
-use Rattle.std.proofs.Math.Seq.{take-append-add, take-suc}
+use Rattle.std.proofs.Math.Seq.{take-append-add}
 use Rattle.std.specs.List.{AllByRecursion}
 use Rattle.handset.specs.Tape.{IsTape, TapeReading, slots_in}
 use Rattle.cbch_blocks.specs.Blocks.{idle_blocks}
@@ -145,15 +145,6 @@ front_taken size tapes written old new some sizes taken =
         nothing : (n : ℕ) → n ≡ 0 → size * n ≡ 0
         nothing n is = ap (λ (k : ℕ). size * k) is ∙ (omega arith)
 
--- the tape at a place is that of the record there
-pub tape_at : (records : List Record) (i : ℕ) (r : Record) (tape : List ℕ)
-    → i < length records
-    → r ≡ get_or records i r
-    → tape ≡ tape_of_record r
-    → tape ≡ get_or (map tape_of_record records) i []
-tape_at records i r tape within is made =
-    made ∙ ap tape_of_record is ∙ sym (get_or-map tape_of_record records i r [] within)
-
 -- before the first of them nothing went out
 pub takes_nothing : (a : Option (List ℕ)) (tapes : List (List ℕ)) → All (λ tape. 0 < length tape) tapes
     → TakesFront tapes 0 a a
@@ -183,28 +174,6 @@ takes_front a b c tapes i written tape within is less before under_way =
           (subst (λ (t : List ℕ). Appends b c (take written t)) same under_way);
     }
 
--- after whole tapes one more went out
-pub takes_one_more : (a b c : Option (List ℕ)) (records : List Record) (i : ℕ) (r : Record) (tape : List ℕ)
-    → i < length records
-    → r ≡ get_or records i r
-    → tape ≡ tape_of_record r
-    → Appends a b (joined (take i (map tape_of_record records)))
-    → Appends b c tape
-    → Appends a c (joined (take (i + 1) (map tape_of_record records)))
-takes_one_more a b c records i r tape within is made before more =
-    let tapes = map tape_of_record records in
-    let inside : i < length tapes = subst (λ (n : ℕ). i < n) (sym (length-map records tape_of_record)) within in
-    let same : tape ≡ get_or tapes i [] = tape_at records i r tape within is made in
-    let own : joined (get_or tapes i [] ∷ []) ≡ tape = append-nil (get_or tapes i []) ∙ sym same in
-    let all : joined (take (suc i) tapes) ≡ joined (take i tapes) ++ tape =
-    ap joined (take-suc tapes i [] inside) ∙ flat_map-append (λ (t : List ℕ). t) (take i tapes) (get_or tapes i [] ∷ [])
-    ∙ ap (λ (t : List ℕ). joined (take i tapes) ++ t) own in
-    subst (Appends a c) (sym (ap (λ (n : ℕ). joined (take n tapes)) next ∙ all))
-    (Appends-trans a b c (joined (take i tapes)) tape before more)
-  where
-    next : i + 1 ≡ suc i
-    next = omega arith
-
 -- the octets of blocks of 23 each
 blocks_size : (blocks : List (List ℕ)) → AllByRecursion (λ block. length block ≡ 23) blocks
     → length (octets_of_blocks blocks) ≡ 23 * length blocks
@@ -233,6 +202,24 @@ pub tapes_have_size : (book : Contents) (slots : ℕ) (records : List Record)
 tapes_have_size book slots records meant runs =
     All-map (λ (tape : List ℕ). length tape ≡ tape_size slots) tape_of_record records
     (λ k d within. tape_has_size _ _ (meant k d within).tape ∙ ap tape_size (runs k d within))
+
+-- or, of any that are these
+pub records_have_size : LiveRunsShowTheBook → (from : Origin) (input : List ℕ) (book : Contents) (slots parts : ℕ)
+    (records shown : List Record)
+    → slots ≤ 65535
+    → IsBookFrom from input book
+    → HaveRunLive book slots parts records
+    → shown ≡ records
+    → All (λ r. length (tape_of_record r) ≡ tape_size slots) shown
+records_have_size law from input book slots parts records shown few is_book live is =
+    subst (All (λ (r : Record). length (tape_of_record r) ≡ tape_size slots)) (sym is)
+    (λ k d within. ap length (sym (get_or-map tape_of_record records k d (tape_of_record d) within))
+    ∙ sizes k (tape_of_record d) (subst (λ (n : ℕ). k < n) (sym (length-map records tape_of_record)) within))
+  where
+    sizes : All (λ tape. length tape ≡ tape_size slots) (map tape_of_record records)
+    sizes = tapes_have_size book slots records (law from input book slots live.sessions records is_book few live.run)
+        (All-weaker (IsRunBy slots live.sessions) (λ (r : Record). r.slots ≡ slots) (λ r run. run.run) records
+        live.run.each)
 
 -- a fact of an error holds where that is the error
 pub where_it_is : {T E : Type 0} (P : E → Type 0) (r : Result T E) (e : E) → r ≡ Err e → P e → IfErr r P
@@ -412,30 +399,6 @@ silent_size cell slots =
     let header = tape_header cell slots in
     let both = length-append header (octets_of_blocks (blocks_of_uses [] (replicate slots None))) in
     omega (arith, both, idle_long slots)
-
--- the tape of a silent cell has as many octets as those of a run's records
-pub has_room_for_each : LiveRunsShowTheBook → (from : Origin) (input : List ℕ) (book : Contents) (slots parts : ℕ)
-    (records shown : List Record) (cell : Cell) (tape : List ℕ)
-    → slots ≤ 65535
-    → IsBookFrom from input book
-    → HaveRunLive book slots parts records
-    → shown ≡ records
-    → tape ≡ tape_of_record (silent_record cell slots)
-    → All (λ r. length (tape_of_record r) ≡ length tape) shown
-has_room_for_each law from input book slots parts records shown cell tape few is_book live is silent =
-    let sizes = tapes_have_size book slots records
-    (law from input book slots live.sessions records is_book few live.run)
-    (All-weaker (IsRunBy slots live.sessions) (λ (r : Record). r.slots ≡ slots) (λ r run. run.run) records
-    live.run.each) in
-    let long : length tape ≡ tape_size slots = ap length silent ∙ silent_size cell slots in
-    subst (All (λ (r : Record). length (tape_of_record r) ≡ length tape)) (sym is)
-    (λ k d within. of_one sizes k d within ∙ sym long)
-  where
-    of_one : All (λ t. length t ≡ tape_size slots) (map tape_of_record records) → (k : ℕ) (d : Record)
-        → k < length records → length (tape_of_record (get_or records k d)) ≡ tape_size slots
-    of_one sizes k d within =
-        ap length (sym (get_or-map tape_of_record records k d (tape_of_record d) within))
-        ∙ sizes k (tape_of_record d) (subst (λ (n : ℕ). k < n) (sym (length-map records tape_of_record)) within)
 
 -- a fault of a run whose tapes were to be written, of the book whose octets were read
 pub fault_of_writing : LiveRunsShowTheBook → LiveRunsAcceptWhatWasOrdered → LegalHistoriesAreServed

@@ -7,13 +7,11 @@ ghost use Rattle.warnc_run.specs.RunSteps.{HasWritten, IsSomeBook, StopsAtTape};
 
 use crate::apart::records_of_run;
 use crate::fault::RunFault;
-use crate::finish::{write_in_turn, write_tapes};
+use crate::finish::{write_tapes, write_tapes_of};
 use crate::run::{Sessions, Workers};
 use crate::tapes::tapes_by_several;
 use crate::watch::{Watch, tell};
 use alert_book::Book;
-use cbch_blocks::Tape;
-use cbsp_wire::Cell;
 use device_ends::Sink;
 use std::alloc::AllocGlobal;
 use std::io::Write;
@@ -21,8 +19,8 @@ use std::sync::Wait;
 use std::thread::Threads;
 
 /// Runs the sessions of a book's parts, and writes the tapes of its cells. They are made of the settled records, each
-/// once, so there is nothing to compare, and they are made as they are written: one alone is held, whose memory is
-/// taken before the first octet is written.
+/// once, so there is nothing to compare, and they are made as they are written, as many at a time as there are workers:
+/// these alone are held, and their memory is taken before the first octet is written.
 fn write_by_records<T: AllocGlobal + Threads + Wait + Sync, W: Write, G: Watch>(
     rt: &T,
     book: Book,
@@ -47,12 +45,7 @@ fn write_by_records<T: AllocGlobal + Threads + Wait + Sync, W: Write, G: Watch>(
     book_runs::session_laws();
     let records = records_of_run(rt, &book, slots, sessions, workers, watch)?;
     drop(book);
-    // any cell will do: every octet is overwritten
-    let tape = Tape::open(rt.alloc(), Cell { lac: 0, ci: 0 }, slots)?;
-    match write_in_turn(tape, &records, sink, watch) {
-        Ok(()) => Ok(()),
-        Err(failed) => Err(RunFault::Write(failed)),
-    }
+    write_tapes_of(rt, &records, sink, slots, workers, watch)
 }
 
 /// Writes the tapes of several sessions with several workers. All tapes are made before the first octet is written.

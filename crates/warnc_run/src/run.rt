@@ -86,7 +86,7 @@ pub struct BookRun {
     pub slots: u16,
     /// How many sessions order at a desk side by side, each what a part of the book says.
     pub sessions: Sessions,
-    /// How many workers play the cells of the book side by side.
+    /// How many workers play the cells of the book and make their tapes side by side.
     pub workers: Workers,
     pub ghost few_slots: { slots ≤ 65535 },
 }

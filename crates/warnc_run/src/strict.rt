@@ -1,27 +1,25 @@
 //! Runs of books of which something is made only if every order was done.
 
-ghost use Rattle.std.specs.Prelude.{◌≡◌, ℕ, List, length, false, true, All, IfErr, IfOk, OnOk};
+ghost use Rattle.std.specs.Prelude.{◌≡◌, false, true, IfErr, IfOk, OnOk};
 ghost use Rattle.std.specs.Io.KnownBytes.{Appends};
-ghost use Rattle.std.specs.List.{flat_map};
 ghost use Rattle.asked_orders.specs.Asked.{orders_of_run};
-ghost use Rattle.cbch_blocks.specs.RecordBlocks.{tape_of_record};
 ghost use Rattle.device_ends.specs.Sink.{sink_failed, writer_of};
 ghost use Rattle.device_ends.specs.Stream.{IsStreamBetween};
 ghost use Rattle.warnc_run.specs.Engine.{IsOfWriter};
-ghost use Rattle.warnc_run.specs.Faults.{IsOfRun, IsWriteFault};
-ghost use Rattle.warnc_run.specs.Made.{tape_size, IsMade, IsUnmade};
+ghost use Rattle.warnc_run.specs.Faults.{IsOfRun};
+ghost use Rattle.warnc_run.specs.Made.{IsMade, IsUnmade};
 ghost use Rattle.warnc_run.specs.Products.{octets_of};
 ghost use Rattle.warnc_run.specs.RunSteps.{octets_of_text, IsSomeBook};
 ghost use Rattle.warnc_run.specs.Strict.{strictly_unread, IsStrictlyMadeBy, IsStrictlyOfPiece, IsStrictlyOfWriter};
 ghost use Rattle.warnc_run.specs.Strict.{IsStrictlyUnmadeBy};
-ghost use Rattle.warnc_run.specs.StrictSteps.{AreDone, GiveTapes, IsNotDone, StopsAtProduct, StopsAtRecord};
+ghost use Rattle.warnc_run.specs.StrictSteps.{AreDone, GiveTapes, IsNotDone, StopsAtProduct};
 ghost use Rattle.warnc_run.specs.declared.product.ProductFault.TheVariants as product_faults;
 ghost use Rattle.warnc_run.specs.declared.strict.StrictFault.TheVariants as faults;
 
 use crate::apart::records_of_run;
 use crate::book::book_from;
 use crate::fault::RunFault;
-use crate::finish::write_in_turn;
+use crate::finish::write_tapes_of;
 use crate::product::{Product, ProductFault};
 use crate::run::{BookRun, Workers};
 use crate::text::{Text, orders_for, text_of_product, text_of_records};
@@ -29,10 +27,8 @@ use crate::watch::Watch;
 use alert_book::Book;
 use asked_orders::lacks_of;
 use bsc_table::CellRecord;
-use cbch_blocks::Tape;
-use cbsp_wire::Cell;
 use device_ends::{Failed, Sink, Source, write_all};
-use std::alloc::{AllocGlobal, Global};
+use std::alloc::AllocGlobal;
 use std::io::{Read, Write};
 use std::sync::Wait;
 use std::thread::Threads;
@@ -156,7 +152,7 @@ fn write_product<T: AllocGlobal + Threads + Wait + Sync, W: Write, G: Watch>(
 {
     match made {
         Product::Tapes => {
-            write_tapes_of(rt.alloc(), records, sink, run.slots, watch)?;
+            write_tapes_of(rt, records, sink, run.slots, run.workers, watch)?;
             Ok(())
         }
         Product::Report(_)
@@ -172,32 +168,6 @@ fn write_product<T: AllocGlobal + Threads + Wait + Sync, W: Write, G: Watch>(
                 Err(Failed) => Err(ProductFault::WriteFailed),
             }
         }
-    }
-}
-
-/// Writes the tapes of records, of which one alone is held, whose memory is taken before the first octet is written.
-fn write_tapes_of<W: Write, G: Watch>(
-    alloc: Global,
-    records: &[CellRecord],
-    sink: &mut Sink<W>,
-    slots: u16,
-    watch: &G,
-) -> Result<(), RunFault>
-    requires sized { All (λ r. length (tape_of_record r) ≡ tape_size slots) records.now }
-    ensures ok { OnOk result (Appends (W.contents (writer_of sink.old)) (W.contents (writer_of sink.new))
-        (flat_map tape_of_record records.now)) }
-    ensures err { IfErr result (StopsAtRecord records.now (W.contents (writer_of sink.old))
-        (W.contents (writer_of sink.new))) }
-    ensures not_failed { OnOk result (sink_failed sink.new ≡ false) }
-    ensures untouched { IfErr result (λ fault. (IsWriteFault fault → ⊥) → sink.new ≡ sink.old) }
-    ensures write { IfErr result (λ fault. IsWriteFault fault → sink_failed sink.new ≡ true) }
-    ensures stays { sink_failed sink.old ≡ true → sink.new ≡ sink.old }
-{
-    // any cell will do: every octet is overwritten
-    let tape = Tape::open(alloc, Cell { lac: 0, ci: 0 }, slots)?;
-    match write_in_turn(tape, records, sink, watch) {
-        Ok(()) => Ok(()),
-        Err(failed) => Err(RunFault::Write(failed)),
     }
 }
 
