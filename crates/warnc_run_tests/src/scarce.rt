@@ -57,20 +57,34 @@ cells -> 1-1 1-2
 shown 1 -> 4370 0010 ЖЖЖЖЖЖЖЖЖЖЖЖЖЖЖЖЖЖЖЖЖЖЖЖЖЖЖЖЖЖЖЖЖЖЖЖЖЖЖЖЖЖ, 4370 0011 ЖЖЖЖЖЖЖЖЖЖЖЖЖЖЖЖЖЖЖЖЖЖЖЖЖЖЖЖЖЖЖЖЖЖЖЖЖЖЖЖЖЯ
 shown 2 -> 4371 0020 aaaaaaaaaaaaaaaaaaaaaaaaaaaaaaaaaaaaaaaaaaaaaaaaaaaaaaaaaaaaaaaaaaaaaaaaaaaaaaaaaaaaaaaaaaaaaa
 
-# Memory ends in the first cell that an order names, in the second, at the update, and when the second cell is played
-# out after the first: so a worker plays both, which the settlement would hide.
-late 1 20 live 8 1 1 -> refused; done
+# Memory ends in the first cell that an order names, in the second, at the update, and at the stop.
+late 1 78 live 8 1 1 -> refused; done
 all -> worked
-late 2 20 live 8 1 1 -> refused; done
+late 2 50 live 8 1 1 -> refused; done
 all -> worked
-late 3 20 live 8 1 1 -> refused; done
+late 3 24 live 8 1 1 -> refused; done
 all -> worked
-late 6 10 live 8 1 1 -> refused; done
+late 4 5 live 8 1 1 -> refused; done
 all -> worked
 
 scarce-threads 400 live 8 2 2 -> refused to the end
 all -> 0 of 1488
 live 8 2 2 -> done
+all -> worked
+";
+
+/// Memory ends when the second cell is played out after the first: so a worker plays both cells of two sessions, which
+/// the settlement would hide.
+const PLAYED: &str = "
+in cell,1,1
+in cell,1,2
+in write,0,a,4370,0,1,en,2,2,0,1-1,One
+in write,0,b,4371,0,2,en,2,4,0,1-2,Two
+in update,4,a,en,2,2,0,1-1,Three
+in stop,4,b,1-2
+compile 8 1 -> done
+keep
+late 6 39 live 8 2 1 -> refused; done
 all -> worked
 ";
 
@@ -231,8 +245,8 @@ all -> worked
 ";
 
 /// Two sessions are each in a cell when memory ends: the one has no entry then, and if memory runs out for the passes
-/// of both, too, that is told. Then workers of two sessions find none, of whom no session is in a cell; and two of one
-/// are each at a desk of its own, and may have all that they need.
+/// of both, too, that is told. Two workers of one session are so, too, each with cells of its own. Then workers of two
+/// sessions find none, of whom no session is in a cell.
 const STARVED: &str = "
 in cell,1,1
 in cell,1,2
@@ -244,6 +258,10 @@ starve 2 2 1 -> Desk(Memory { done: 0 }), in both cells at once or Refused, in b
 all -> 0 of 384
 live 2 2 1 -> done
 all -> worked
+starve 2 1 2 -> Refused, in both cells at once or done, in both cells at once
+all -> 0 of 384 or worked
+live 2 1 2 -> done
+all -> worked
 
 in cell,1,1
 in cell,1,2
@@ -252,10 +270,6 @@ keep
 starve 100 2 2 -> Compile(Refused), in both cells at once
 all -> 0 of 18416
 live 100 2 2 -> done
-all -> worked
-starve 100 1 2 -> Refused, in both cells at once or done, in both cells at once
-all -> 0 of 18416 or worked
-live 100 1 2 -> done
 all -> worked
 ";
 
@@ -269,6 +283,11 @@ fn refused_memory_is_reported(rt: HostRuntime) -> Result<(), Fail> {
 #[test]
 fn refused_memory_is_reported_by_live(rt: HostRuntime) -> Result<(), Fail> {
     expect_rows(&rt, LIVE)
+}
+
+#[test]
+fn refused_memory_is_reported_by_a_worker(rt: HostRuntime) -> Result<(), Fail> {
+    expect_rows(&rt, PLAYED)
 }
 
 #[test]
