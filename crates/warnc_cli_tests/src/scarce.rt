@@ -162,7 +162,7 @@ in write,0,a,4370,0,1,en,2,2,0,1-1,@
 args chart --slots 2
 run -> 0
 keep
-scarce 14 4800 -> worked
+scarce 14 4700 -> worked
 args chart --slots 2 --from 1 --to 2
 run -> 0
 keep
@@ -207,13 +207,13 @@ in write,0,a,4370,0,1,en,2,2,1,1-0 1-64,@
 args compile --slots 1 --network
 run -> 0
 keep
-scarce-later 13 6400 16 300 -> worked
+scarce-later 13 6400 16 190 -> worked
 
 args report --slots 2 --network
 worked lac,ci,id,serial,start,end,completed,shown
 worked 1,0,4370,0010,0,2,1,yes
 worked 1,64,4370,0010,0,2,1,yes
-scarce-later 80 67 86 300 -> worked
+scarce-later 80 67 86 400 -> worked
 ";
 
 /// With so little memory no thread can be made: a session works in the calling thread. Memory ends before there are
