@@ -21,7 +21,8 @@ use Rattle.cbsp_wire.specs.Value.{Fields, fields_of}
 use Rattle.alert_book.specs.Book.{Contents}
 use Rattle.reply_outcome.specs.Replies.{cells_asked}
 use Rattle.alert_book.specs.TurnLaws.{AsksOncePerOrder, orders_in}
-use Rattle.alert_book.specs.Turns.{AreTurnsOf, Turn, is_asked}
+use Rattle.alert_book.specs.Session.{Standing}
+use Rattle.alert_book.specs.Turns.{AreTurnsOf, GoesTo, Turn, begun, is_asked}
 use Rattle.bsc_table.specs.declared.command.Category.{Category}
 use Rattle.bsc_table.specs.declared.command.Command.{Command}
 use Rattle.bsc_table.specs.declared.command.Command.TheVariants as commands
@@ -142,7 +143,7 @@ kept_once c (d ∷ cells) h =
     ]
 
 -- the answers of a cell are as many as its cells among those that answered
-answers_kept : (c : Cell) (list : List (Cell × Answer))
+pub answers_kept : (c : Cell) (list : List (Cell × Answer))
     → length (filter (λ (a : Cell × Answer). is_cell c a.0) list) ≡ length (filter (is_cell c) (cells_answered list))
 answers_kept c [] = refl
 answers_kept c (a ∷ list) = by_test (is_cell c a.0) (answers_kept c list)
@@ -192,22 +193,22 @@ asked_by_turns cells c (x ∷ exchanges) are distinct =
     together true n k kept first later = omega arith
     together false n k kept first later = omega arith
 
--- a session of a part asks a cell at most once for each of the part's orders
-pub asked_few : AsksOncePerOrder → (book : Contents) (part parts : ℕ) (cell : Cell) (exchanges : List Exchange)
+-- a session of a part asks a cell at most once for each of the part's orders, after any of its turns
+pub asked_so_far : AsksOncePerOrder → (book : Contents) (part parts : ℕ) (cell : Cell) (exchanges : List Exchange)
+    (reached : Standing)
     → IsFit book
-    → AreTurnsOf book part parts (map (λ x. x.turn) exchanges) → All (IsExchange book.cells) exchanges
+    → GoesTo (begun book part parts) (map (λ x. x.turn) exchanges) reached → All (IsExchange book.cells) exchanges
     → length (asked_of cell exchanges) ≤ length (orders_in book part parts)
-asked_few once book part parts cell exchanges fit session exchanged =
+asked_so_far once book part parts cell exchanges reached fit gone exchanged =
     let turns : List Turn = map (λ x. x.turn) exchanges in
     let asked = asked_by_turns book.cells cell exchanges exchanged distinct in
-    let few = once book part parts turns session.reached cell session.gone in
+    let few = once book part parts turns reached cell gone in
     omega (arith, asked, few)
   where
     distinct : All IsOfDistinct exchanges
     distinct k d within =
         let x : Exchange = get_or exchanges k d in
-        let written = fit.writable part parts (map (λ (y : Exchange). y.turn) exchanges) session.reached
-        session.gone k d.turn
+        let written = fit.writable part parts (map (λ (y : Exchange). y.turn) exchanges) reached gone k d.turn
         (subst (λ n. k < n) (sym (length-map exchanges (λ (y : Exchange). y.turn))) within) in
         let here : is_writable x.turn.request.message ≡ true =
         subst (λ (t : Turn). is_writable t.request.message ≡ true)
@@ -216,3 +217,11 @@ asked_few once book part parts cell exchanges fit session exchanged =
         subst (λ (list : List Cell). are_distinct list ≡ true)
         (sym (order_asks x.turn.request.message (cells_answered x.answers) x.command asked))
         (distinct_cells x.turn.request.message (cells_answered x.answers) x.command asked here)
+
+-- and so after all of them
+pub asked_few : AsksOncePerOrder → (book : Contents) (part parts : ℕ) (cell : Cell) (exchanges : List Exchange)
+    → IsFit book
+    → AreTurnsOf book part parts (map (λ x. x.turn) exchanges) → All (IsExchange book.cells) exchanges
+    → length (asked_of cell exchanges) ≤ length (orders_in book part parts)
+asked_few once book part parts cell exchanges fit session exchanged =
+    asked_so_far once book part parts cell exchanges session.reached fit session.gone exchanged

@@ -14,10 +14,11 @@ mod Events
 mod Noted
 mod Logged
 pub mod OneSession
-mod Asking
+pub mod Requests
+pub mod Asking
 mod AsksOfCell
 mod Parts
-mod Room
+pub mod Room
 mod InOrder
 mod Settled
 mod OneAnswer

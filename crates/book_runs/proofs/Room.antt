@@ -49,7 +49,8 @@ marks_below parts order none = All-weaker (λ (a : ℕ × Asked). Contains (aske
         empty : (k : ℕ) → k < 0 → ⊥
         empty k within = omega arith
 
-as_many_entries : (slots clock : ℕ) (asked : List Asked) → length (entries_for slots clock asked) ≡ length asked
+-- a log has an entry for each command that its cell was asked
+pub as_many_entries : (slots clock : ℕ) (asked : List Asked) → length (entries_for slots clock asked) ≡ length asked
 as_many_entries slots clock [] = refl
 as_many_entries slots clock (a ∷ asked) = ap suc (as_many_entries slots (given_slot slots clock a.at) asked)
 

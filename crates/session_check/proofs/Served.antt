@@ -1,12 +1,12 @@
 -- What the books of cells hold after what the cells were asked.
-use Rattle.std.proofs.Common.{◌≡◌, ◌≢◌, ℕ, ◌<◌, true, false, cond, List, [], ◌∷◌, ◌++◌, All, Option, Some}
-use Rattle.std.specs.Prelude.{IfOk, IfSome, Result, Ok, Err}
+use Rattle.std.proofs.Common.{◌≡◌, ◌≢◌, ℕ, ◌<◌, ◌≤◌, ◌+◌, suc, Bool, true, false, cond, List, [], ◌∷◌, ◌++◌, All, Some}
+use Rattle.std.specs.Prelude.{IfOk, Result, Ok, Err}
 use Rattle.std.specs.declared.alloc.AllocError.{AllocError}
 use Rattle.std.proofs.Common.{◌⊎◌, None, map, filter, length, get_or, set, refl, sym, subst, ap, ◌∙◌, arith, inl, inr}
 use Rattle.std.specs.List.{AllZip, slice_get}
 use Rattle.std.proofs.lemmas.Bool.{cases_Bool, cases_eq, cases_lt}
 use Rattle.std.proofs.lemmas.List.{append-nil, append_assoc, get_or-map, get_or-set_other, get_or-set_same, length-map}
-use Rattle.std.proofs.lemmas.List.{length-set, map-append}
+use Rattle.std.proofs.lemmas.List.{length-append, length-set, map-append}
 use Rattle.std.proofs.lemmas.List.Elements.{All-append, All-cons, All-head, All-map, All-nil, All-tail, All-weaker}
 use Rattle.std.proofs.lemmas.List.Elements.{filter-append}
 use Rattle.std.proofs.lemmas.List.Folds.{list_any_at}
@@ -22,12 +22,12 @@ use Rattle.bsc_table.specs.declared.entry.Answer.TheVariants as answers
 use Rattle.bsc_table.specs.declared.entry.Entry.{Entry}
 use Rattle.bsc_table.specs.Record.{Record}
 use Rattle.bsc_table.specs.Transitions.{opened}
-use Rattle.order_desk.specs.Reply.{IsAnswerTo}
+use Rattle.order_desk.specs.Reply.{IsAnswerTo, cells_answered}
 use Rattle.order_desk.specs.ReplyLaws.{IsOrdered}
 use Rattle.order_desk.specs.Settled.{IsPlayedOut}
 use Rattle.book_runs.specs.Run.{Asked, Exchange, IsRunOfBook, asked_of, entries_for, given_slot, is_among}
-use Rattle.session_check.specs.AloneSteps.{HasServed, HaveAnsweredFrom, HaveServed, IsAnsweredFrom, IsUnknownIfForeign}
-use Rattle.session_check.specs.AloneSteps.{asked_by_all, clock_for}
+use Rattle.session_check.specs.AloneSteps.{HasServed, HaveAnsweredFrom, HaveRoomFor, HaveServed, IsAnsweredFrom}
+use Rattle.session_check.specs.AloneSteps.{IsUnknownIfForeign, asked_by_all, clock_for}
 use Rattle.session_check.specs.NotedSteps.{asked_at, record_cells}
 use Rattle.session_check.proofs.Noted.{clash}
 
@@ -94,6 +94,35 @@ same_served slots one other books same had =
     All-weaker (λ (r : Record). HasServed slots (one r.cell) r) (λ (r : Record). HasServed slots (other r.cell) r)
     (λ r has. subst (λ (asked : List Asked). HasServed slots asked r) (same r.cell) has) books had
 
+-- a log that has room for the entries of some cells
+abbrev HasRoomFor : List Cell → Record → Type 0
+HasRoomFor named r = length r.log + length (filter (is_cell r.cell) named) ≤ 4096
+
+-- of a longer list no fewer cells are kept
+kept_more : (b : Bool) (cell : Cell) (kept : List Cell) → length kept ≤ length (cond b (cell ∷ kept) kept)
+kept_more true cell kept = omega arith
+kept_more false cell kept = omega arith
+
+kept_first : (b : Bool) (cell : Cell) (kept : List Cell)
+    → length (cond b (cell ∷ []) []) ≤ length (cond b (cell ∷ kept) kept)
+kept_first true cell kept = omega arith
+kept_first false cell kept = omega arith
+
+-- room for a list of cells is room for the first of them, and for the others
+pub room_for_first : (cell : Cell) (later : List Cell) (books : List Record)
+    → HaveRoomFor (cell ∷ later) books
+    → HaveRoomFor (cell ∷ []) books
+room_for_first cell later books room =
+    All-weaker (HasRoomFor (cell ∷ later)) (HasRoomFor (cell ∷ []))
+    (λ r has. omega (arith, has, kept_first (is_cell r.cell cell) cell (filter (is_cell r.cell) later))) books room
+
+room_for_later : (cell : Cell) (later : List Cell) (books : List Record)
+    → HaveRoomFor (cell ∷ later) books
+    → HaveRoomFor later books
+room_for_later cell later books room =
+    All-weaker (HasRoomFor (cell ∷ later)) (HasRoomFor later)
+    (λ r has. omega (arith, has, kept_more (is_cell r.cell cell) cell (filter (is_cell r.cell) later))) books room
+
 -- no answers
 pub answered_none : (cells : List Cell) (at : ℕ) (command : Command) (books : List Record)
     → HaveAnsweredFrom cells at command [] books books
@@ -103,6 +132,7 @@ answered_none cells at command books = record {
   foreign = All-nil (IsUnknownIfForeign cells);
   served = λ slots asked had.
       same_served slots asked (λ cell. asked cell ++ []) books (λ cell. sym (append-nil (asked cell))) had;
+  room = λ later had. had;
 }
 
 -- one more
@@ -123,6 +153,11 @@ answered_more cells at command done next before mid after first then = record {
       (asked_by_all at command (next ∷ []) cell)
       ∙ ap (λ (more : List Asked). asked cell ++ more) (sym (asked_append at command done (next ∷ []) cell)))
       (then.served slots (λ cell. asked cell ++ asked_by_all at command done cell) (first.served slots asked had));
+  room = λ later had.
+      then.room later (first.room (next.0 ∷ later) (subst (λ (named : List Cell). HaveRoomFor named before)
+      (ap (λ (cells : List Cell). cells ++ later)
+      (map-append (λ (a : Cell × Answer). a.0) done (next ∷ []))
+      ∙ append_assoc (cells_answered done) (next.0 ∷ []) later) had));
 }
 
 -- a refusal is an answer to each order
@@ -188,7 +223,36 @@ answered_unknown cells at command cell books same foreign ordered = record {
   served = λ slots asked had i d within.
       not_asked slots at command (answers.Cause 0x03) cell asked (get_or books i d)
       (is_none_of cells books cell i d same foreign within) (had i d within);
+  room = λ later had. room_for_later cell later books had;
 }
+
+-- the log of a place's cell has room for one entry, and for those of the later cells
+room_there : (cells : List Cell) (cell : Cell) (later : List Cell) (place : ℕ) (books : List Record) (before : Record)
+    → record_cells books ≡ cells
+    → slice_get cells place ≡ Some cell
+    → before ≡ get_or books place before
+    → HaveRoomFor (cell ∷ later) books
+    → length before.log + suc (length (filter (is_cell before.cell) later)) ≤ 4096
+room_there cells cell later place books before same there is_before room =
+    let inside : place < length books =
+    omega (arith, slice_get_within cells place cell there, place_within cells books same) in
+    let own : before.cell ≡ cell =
+    ap (λ (r : Record). r.cell) is_before ∙ cell_of_place cells books place before same inside
+    ∙ get_or_from_slice_get cells place cell before.cell there in
+    let kept = filter (is_cell before.cell) later in
+    subst (λ b. length before.log + length (cond b (cell ∷ kept) kept) ≤ 4096)
+    (ap (λ (c : Cell). is_cell c cell) own ∙ is_itself cell)
+    (subst (HasRoomFor (cell ∷ later)) (sym is_before) (room place before inside))
+
+-- so the cell can answer
+pub room_at : (cells : List Cell) (cell : Cell) (place : ℕ) (books : List Record) (before : Record)
+    → record_cells books ≡ cells
+    → slice_get cells place ≡ Some cell
+    → before ≡ get_or books place before
+    → HaveRoomFor (cell ∷ []) books
+    → length before.log < 4096
+room_at cells cell place books before same there is_before room =
+    let one = room_there cells cell [] place books before same there is_before room in omega (arith, one)
 
 -- the cells of two places aren't one
 is_another : (cells : List Cell) (books : List Record) (cell : Cell) (place i : ℕ) (d : Record)
@@ -234,6 +298,7 @@ answered_there cells at command answer cell place books before after same distin
           (λ foreign. absurd (clash (is_among cells cell) (found_near cells cell place there) foreign))
           (All-nil (IsUnknownIfForeign cells));
       served = each;
+      room = room_left;
     }
   where
     inside : place < length books
@@ -276,18 +341,35 @@ answered_there cells at command answer cell place books before after same distin
             (not_asked slots at command answer cell asked (get_or books i d)
             (is_another cells books cell place i d same distinct there apart i_within) (had i d i_within))
 
+    room_left : (later : List Cell) → HaveRoomFor (cell ∷ later) books → HaveRoomFor later (set books place after)
+    room_left later had i d within = by_place (cases_eq i place)
+      where
+        room_here : HasRoomFor later after
+        room_here =
+            let one = room_there cells cell later place books before same there is_before had in
+            let entries : length after.log ≡ length before.log + 1 =
+            ap length is.entered ∙ length-append before.log _ in
+            subst (λ (c : Cell). length after.log + length (filter (is_cell c) later) ≤ 4096) (sym is.cell)
+            (omega (arith, one, entries))
+
+        by_place : (i ≡ place) ⊎ (i ≢ place) → HasRoomFor later (get_or (set books place after) i d)
+        by_place (inl own) =
+            subst (HasRoomFor later) (sym (ap (λ (k : ℕ). get_or (set books place after) k d) own
+            ∙ get_or-set_same books place after d inside)) room_here
+        by_place (inr apart) =
+            subst (HasRoomFor later) (sym (get_or-set_other books place i after d apart))
+            (room_for_later cell later books had i d (omega (arith, within, length-set books place after)))
+
 -- so, if it answered
 pub answered_place : (cells : List Cell) (at : ℕ) (command : Command) (cell : Cell) (place : ℕ) (books : List Record)
-    (found : Result (Option Answer) AllocError) (before after : Record)
+    (found : Result Answer AllocError) (before after : Record)
     → record_cells books ≡ cells
     → are_distinct cells ≡ true
     → slice_get cells place ≡ Some cell
     → before ≡ get_or books place before
-    → IfOk found (λ some. IfSome some (λ answer. IsAnsweredFrom at command answer before after))
-    → IfOk found (λ some. IfSome some (λ answer.
-    HaveAnsweredFrom cells at command ((cell, answer) ∷ []) books (set books place after)))
-answered_place cells at command cell place books (Ok None) before after same distinct there is_before is = tt
-answered_place cells at command cell place books (Ok (Some answer)) before after same distinct there is_before is =
+    → IfOk found (λ answer. IsAnsweredFrom at command answer before after)
+    → IfOk found (λ answer. HaveAnsweredFrom cells at command ((cell, answer) ∷ []) books (set books place after))
+answered_place cells at command cell place books (Ok answer) before after same distinct there is_before is =
     answered_there cells at command answer cell place books before after same distinct there is_before is
 answered_place cells at command cell place books (Err refused) before after same distinct there is_before is = tt
 

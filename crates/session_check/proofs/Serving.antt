@@ -1,25 +1,36 @@
 -- How the one session of a book is served by cells at hand: what is kept from turn to turn.
-use Rattle.std.proofs.Common.{◌≡◌, ℕ, ◌<◌, true, List, [], ◌∷◌, ◌++◌, All, Option, Some, None, map, length, refl, sym}
-use Rattle.std.proofs.Common.{subst, ap, ◌∙◌, ◌+◌, ◌*◌}
+use Rattle.std.specs.Prelude.{◌%◌}
+use Rattle.std.proofs.Common.{◌≡◌, ℕ, ◌<◌, ◌≤◌, ◌==◌, Bool, true, false, not, List, [], ◌∷◌, ◌++◌, All, Option, Some}
+use Rattle.std.proofs.Common.{None, Result, Ok, Err, map, filter, length, refl, sym, subst, ap, ◌∙◌, ◌+◌, ◌*◌, arith}
 use Rattle.std.specs.List.{AllByRecursion, AllZip}
 use Rattle.std.proofs.lemmas.Grind.{flat_map-append}
-use Rattle.std.proofs.lemmas.List.{append-nil, map-append}
-use Rattle.std.proofs.lemmas.List.Elements.{All-nil, All-push, recursion_from_All}
+use Rattle.std.proofs.lemmas.List.{append-nil, length-append, length-map, map-append}
+use Rattle.std.proofs.lemmas.List.Elements.{All-map, All-nil, All-push, All-weaker, recursion_from_All}
+use Rattle.std.proofs.lemmas.List.Filters.{length-filter_both}
 use Rattle.cbsp_wire.specs.declared.message.Cell.{Cell}
-use Rattle.cbsp_wire.specs.Range.{is_writable}
+use Rattle.cbsp_wire.specs.Range.{is_cell, is_writable}
 use Rattle.reply_outcome.specs.declared.outcome.Outcome.{Outcome}
+use Rattle.alert_book.specs.declared.book.order.Order.{Order}
 use Rattle.alert_book.specs.declared.session.request.Request.{Request}
 use Rattle.alert_book.specs.Book.{Contents}
 use Rattle.alert_book.specs.Session.{after_reply, outcome_in, session_of, Standing}
 use Rattle.alert_book.specs.Stands.{left_in, Advances, SessionState, StandsFor}
-use Rattle.alert_book.specs.TurnLaws.{SessionsEnd}
+use Rattle.alert_book.specs.TurnLaws.{AsksOncePerOrder, RequestsComeOfOrders, SessionsEnd}
 use Rattle.alert_book.specs.Turns.{begun, GoesTo, Turn}
+use Rattle.bsc_table.specs.declared.command.Command.{Command}
+use Rattle.bsc_table.specs.declared.entry.Answer.{Answer}
+use Rattle.bsc_table.specs.declared.entry.Answer.TheVariants as answers
+use Rattle.bsc_table.specs.Orders.{order_of}
 use Rattle.bsc_table.specs.Record.{Record}
-use Rattle.order_desk.specs.Reply.{reply_message}
+use Rattle.order_desk.specs.Reply.{cells_answered, reply_message}
 use Rattle.order_desk.specs.Settled.{IsPlayedOut}
 use Rattle.book_runs.specs.Fit.{IsFit}
-use Rattle.book_runs.specs.Run.{Asked, Exchange, IsExchange, IsRun, asked_in, asked_of}
-use Rattle.session_check.specs.AloneSteps.{HaveServed, HaveServedSession, IsTurnServed, asked_by_all}
+use Rattle.book_runs.specs.Run.{Asked, Exchange, IsExchange, IsRun, asked_in, asked_of, asked_with, is_among}
+use Rattle.book_runs.proofs.Asking.{answers_kept, asked_so_far}
+use Rattle.book_runs.proofs.Requests.{gone_on, request_is_order}
+use Rattle.book_runs.proofs.Room.{as_many_entries}
+use Rattle.session_check.specs.AloneSteps.{AreNew, HasServed, HaveServed, HaveServedSession, IsOrderWithRoom}
+use Rattle.session_check.specs.AloneSteps.{IsTurnServed, asked_by_all}
 use Rattle.session_check.specs.NotedSteps.{record_cells}
 use Rattle.session_check.proofs.Replayed.{GoesOnAfter, left_of, left_to_serve, lessens}
 use Rattle.session_check.proofs.Served.{played_all, played_cells, same_served}
@@ -27,20 +38,6 @@ use Rattle.session_check.proofs.Served.{played_all, played_cells, same_served}
 -- the turns of exchanges
 abbrev turns_of : List Exchange → List Turn
 turns_of exchanges = map (λ x. x.turn) exchanges
-
--- one more turn at the end
-goes_one_more : (from mid : Standing) (turns : List Turn) (turn : Turn)
-    → GoesTo from turns mid
-    → mid.sent ≡ Some turn.request
-    → GoesTo from (turns ++ turn ∷ []) (after_reply (Some turn.reply) mid)
-goes_one_more from mid [] turn gone sent = (
-  ap (λ (s : Standing). s.sent) (sym gone) ∙ sent,
-  ap (after_reply (Some turn.reply)) gone,
-)
-goes_one_more from mid (first ∷ turns) turn gone sent = (
-  gone.0,
-  goes_one_more (after_reply (Some first.reply) from) mid turns turn gone.1 sent,
-)
 
 -- what is kept: the exchanges so far, which are all that the cells were asked
 pub record IsServing (book : Contents) (first : List Record) (session : SessionState) (books : List Record) : Type 0
@@ -101,7 +98,7 @@ serving_more book first before session request said books after sent serving tur
       reached = after_reply (Some reply) serving.reached;
       gone = subst (λ (turns : List Turn). GoesTo (begun book 0 1) turns (after_reply (Some reply) serving.reached))
           (sym (map-append (λ (y : Exchange). y.turn) serving.exchanges (x ∷ [])))
-          (goes_one_more (begun book 0 1) serving.reached (turns_of serving.exchanges) x.turn serving.gone
+          (gone_on (turns_of serving.exchanges) (begun book 0 1) serving.reached request reply serving.gone
           (sym serving.stands.sent ∙ sent));
       stands = goes (Some reply) (turn.told ∙ ap (λ (s : Option Request). outcome_in s (Some reply)) (sym sent))
           serving.reached serving.stands;
@@ -165,7 +162,90 @@ request_writable book first session request books fit sent serving =
     let Writable : Turn → Type 0 = λ t. is_writable t.request.message ≡ true in
     last_is Writable turns turn (recursion_from_All Writable (turns ++ turn ∷ [])
     (fit.writable 0 1 (turns ++ turn ∷ []) (after_reply (Some request.message) serving.reached)
-    (goes_one_more (begun book 0 1) serving.reached turns turn serving.gone (sym serving.stands.sent ∙ sent))))
+    (gone_on turns (begun book 0 1) serving.reached request request.message serving.gone
+    (sym serving.stands.sent ∙ sent))))
+
+-- no cell of a message is known
+abbrev all_unknown : List Cell → List (Cell × Answer)
+all_unknown cells = map (λ cell. (cell, answers.Cause 0x03)) cells
+
+cells_of_unknown : (cells : List Cell) → cells_answered (all_unknown cells) ≡ cells
+cells_of_unknown [] = refl
+cells_of_unknown (cell ∷ cells) = ap (λ (all : List Cell). cell ∷ all) (cells_of_unknown cells)
+
+-- a session has a request: the exchange with it, if no cell were known
+abbrev next_exchange : (request : Request) (cells : List Cell) (command : Command) → Exchange
+next_exchange request cells command = record {
+  turn = record { request = request; reply = reply_message command (all_unknown cells) };
+  command = command;
+  answers = all_unknown cells;
+}
+
+-- the next request of a session asks no cell more often than its log has room
+asked_next : AsksOncePerOrder → (book : Contents) (first : List Record) (session : SessionState) (request : Request)
+    (books : List Record) (cells : List Cell) (command : Command) (cell : Cell)
+    → IsFit book
+    → session.sent ≡ Some request
+    → (serving : IsServing book first session books)
+    → order_of request.message ≡ Ok (cells, command)
+    → length (asked_of cell serving.exchanges) + length (filter (is_cell cell) cells) ≤ 4096
+asked_next once book first session request books cells command cell fit sent serving order =
+    let x = next_exchange request cells command in
+    let all = serving.exchanges ++ x ∷ [] in
+    let gone = subst (λ (turns : List Turn). GoesTo (begun book 0 1) turns
+    (after_reply (Some x.turn.reply) serving.reached))
+    (sym (map-append (λ (y : Exchange). y.turn) serving.exchanges (x ∷ [])))
+    (gone_on (turns_of serving.exchanges) (begun book 0 1) serving.reached request x.turn.reply serving.gone
+    (sym serving.stands.sent ∙ sent)) in
+    let is : IsExchange book.cells x = record {
+      asked = subst (λ (named : List Cell). order_of request.message ≡ Ok (named, command))
+          (sym (cells_of_unknown cells)) order;
+      replied = refl;
+      foreign = All-map (λ (a : Cell × Answer). is_among book.cells a.0 ≡ false → a.1 ≡ answers.Cause 0x03)
+          (λ (c : Cell). (c, answers.Cause 0x03)) cells (λ k d within foreign. refl);
+    } in
+    let few = asked_so_far once book 0 1 cell all (after_reply (Some x.turn.reply) serving.reached) fit gone
+    (All-push (IsExchange book.cells) serving.exchanges x serving.exchanged is) in
+    let both : length (asked_of cell all) ≡ length (asked_of cell serving.exchanges) + length (asked_in cell x) =
+    ap length (sym (asked_more serving.exchanges x cell)) ∙ length-append (asked_of cell serving.exchanges) _ in
+    let last : length (asked_in cell x) ≡ length (filter (is_cell cell) cells) =
+    length-map (filter (λ (a : Cell × Answer). is_cell cell a.0) x.answers) (asked_with x)
+    ∙ answers_kept cell x.answers
+    ∙ ap (λ (named : List Cell). length (filter (is_cell cell) named)) (cells_of_unknown cells) in
+    let IsOwn : Order → Bool = λ order. order.number % 1 == 0 in
+    let own = length-filter_both IsOwn (λ order. not (IsOwn order)) (λ order. refl) book.orders in
+    omega (arith, few, both, last, own, fit.orders)
+
+-- what is no failure is an order
+order_there : (found : Result (List Cell × Command) ℕ) → ((cause : ℕ) → found ≡ Err cause → ⊥)
+    → (cells : List Cell) × (command : Command) × (found ≡ Ok (cells, command))
+order_there (Ok (cells, command)) right = (cells, command, refl)
+order_there (Err cause) right = absurd (right cause refl)
+
+-- so it is an order that the logs have room for
+pub request_ordered : AsksOncePerOrder → RequestsComeOfOrders → (book : Contents) (first : List Record)
+    (session : SessionState) (request : Request) (books : List Record)
+    → IsFit book
+    → AreNew first
+    → session.sent ≡ Some request
+    → IsServing book first session books
+    → IsOrderWithRoom request.message books
+request_ordered once come book first session request books fit new sent serving =
+    let order = order_there (order_of request.message) (λ cause is. request_is_order come book 0 1
+    (turns_of serving.exchanges) serving.reached request cause fit serving.gone
+    (sym serving.stands.sent ∙ sent) is) in record {
+      cells = order.0;
+      command = order.1;
+      order = order.2;
+      room = All-weaker (λ (r : Record). HasServed new.0 (asked_of r.cell serving.exchanges) r)
+          (λ (r : Record). length r.log + length (filter (is_cell r.cell) order.0) ≤ 4096)
+          (λ r had.
+          let few = asked_next once book first session request books order.0 order.1 r.cell fit sent serving
+          order.2 in
+          let entries : length r.log ≡ length (asked_of r.cell serving.exchanges) =
+          ap length had.entries ∙ as_many_entries new.0 0 (asked_of r.cell serving.exchanges) in
+          omega (arith, few, entries)) books (serving.served new.0 new.1);
+    }
 
 -- the records of books that served the session, played out, are a run of the book
 pub is_run : (book : Contents) (slots : ℕ) (first books records : List Record)

@@ -1,8 +1,9 @@
 -- Steps of a session that cells at hand serve (own): what the books of the cells hold after each. The contracts of
 -- private functions alone speak of them.
-use Rattle.std.specs.Prelude.{◌≡◌, ℕ, false, Some, Ok, List, [], ◌∷◌, ◌++◌, map, filter, All}
+use Rattle.std.specs.Prelude.{◌≡◌, ◌≤◌, ◌+◌, ℕ, false, Some, Ok, List, [], ◌∷◌, ◌++◌, length, map, filter, All}
 use Rattle.cbsp_wire.specs.declared.cause.TheConstants.{CELL_IDENTITY_NOT_VALID}
 use Rattle.cbsp_wire.specs.declared.message.Cell.{Cell}
+use Rattle.cbsp_wire.specs.declared.message.Message.{Message}
 use Rattle.cbsp_wire.specs.Range.{is_cell}
 use Rattle.reply_outcome.specs.declared.outcome.Outcome.{Outcome}
 use Rattle.reply_outcome.specs.Replies.{outcome_of}
@@ -33,6 +34,21 @@ pub record HasServed (slots : ℕ) (asked : List Asked) (r : Record) : Type 0 wh
 abbrev pub HaveServed : (slots : ℕ) → (Cell → List Asked) → List Record → Type 0
 HaveServed slots asked books = All (λ r. HasServed slots (asked r.cell) r) books
 
+-- books of which nothing was asked yet
+abbrev pub AreNew : List Record → Type 0
+AreNew books = (slots : ℕ) × HaveServed slots (λ cell. []) books
+
+-- logs have room for one more entry for each time that a list names their cell
+abbrev pub HaveRoomFor : List Cell → List Record → Type 0
+HaveRoomFor named books = All (λ r. length r.log + length (filter (is_cell r.cell) named) ≤ 4096) books
+
+-- a message is an order for which the logs of its cells have room
+pub record IsOrderWithRoom (message : Message) (books : List Record) : Type 0 where
+  pub cells : List Cell
+  pub command : Command
+  pub order : order_of message ≡ Ok (cells, command)
+  pub room : HaveRoomFor cells books
+
 -- what a cell is asked by answers to a command
 abbrev pub asked_by_all : (at : ℕ) → Command → List (Cell × Answer) → Cell → List Asked
 asked_by_all at command answers cell = map (λ a. asked_at at command a.1) (filter (λ a. is_cell cell a.0) answers)
@@ -59,6 +75,9 @@ pub record HaveAnsweredFrom (cells : List Cell) (at : ℕ) (command : Command) (
   pub served : (slots : ℕ) (asked : Cell → List Asked)
       → HaveServed slots asked before
       → HaveServed slots (λ cell. asked cell ++ asked_by_all at command answers cell) after
+  pub room : (later : List Cell)
+      → HaveRoomFor (cells_answered answers ++ later) before
+      → HaveRoomFor later after
 
 -- the message of a request was carried out, and what is said is what the reply says
 pub record IsTurnServed (cells : List Cell) (request : Request) (said : Outcome) (before after : List Record) : Type 0

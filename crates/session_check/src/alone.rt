@@ -1,7 +1,8 @@
 //! The one session of a book, served by cells at hand: each answers as it is asked. So nothing is noted, and there is
 //! nothing to compare.
 
-ghost use Rattle.std.specs.Prelude.{◌≡◌, [], ◌∷◌, List, IfNone, IfOk, IfSome, Some, false, map, true, ℕ};
+ghost use Rattle.std.specs.Prelude.{◌≡◌, ◌<◌, [], ◌∷◌, List, IfNone, IfOk, IfSome, OnOk, Some, false, length, map};
+ghost use Rattle.std.specs.Prelude.{true};
 ghost use Rattle.std.specs.List.{AllZip, slice_get};
 ghost use Rattle.cbsp_wire.specs.Range.{cells_are_valid, is_writable};
 ghost use Rattle.bsc_table.specs.Orders.{IsWellFormed};
@@ -11,7 +12,8 @@ ghost use Rattle.order_desk.specs.ReplyLaws.{IsOrdered};
 ghost use Rattle.order_desk.specs.Settled.{IsPlayedOut};
 ghost use Rattle.book_runs.specs.Fit.{IsFit};
 ghost use Rattle.book_runs.specs.Run.{Exchange, IsRun, is_among};
-ghost use Rattle.session_check.specs.AloneSteps.{HaveAnsweredFrom, HaveServedSession, IsAnsweredFrom, IsTurnServed};
+ghost use Rattle.session_check.specs.AloneSteps.{AreNew, HaveAnsweredFrom, HaveRoomFor, HaveServedSession};
+ghost use Rattle.session_check.specs.AloneSteps.{IsAnsweredFrom, IsOrderWithRoom, IsTurnServed};
 ghost use Rattle.session_check.specs.NotedSteps.{record_cells};
 
 use crate::said::said_by;
@@ -35,21 +37,19 @@ fn new_books(alloc: Global, cells: &[Cell], slots: u16) -> Result<Vec<CellBook>,
     Ok(books)
 }
 
-/// Has a cell answer a command from slot `at` on: it is played up to the command's slot. None if its log is full, which
-/// has no entry of the command then.
-fn ask(book: &mut CellBook, at: u16, command: &Command) -> Result<Option<Answer>, Refused>
+/// Has a cell answer a command from slot `at` on: it is played up to the command's slot.
+fn ask(book: &mut CellBook, at: u16, command: &Command) -> Result<Answer, Refused>
     requires formed { IsWellFormed command.now }
     requires ordered { IsOrdered command.now }
-    ensures { IfOk result (λ found. IfSome found (λ answer.
-        IsAnsweredFrom at command.now answer book.old book.new)) }
+    requires room { length book.old.log < 4096 }
+    ensures { IfOk result (λ answer. IsAnsweredFrom at command.now answer book.old book.new) }
 {
-    // The cell's answer is one that the command can get.
+    // The cell's answer is one that the command can get, and has an entry.
     order_desk::reply_laws();
     let _ = book.play(at.saturating_sub(book.clock()));
     match book.apply(command) {
         Answer::Refused => Err(Refused),
-        Answer::Cause(cause::BSC_MEMORY_EXCEEDED) => Ok(None),
-        answer => Ok(Some(answer)),
+        answer => Ok(answer),
     }
 }
 
@@ -62,18 +62,19 @@ fn answer_of<G: Gate>(
     place: Option<usize>,
     command: &Command,
     gate: &G,
-) -> Result<Option<Answer>, Refused>
+) -> Result<Answer, Refused>
     requires cells { record_cells books.old ≡ cells.now }
     requires valid { cells_are_valid cells.now ≡ true }
     requires there { IfSome place (λ place. slice_get cells.now place ≡ Some cell) }
     requires foreign { IfNone place (is_among cells.now cell ≡ false) }
     requires formed { IsWellFormed command.now }
     requires ordered { IsOrdered command.now }
-    ensures { IfOk result (λ found. IfSome found (λ answer.
-        HaveAnsweredFrom cells.now at command.now ((cell, answer) ∷ []) books.old books.new)) }
+    requires room { HaveRoomFor (cell ∷ []) books.old }
+    ensures { IfOk result (λ answer.
+        HaveAnsweredFrom cells.now at command.now ((cell, answer) ∷ []) books.old books.new) }
 {
     let Some(place) = place else {
-        return Ok(Some(Answer::Cause(cause::CELL_IDENTITY_NOT_VALID)));
+        return Ok(Answer::Cause(cause::CELL_IDENTITY_NOT_VALID));
     };
     gate.inside(place as u16);
     ask(&mut books[place], at, command)
@@ -88,79 +89,73 @@ fn answers_of<G: Gate>(
     named: &[Cell],
     command: &Command,
     gate: &G,
-) -> Result<Option<Vec<(Cell, Answer)>>, Refused>
+) -> Result<Vec<(Cell, Answer)>, Refused>
     requires cells { record_cells books.old ≡ cells.now }
     requires valid { cells_are_valid cells.now ≡ true }
     requires formed { IsWellFormed command.now }
     requires ordered { IsOrdered command.now }
-    ensures named { IfOk result (λ found. IfSome found (λ answers. cells_answered answers.items ≡ named.now)) }
-    ensures answered { IfOk result (λ found. IfSome found (λ answers.
-        HaveAnsweredFrom cells.now at command.now answers.items books.old books.new)) }
+    requires room { HaveRoomFor named.now books.old }
+    ensures named { IfOk result (λ answers. cells_answered answers.items ≡ named.now) }
+    ensures answered { IfOk result (λ answers.
+        HaveAnsweredFrom cells.now at command.now answers.items books.old books.new) }
 {
     let mut answers = Vec::with_capacity(alloc, named.len())?;
     let mut near = 0;
     for cell in named {
         let place = find_near(cells, *cell, near);
         near = place.unwrap_or(near);
-        let Some(answer) = answer_of(cells, books, at, *cell, place, command, gate)? else {
-            return Ok(None);
-        };
+        let answer = answer_of(cells, books, at, *cell, place, command, gate)?;
         answers.push((*cell, answer))?;
     }
-    Ok(Some(answers))
+    Ok(answers)
 }
 
-/// What the reply to a request says, once the cells have answered it. None if its message is no order, or a log is
-/// full.
+/// What the reply to a request says, once the cells have answered it.
 fn turn_of<G: Gate>(
     alloc: Global,
     cells: &[Cell],
     books: &mut [CellBook],
     request: &Request,
     gate: &G,
-) -> Result<Option<Outcome>, Refused>
+) -> Result<Outcome, Refused>
     requires cells { record_cells books.old ≡ cells.now }
     requires valid { cells_are_valid cells.now ≡ true }
     requires writable { is_writable request.now.message ≡ true }
-    ensures { IfOk result (λ found. IfSome found (λ said.
-        IsTurnServed cells.now request.now said books.old books.new)) }
+    requires order { IsOrderWithRoom request.now.message books.old }
+    ensures { IfOk result (λ said. IsTurnServed cells.now request.now said books.old books.new) }
 {
     let Some((named, command)) = order_meant(alloc, &request.message)? else {
-        return Ok(None);
+        unreachable!()
     };
     let answers = answers_of(alloc, cells, books, request.at, &named, &command, gate)?;
-    let Some(answers) = answers else {
-        return Ok(None);
-    };
     let said = said_by(alloc, &answers)?;
-    Ok(Some(said))
+    Ok(said)
 }
 
-/// Serves the one session of a book to its end. False if a message is no order, or a log is full.
+/// Serves the one session of a book to its end.
 fn serve<G: Gate>(
     alloc: Global,
     book: &Book,
     books: &mut [CellBook],
     gate: &G,
-) -> Result<bool, Refused>
+) -> Result<(), Refused>
     requires fit { IsFit book.now }
     requires cells { record_cells books.old ≡ book.now.cells }
-    ensures { IfOk result (λ is_served. is_served ≡ true
-        → HaveServedSession book.now books.old books.new) }
+    requires new { AreNew books.old }
+    ensures { OnOk result (HaveServedSession book.now books.old books.new) }
 {
-    // Each request leaves fewer that can follow it: a session ends. Its messages can be written, so their commands are
-    // well-formed.
+    // Each request leaves fewer that can follow it: a session ends. Its messages are orders that can be written, so
+    // their commands are well-formed, and it asks no cell more often than the book has orders, for which a log has
+    // room.
     alert_book::session_laws();
     cbsp_wire::meaning_law();
     let mut session = Session::new(alloc, book, 0, 1)?;
     session.go_on(None)?;
     'requests: while let Some(request) = session.sent() {
-        let Some(said) = turn_of(alloc, book.cells(), books, request, gate)? else {
-            return Ok(false);
-        };
+        let said = turn_of(alloc, book.cells(), books, request, gate)?;
         session.go_on(Some(said))?;
     }
-    Ok(true)
+    Ok(())
 }
 
 /// The record of a cell whose run is played to its end.
@@ -187,26 +182,21 @@ fn records_of(alloc: Global, books: Vec<CellBook>) -> Result<Vec<CellRecord>, Re
 /// book. The session's orders are carried out in the calling thread, cell by cell, and no message is written or read.
 /// `gate` is called at each cell that an order comes to.
 ///
-/// None if the session can't be served to its end, since a message of it is no order, or the log of a cell is full. No
-/// book that was read has such a session: its orders are 4,096 at most.
-///
 /// # Errors
 ///
-/// Out of memory.
+/// Out of memory. Nothing else ends a run: each message of the session of a book that was read is an order, and no log
+/// gets full, since the book has 4,096 orders at most.
 pub fn run_alone<G: Gate>(
     alloc: Global,
     book: &Book,
     slots: u16,
     gate: &G,
-) -> Result<Option<Vec<CellRecord>>, Refused>
+) -> Result<Vec<CellRecord>, Refused>
     requires { IsFit book.now }
-    ensures { IfOk result (λ found. IfSome found (λ records. (exchanges : List Exchange)
-        × IsRun book.now slots exchanges records.items)) }
+    ensures { IfOk result (λ records. (exchanges : List Exchange) × IsRun book.now slots exchanges records.items) }
 {
     let mut books = new_books(alloc, book.cells(), slots)?;
-    if !serve(alloc, book, books.as_mut_slice(), gate)? {
-        return Ok(None);
-    }
+    serve(alloc, book, books.as_mut_slice(), gate)?;
     let records = records_of(alloc, books)?;
-    Ok(Some(records))
+    Ok(records)
 }

@@ -4,7 +4,7 @@ use Rattle.std.proofs.lemmas.List.{get_or_default}
 use Rattle.std.proofs.lemmas.Option.{slice_get_within}
 use Rattle.cbsp_wire.specs.Range.{are_distinct}
 use Rattle.session_check.proofs.Noted.{none_of, some_of}
-use Rattle.session_check.proofs.Served.{answered_place, answered_unknown, place_within}
+use Rattle.session_check.proofs.Served.{answered_place, answered_unknown, place_within, room_at}
 use Rattle.session_check.proofs.alone.answer_of.Goals as goal
 
 pub returns-in_default : goal.returns-in_default
@@ -35,6 +35,21 @@ bounds-books-place g c =
       slice_get_within c.args.cells.now c.in-Some.place c.args.cell there,
       place_within c.args.cells.now c.args.books.now c.requires.cells,
     )
+
+pub ask-requires-clause-room : goal.ask-requires-clause-room
+ask-requires-clause-room g c =
+    let books = c.args.books.now in
+    let place = c.in-Some.place in
+    let there = some_of (λ at. slice_get c.args.cells.now at ≡ Some c.args.cell) c.args.place place c.in-Some.is
+    c.requires.there in
+    let inside : place < length books = omega (
+      arith,
+      slice_get_within c.args.cells.now place c.args.cell there,
+      place_within c.args.cells.now books c.requires.cells,
+    ) in
+    room_at c.args.cells.now c.args.cell place books (get_or books place c.index-books-place.result) c.requires.cells
+    there (get_or_default books place c.index-books-place.result
+    (get_or books place c.index-books-place.result) inside) c.requires.room
 
 pub returns : goal.returns
 returns g c =

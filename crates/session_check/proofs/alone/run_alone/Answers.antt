@@ -17,13 +17,21 @@ serve-requires-clause-cells g c κs within =
     ap record_cells c.as_mut_slice.ensures.value ∙ ap record_cells c.in_ok-books.ensures
     ∙ new_cells c.args.slots c.cells.result.now ∙ c.cells.ensures
 
+pub serve-requires-clause-new : goal.serve-requires-clause-new
+serve-requires-clause-new g c κs within =
+    let slots = c.args.slots in (
+      slots,
+      subst (HaveServed slots (λ cell. [])) (sym (c.as_mut_slice.ensures.value ∙ c.in_ok-books.ensures))
+          (new_served slots c.cells.result.now),
+    )
+
 pub returns : goal.returns
 returns g c =
     let slots = c.args.slots in
     let cells = c.args.book.now.cells in
     let books = c.serve.new.books in
     let items = c.in_ok-books.books.items in
-    let served = c.in_ok-serve.ensures c.if-not-branch.false in
+    let served = c.in_ok-serve.ensures in
     let first = c.as_mut_slice.result.now in
     let first_is : first ≡ map (λ (cell : Cell). opened cell slots) c.cells.result.now =
     c.as_mut_slice.ensures.value ∙ c.in_ok-books.ensures in
