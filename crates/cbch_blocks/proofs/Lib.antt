@@ -1,3 +1,4 @@
 pub mod Fronts
 pub mod Pages
+pub mod Pieces
 pub mod Slots

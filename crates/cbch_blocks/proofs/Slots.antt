@@ -1,8 +1,8 @@
 -- What the slots of a legal history can air.
 use Rattle.std.proofs.Common.{◌≡◌, ℕ, ◌+◌, ◌<◌, ◌++◌, Option, Some, None, List, drop, length, get_or, sym, ap}
-use Rattle.std.proofs.Common.{subst, ◌∙◌, arith}
+use Rattle.std.proofs.Common.{All, subst, ◌∙◌, arith}
 use Rattle.std.proofs.lemmas.Grind.{flat_map-append}
-use Rattle.std.proofs.lemmas.List.{at_drop_more, get_or-map, length-map}
+use Rattle.std.proofs.lemmas.List.{at_drop_more, get_or-map, get_or_default, length-map}
 use Rattle.std.proofs.lemmas.Option.{slice_get-get_or}
 use Rattle.bsc_table.specs.declared.command.Command.{Command}
 use Rattle.bsc_table.specs.declared.command.Command.TheVariants as commands
@@ -47,6 +47,13 @@ can_air writes r log air i legal same_log same_air within =
     ∙ get_or-map aired_pair air i None None within in
     subst (λ entries. CanAir entries (aired_pair (get_or air i None))) (sym same_log)
     (can_air_as writes r i (aired_pair (get_or air i None)) legal (omega (arith, played, long, within)) at)
+
+-- and so do all of them, whatever is said of those past the end
+pub all_can_air : UsesAreOfWrites → (r : Record) (log : List Entry) (air : List (Option Aired)) → IsLegal r
+    → log ≡ r.log → air_pairs air ≡ r.air → All (λ used. CanAir log (aired_pair used)) air
+all_can_air writes r log air legal same_log same_air k d within =
+    subst (λ (used : Option Aired). CanAir log (aired_pair used)) (get_or_default air k None d within)
+    (can_air writes r log air k legal same_log same_air within)
 
 -- the octets of slots
 abbrev pub octets_of_uses : List Entry → List (Option Aired) → List ℕ

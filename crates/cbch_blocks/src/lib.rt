@@ -4,8 +4,10 @@
 
 mod blocks;
 mod front;
+mod piece;
 mod slot;
 pub mod tape;
 
 pub use blocks::{BLOCK_OCTETS, cut, idle};
+pub use piece::{PIECE_SLOTS, TapePiece, piece_laws, piece_start};
 pub use tape::{Refused, Tape, WriteFailed, tape_of};

@@ -1,11 +1,12 @@
 //! The blocks of a slot that airs a page.
 
 ghost use Rattle.std.specs.Prelude.{◌≡◌, ◌≤◌, ◌+◌, ◌-◌, ◌++◌, ℕ, List, length, vec_capacity, vec_len, MatchOption};
-ghost use Rattle.std.specs.Prelude.{OnErr, OnOk};
+ghost use Rattle.std.specs.Prelude.{All, IsOk, OnErr, OnOk};
 ghost use Rattle.std.specs.List.{slice_get};
-ghost use Rattle.bsc_table.specs.Book.{aired_pair};
+ghost use Rattle.bsc_table.specs.Book.{air_pairs, aired_pair};
 ghost use Rattle.cbch_blocks.specs.Blocks.{idle_blocks};
-ghost use Rattle.cbch_blocks.specs.RecordBlocks.{blocks_of_slot, octets_of_blocks, page_aired, pages_of_command};
+ghost use Rattle.cbch_blocks.specs.RecordBlocks.{blocks_of_slot, blocks_of_uses, octets_of_blocks, page_aired};
+ghost use Rattle.cbch_blocks.specs.RecordBlocks.{pages_of_command};
 ghost use Rattle.cbch_blocks.specs.TapeSteps.{CanAir, CanSendPage, HasRoom, octets_of_slot};
 
 use crate::blocks::{BLOCK_OCTETS, cut, idle};
@@ -65,7 +66,7 @@ pub(crate) fn strip_slot<'a>(
 }
 
 /// Appends the blocks of a slot that airs a page. Takes no memory where there is room for them.
-pub(crate) fn put_page(octets: &mut Vec<u8>, log: &[Entry], aired: Aired) -> Result<(), Refused>
+fn put_page(octets: &mut Vec<u8>, log: &[Entry], aired: Aired) -> Result<(), Refused>
     requires { CanAir log.now (aired_pair (Some aired)) }
     ensures put { OnOk result (octets.new.items
         ≡ octets.old.items ++ octets_of_slot log.now (aired_pair (Some aired))) }
@@ -76,5 +77,29 @@ pub(crate) fn put_page(octets: &mut Vec<u8>, log: &[Entry], aired: Aired) -> Res
 {
     let blocks = aired_blocks(log, aired);
     octets.extend_from_slice(blocks.as_flattened())?;
+    Ok(())
+}
+
+/// Appends the blocks of slots, in their order. Takes no memory where there is room for them.
+pub(crate) fn put_slots(
+    octets: &mut Vec<u8>,
+    log: &[Entry],
+    air: &[Option<Aired>],
+) -> Result<(), Refused>
+    requires { All (λ used. CanAir log.now (aired_pair used)) air.now }
+    ensures put { OnOk result (octets.new.items
+        ≡ octets.old.items ++ octets_of_blocks (blocks_of_uses log.now (air_pairs air.now))) }
+    ensures room { HasRoom octets.old (octets_of_blocks (blocks_of_uses log.now (air_pairs air.now))) → IsOk result }
+    ensures capacity { vec_capacity octets.old ≤ vec_capacity octets.new }
+{
+    // The octets of an idle slot are made once, as most slots are idle.
+    let blocks = idle();
+    let idle = blocks.as_flattened();
+    for used in air {
+        match used {
+            None => octets.extend_from_slice(idle)?,
+            Some(aired) => put_page(octets, log, *aired)?,
+        }
+    }
     Ok(())
 }

@@ -12,7 +12,7 @@ ghost use Rattle.cbch_blocks.specs.TapeSteps.{HasRoom};
 
 use crate::blocks::{cut, idle};
 use crate::front::strip_front;
-use crate::slot::{put_page, strip_slot};
+use crate::slot::{put_slots, strip_slot};
 use bsc_table::CellRecord;
 use cbs_page::PAGE_OCTETS;
 use cbsp_wire::Cell;
@@ -26,10 +26,10 @@ use thiserror::Error;
 pub use std::alloc::AllocError as Refused;
 
 /// How many octets the header of a tape has.
-const HEADER: usize = 8;
+pub(crate) const HEADER: usize = 8;
 
 /// How many octets the blocks of a slot have.
-const SLOT: usize = 92;
+pub(crate) const SLOT: usize = 92;
 
 /// A tape could not be written whole.
 #[derive(Clone, Copy, Debug, PartialEq, Eq, Error)]
@@ -88,16 +88,6 @@ impl Tape {
         self.octets[first..first + SLOT].copy_from_slice(blocks.as_flattened());
     }
 
-    /// Becomes the tape of a record, which has no more octets than it has. Takes no memory: so tapes that are written
-    /// one after the other need that of one.
-    pub fn become_that_of(&mut self, run: &CellRecord)
-        requires { length (tape_of_record run.now) ≤ length self.old }
-        ensures { self.new ≡ tape_of_record run.now }
-    {
-        self.octets.clear();
-        let _ = put_tape(&mut self.octets, run);
-    }
-
     /// Whether the tape is that of a record. Takes no memory.
     pub fn is_of(&self, run: &CellRecord) -> bool
         ensures { IsTrue result ↔ (self.now ≡ tape_of_record run.now) }
@@ -144,19 +134,36 @@ impl Tape {
         ensures failed { sink_failed sink.new ≡ is_err result }
         ensures failed_stays { sink_failed sink.old ≡ true → sink.new ≡ sink.old }
     {
-        let written = write_front(sink, self.bytes());
-        if sink.failed() {
-            Err(WriteFailed {
-                written: written as u64,
-            })
-        } else {
-            Ok(())
-        }
+        write_octets(self.bytes(), sink)
+    }
+}
+
+/// Writes octets of a tape, and takes no memory.
+///
+/// # Errors
+///
+/// Those of [`Tape::write_to`].
+pub(crate) fn write_octets<W: Write>(octets: &[u8], sink: &mut Sink<W>) -> Result<(), WriteFailed>
+    ensures ok { OnOk result (Appends (W.contents (writer_of sink.old))
+        (W.contents (writer_of sink.new)) octets.now) }
+    ensures err { IfErr result (λ fault. Writes W.contents (λ old new.
+        Appends old new (take fault.written octets.now)) sink.old sink.new) }
+    ensures front { IfErr result (λ fault. 0 < length octets.now → fault.written < length octets.now) }
+    ensures failed { sink_failed sink.new ≡ is_err result }
+    ensures failed_stays { sink_failed sink.old ≡ true → sink.new ≡ sink.old }
+{
+    let written = write_front(sink, octets);
+    if sink.failed() {
+        Err(WriteFailed {
+            written: written as u64,
+        })
+    } else {
+        Ok(())
     }
 }
 
 /// The header of a tape.
-fn header_of(cell: Cell, slots: u16) -> [u8; HEADER]
+pub(crate) fn header_of(cell: Cell, slots: u16) -> [u8; HEADER]
     ensures { result ≡ tape_header cell slots }
 {
     let [lac_high, lac_low] = cell.lac.to_be_bytes();
@@ -175,16 +182,7 @@ fn put_tape(octets: &mut Vec<u8>, run: &CellRecord) -> Result<(), Refused>
     // Each used slot airs a page of an accepted write of the log.
     bsc_table::legal_histories();
     octets.extend_from_slice(&header_of(run.cell(), run.slots()))?;
-    // The octets of an idle slot are made once, as most slots are idle.
-    let blocks = idle();
-    let idle = blocks.as_flattened();
-    for used in run.air() {
-        match used {
-            None => octets.extend_from_slice(idle)?,
-            Some(aired) => put_page(octets, run.log(), *aired)?,
-        }
-    }
-    Ok(())
+    put_slots(octets, run.log(), run.air())
 }
 
 /// The tape of the record of a run. Takes the memory for all its octets at once, and no other.

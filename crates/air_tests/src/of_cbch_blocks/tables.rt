@@ -1,5 +1,8 @@
 //! What is worked by hand, as tables. A row says what is done, an arrow, and what comes of it: octets are told by their
-//! number and then one after the other. `cut PAGE` and `idle` say blocks; `run ..`, `after ..` and `open ..` a tape.
+//! number and then one after the other. `cut PAGE` and `idle` say blocks; `run ..` and `open ..` a tape; `piece FIRST
+//! RUN` the piece of the tape of a run's record that begins with this slot, and what it writes. `start FIRST` says how
+//! many octets of the tape are before it.
+//!
 //! `is TAPE; RUN` says whether a tape is that of a run's record, and `changed RUN` at how many places of the worked
 //! page, aired in slot 0 alone, another octet gives a tape that isn't.
 //!
@@ -8,9 +11,9 @@
 //! opens one of its cell, where all memory is taken but N octets: how many octets both have, 0 if they are refused.
 
 use crate::of_cbch_blocks::octets::{are_octets, page_with};
-use crate::of_cbch_blocks::tapes::{are_differing, is_judged, is_tape};
+use crate::of_cbch_blocks::tapes::{are_differing, is_judged, is_piece, is_tape};
 use crate::of_cbch_blocks::writers::{are_fronts, are_made_in};
-use cbch_blocks::{Refused, WriteFailed, cut, idle};
+use cbch_blocks::{Refused, WriteFailed, cut, idle, piece_start};
 use std::alloc::{AllocError, Global};
 use std::process::Abort;
 use std::test::Fail;
@@ -34,12 +37,6 @@ run 1-1 4 write_a write_b -> 376 0001 0001 00000004 \
     20 000211120112 B1*16 21 B1*22 22 B1*22 33 B1*22 \
     20 000111120111 A1*16 21 A1*22 22 A1*22 33 A1*22 \
     20 000211120122 B2*16 21 B2*22 22 B2*22 33 B2*22
-
-# The same in the memory of another tape, of which nothing is left.
-after 2 1-1 2 write -> 192 0001 0001 00000002 blocks idle
-after 5 1-1 2 write -> 192 0001 0001 00000002 blocks idle
-after 3 1-2 3 -> 284 0001 0002 00000003 idle*3
-after 1 1-1 0 -> 8 0001 0001 00000000
 
 # A run of no slots is a header.
 run 1-1 0 -> 8 0001 0001 00000000
@@ -66,6 +63,24 @@ open 1-1 258 256:0 -> 23744 0001 0001 00000102 idle*256 other idle
 open 1-1 258 256:0 256:88 -> 23744 0001 0001 00000102 idle*256 blocks idle
 open 1-1 258 257:0 -> 23744 0001 0001 00000102 idle*257 other
 open 1-1 258 257:0 257:88 -> 23744 0001 0001 00000102 idle*257 blocks
+";
+
+/// Pieces of tapes: the first has the header, and none has over 8,192 slots.
+const PIECES: &str = "
+piece 0 1-1 2 write -> 192 0001 0001 00000002 blocks idle
+piece 0 1-2 3 -> 284 0001 0002 00000003 idle*3
+piece 0 1-1 0 -> 8 0001 0001 00000000
+piece 1 1-1 2 write -> 92 idle
+piece 2 1-1 4 write_a write_b -> 184 \
+    20 000111120111 A1*16 21 A1*22 22 A1*22 33 A1*22 \
+    20 000211120122 B2*16 21 B2*22 22 B2*22 33 B2*22
+piece 4 1-1 4 write -> 0
+piece 0 1-1 8193 -> 753672 0001 0001 00002001 idle*8192
+piece 8192 1-1 8193 write -> 92 blocks
+piece 8193 1-1 8193 write -> 0
+start 0 -> 0
+start 1 -> 100
+start 8192 -> 753672
 ";
 
 const RECORDS: &str = "
@@ -129,6 +144,8 @@ fn is_right(alloc: Global, row: Row) -> Result<bool, Fail> {
         "changed" => are_differing(alloc, first, row.wanted),
         "fails" => are_fronts(alloc, first, rest, row.wanted),
         "room" => are_made_in(alloc, first, rest, row.wanted),
+        "piece" => is_piece(alloc, first, row.wanted),
+        "start" => Ok(piece_start(first.parse::<u16>()?) == row.wanted.parse::<u64>()?),
         _ => is_tape(alloc, row.action, row.wanted),
     }
 }
@@ -148,7 +165,12 @@ fn expect_rows(rt: &impl Abort, alloc: Global, table: &str, count: u16) -> Resul
 
 #[test]
 fn blocks_and_tapes_are_those_worked_by_hand(rt: HostRuntime) -> Result<(), Fail> {
-    expect_rows(&rt, rt.alloc(), TAPES, 12)
+    expect_rows(&rt, rt.alloc(), TAPES, 8)
+}
+
+#[test]
+fn pieces_are_those_worked_by_hand(rt: HostRuntime) -> Result<(), Fail> {
+    expect_rows(&rt, rt.alloc(), PIECES, 12)
 }
 
 #[test]

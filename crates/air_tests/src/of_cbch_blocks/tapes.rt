@@ -1,13 +1,13 @@
-//! Tapes, as the tables write them: `run` and a run is the tape of its record, `after 4` and a run the tape of a cell
-//! that airs nothing in four slots and then becomes that of the run's record, and `open 1-1 3 1:88 2:0` the tape of a
+//! Tapes, as the tables write them: `run` and a run is the tape of its record, and `open 1-1 3 1:88 2:0` the tape of a
 //! cell that airs nothing in three slots, and then in slots 1 and 2 the worked page with one octet changed, at place 88
-//! none.
+//! none. `piece 2` and a run is the piece of the tape of its record that begins with slot 2.
 
 use crate::of_cbch_blocks::octets::{are_octets, page_with};
 use crate::of_cbch_blocks::runs::{cell_in, record_of};
 use bsc_table::CellRecord;
-use cbch_blocks::{Tape, tape_of};
-use cbsp_wire::Cell;
+use cbch_blocks::{Tape, TapePiece, tape_of};
+use device_ends::Sink;
+use device_ends::memory::MemoryWriter;
 use std::alloc::Global;
 use std::test::Fail;
 use test_support::Words;
@@ -43,24 +43,36 @@ fn opened(alloc: Global, words: &mut Words) -> Result<Tape, Fail> {
     Ok(tape)
 }
 
-/// The tape of another cell, which has become that of a record.
-fn tape_after(alloc: Global, slots: u16, run: &CellRecord) -> Result<Tape, Fail> {
-    let made = tape_of(alloc, run)?;
-    let mut tape = Tape::open(alloc, Cell { lac: 9, ci: 9 }, slots)?;
-    if tape.bytes().len() < made.bytes().len() {
-        return Err(Fail::new("no room"));
-    }
-    tape.become_that_of(run);
-    Ok(tape)
+/// A piece of the tape of a record, in the room of a piece of another one.
+fn piece_of(alloc: Global, run: &CellRecord, first: u16) -> Result<TapePiece, Fail> {
+    let mut piece = TapePiece::open(alloc)?;
+    let other = record_of(alloc, &mut Words::of("9-9 5"))?;
+    piece.become_that_of(&other, 0);
+    drop(other);
+    piece.become_that_of(run, first);
+    Ok(piece)
 }
 
-/// The tape of another cell, which has become that of a run's record.
-fn tape_after_another(alloc: Global, words: &mut Words) -> Result<Tape, Fail> {
-    let slots = words.number16()?;
-    let run = record_of(alloc, words)?;
-    let tape = tape_after(alloc, slots, &run);
+/// Whether a piece has the octets that are wanted, and writes them.
+fn has_octets(alloc: Global, piece: &TapePiece, wanted: &str) -> Result<bool, Fail> {
+    let mut writer = MemoryWriter::new(alloc, 100, None);
+    let mut sink = Sink::new(&mut writer);
+    let is_written = piece.write_to(&mut sink).is_ok();
+    Ok(
+        is_written
+            && writer.contents() == piece.bytes()
+            && are_octets(alloc, piece.bytes(), wanted)?,
+    )
+}
+
+/// `piece FIRST RUN`
+pub fn is_piece(alloc: Global, piece: &str, wanted: &str) -> Result<bool, Fail> {
+    let mut words = Words::of(piece);
+    let first = words.number16()?;
+    let run = record_of(alloc, &mut words)?;
+    let piece = piece_of(alloc, &run, first);
     drop(run);
-    tape
+    has_octets(alloc, &piece?, wanted)
 }
 
 /// The tape that words say.
@@ -68,7 +80,6 @@ pub fn tape_in(alloc: Global, words: &mut Words) -> Result<Tape, Fail> {
     match words.word() {
         "open" => opened(alloc, words),
         "run" => tape_of_run(alloc, words),
-        "after" => tape_after_another(alloc, words),
         _ => Err(Fail::new("no such tape")),
     }
 }
