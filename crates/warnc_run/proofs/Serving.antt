@@ -12,7 +12,7 @@ use Rattle.alert_book.specs.Session.{after_reply, session_of, GivesRequest, IsGi
 use Rattle.alert_book.specs.Stands.{left_in, Advances, SessionState, StandsFor}
 use Rattle.alert_book.specs.TurnLaws.{SessionsEnd}
 use Rattle.alert_book.specs.Turns.{begun, GoesTo, Turn}
-use Rattle.warnc_run.proofs.Asked.{gone_on}
+use Rattle.book_runs.proofs.Requests.{gone_on}
 
 -- how much is left: nothing where there is no request
 abbrev pub left_to_serve : {X : Type 0} → Option X → ℕ → ℕ

@@ -29,7 +29,8 @@ use Rattle.warnc_run.specs.Strict.{IsStrictFault, IsStrictOutput, HasLacks}
 use Rattle.warnc_run.specs.StrictSteps.{AreDone, GiveTapes, HasUndone, IsNotDone, StopsAtProduct}
 use Rattle.warnc_run.proofs.Readings.{run_has_tapes}
 use Rattle.warnc_run.proofs.Written.{fault_of_reading, fault_of_run, front_taken, joined, joined_tapes, of_any_product}
-use Rattle.warnc_run.proofs.Written.{of_no_product, records_are_few, records_have_size, run_of_book}
+use Rattle.warnc_run.proofs.Written.{of_no_product, records_are_few, records_have_own_size, records_have_size}
+use Rattle.warnc_run.proofs.Written.{run_of_book}
 
 -- the records of a run give tapes
 pub give_tapes : LiveRunsShowTheBook → (from : Origin) (input : List ℕ) (book : Contents) (slots parts : ℕ)
@@ -44,6 +45,7 @@ give_tapes law from input book slots parts records shown few is_book valid live 
   few = records_are_few book.cells records shown valid live.run.cells is;
   tapes = run_has_tapes law from input book slots parts records shown few is_book live is;
   sized = records_have_size law from input book slots parts records shown few is_book live is;
+  own = records_have_own_size law from input book slots parts records shown few is_book live is;
 }
 
 -- what is made of a run in which every order was done

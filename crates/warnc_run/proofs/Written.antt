@@ -36,6 +36,7 @@ use Rattle.parallel_compile.specs.declared.fault.CompileFault.TheVariants as com
 use Rattle.warnc_run.specs.Faults.{HasReadFrom, IsOfBook, IsOfProduct, IsRunFault, IsSettleFault, IsWriteFault}
 use Rattle.warnc_run.specs.Made.{tape_size}
 use Rattle.warnc_run.specs.Products.{IsLiveFrom, RunOf}
+use Rattle.warnc_run.specs.Rounds.{HasItsSize}
 use Rattle.warnc_run.specs.RunSteps.{AreTapesOf, HasNoBookToRun, HaveRunLive, IsOfTapes, StopsAtTape, TakesFront}
 use Rattle.warnc_run.specs.declared.product.Product.{Product}
 use Rattle.warnc_run.specs.declared.product.Product.TheVariants as product
@@ -220,6 +221,18 @@ records_have_size law from input book slots parts records shown few is_book live
     sizes = tapes_have_size book slots records (law from input book slots live.sessions records is_book few live.run)
         (All-weaker (IsRunBy slots live.sessions) (λ (r : Record). r.slots ≡ slots) (λ r run. run.run) records
         live.run.each)
+
+-- each has that of its own slots
+pub records_have_own_size : LiveRunsShowTheBook → (from : Origin) (input : List ℕ) (book : Contents)
+    (slots parts : ℕ) (records shown : List Record)
+    → slots ≤ 65535
+    → IsBookFrom from input book
+    → HaveRunLive book slots parts records
+    → shown ≡ records
+    → All HasItsSize shown
+records_have_own_size law from input book slots parts records shown few is_book live is =
+    let meant = law from input book slots live.sessions records is_book few live.run in
+    subst (All HasItsSize) (sym is) (λ k d within. tape_has_size _ _ (meant k d within).tape)
 
 -- a fact of an error holds where that is the error
 pub where_it_is : {T E : Type 0} (P : E → Type 0) (r : Result T E) (e : E) → r ≡ Err e → P e → IfErr r P

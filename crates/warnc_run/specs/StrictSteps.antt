@@ -23,6 +23,7 @@ use Rattle.warnc_run.specs.Engine.{IsText}
 use Rattle.warnc_run.specs.Faults.{IsOfBook, IsOfRun}
 use Rattle.warnc_run.specs.Made.{tape_size}
 use Rattle.warnc_run.specs.Products.{octets_of, reading_of_record}
+use Rattle.warnc_run.specs.Rounds.{HasItsSize}
 use Rattle.warnc_run.specs.RunSteps.{HaveRunLive, TakesFront}
 
 -- the records of a run of a book in which every order was done
@@ -50,6 +51,7 @@ pub record GiveTapes (slots : ℕ) (records : List Record) : Type 0 where
   pub few : length records ≤ max_listed
   pub tapes : All (λ r. IsTape (tape_of_record r) (reading_of_record r)) records
   pub sized : All (λ r. length (tape_of_record r) ≡ tape_size slots) records
+  pub own : All HasItsSize records
 
 -- why the tapes of records aren't all written
 abbrev pub StopsAtRecord : List Record → (old new : Option (List ℕ)) → RunFault → Type 0

@@ -40,7 +40,7 @@ impl<G: Gate> Gate for PartGate<'_, G> {
 }
 
 /// The records of some of a book's cells, to which a session of its own orders what the book orders of them; none if
-/// there is no memory, or the run ended early.
+/// there is no memory.
 fn records_of_part<G: Gate>(
     alloc: Global,
     book: &Book,
@@ -114,7 +114,7 @@ fn joined(alloc: Global, parts: Vec<Option<Vec<CellRecord>>>) -> Option<Vec<Cell
     Some(all)
 }
 
-/// The records of a book's cells, which workers run side by side; none if there is no memory, or a run ended early.
+/// The records of a book's cells, which workers run side by side; none if there is no memory.
 fn records_apart<T: AllocGlobal + Threads + Wait + Sync, G: Gate>(
     rt: &T,
     book: &Book,
@@ -132,7 +132,7 @@ fn records_apart<T: AllocGlobal + Threads + Wait + Sync, G: Gate>(
 }
 
 /// The records of a book's cells after the sessions of its parts. Several workers run those of one session apart from
-/// one another. Where that ends early the book is run again as a whole, and what comes of it says why.
+/// one another. Where there is no memory for that the book is run again as a whole.
 pub(crate) fn records_of_run<T: AllocGlobal + Threads + Wait + Sync, G: Gate>(
     rt: &T,
     book: &Book,

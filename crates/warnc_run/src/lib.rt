@@ -26,6 +26,7 @@ mod network;
 mod octets;
 mod output;
 mod parts;
+mod pieces;
 pub mod product;
 mod read;
 mod records;

@@ -11,10 +11,10 @@ ghost use Rattle.chart.specs.ChartText.{chart_text};
 ghost use Rattle.handset.specs.Tape.{readings_of, IsTape};
 ghost use Rattle.warnc_run.specs.Alone.{IsUnmadeOf};
 ghost use Rattle.warnc_run.specs.Engine.{IsProductOf};
-ghost use Rattle.warnc_run.specs.Faults.{IsOfRun};
 ghost use Rattle.warnc_run.specs.Products.{octets_of, reading_of_record};
 ghost use Rattle.warnc_run.specs.Records.{IsRunWith};
 ghost use Rattle.warnc_run.specs.RunSteps.{HaveRunLive};
+ghost use Rattle.warnc_run.specs.declared.fault.RunFault.TheVariants as faults;
 ghost use Rattle.warnc_run.specs.declared.run.Books.TheVariants as books;
 
 use crate::alone::records_alone;
@@ -75,7 +75,7 @@ fn chart_read(
     requires readings { readings_of readings.now ≡ map reading_of_record records.now }
     ensures ok { IfOk result (λ octets. octets.items
         ≡ chart_text slots view orders.now records.now (map reading_of_record records.now)) }
-    ensures err { IfErr result IsOfRun }
+    ensures err { IfErr result (λ fault. fault ≡ faults.Refused) }
 {
     match chart_octets(alloc, slots, view, orders, records, readings) {
         Ok(octets) => Ok(octets),
@@ -94,7 +94,7 @@ fn made_of_records(
     requires few { length records.now ≤ max_listed }
     requires tapes { All (λ r. IsTape (tape_of_record r) (reading_of_record r)) records.now }
     ensures ok { IfOk result (λ octets. octets.items ≡ octets_of made origin.Book slots given.now records.now) }
-    ensures err { IfErr result IsOfRun }
+    ensures err { IfErr result (λ fault. fault ≡ faults.Refused) }
 {
     match made {
         Product::Tapes => Ok(tapes_in_a_row(alloc, records)?),
@@ -122,7 +122,7 @@ fn made_of_records(
 /// Reads the book that octets are, and runs it with one session, in the calling thread.
 fn ran_alone(alloc: Global, octets: &[u8], slots: u16) -> Result<RanBook, RunFault>
     ensures ok { IfOk result (λ ran. IsBook octets.now ran.book × HaveRunLive ran.book slots 1 ran.records.items) }
-    ensures err { IfErr result (IsUnmadeOf slots octets.now) }
+    ensures err { IfErr result (IsUnmadeOf octets.now) }
 {
     book_runs::served_parts_law();
     let book = match read_octets(alloc, octets) {
@@ -142,7 +142,7 @@ fn ran_alone(alloc: Global, octets: &[u8], slots: u16) -> Result<RanBook, RunFau
 /// Those of [`product_alone`].
 pub fn run_octets(alloc: Global, octets: &[u8], slots: u16) -> Result<RanBook, RunFault>
     ensures ok { IfOk result (λ ran. IsRunWith origin.Book slots octets.now ran.book ran.records.items) }
-    ensures err { IfErr result (IsUnmadeOf slots octets.now) }
+    ensures err { IfErr result (IsUnmadeOf octets.now) }
 {
     // A handset is shown what the book means, whatever the cells answered, and each cell keeps the guarantee.
     book_runs::session_laws();
@@ -156,8 +156,7 @@ pub fn run_octets(alloc: Global, octets: &[u8], slots: u16) -> Result<RanBook, R
 /// # Errors
 ///
 /// [`RunFault::Book`] with the first fault of the book, as [`alert_book::read_octets`] has it; [`RunFault::Refused`]
-/// if out of memory, or another fault of the run, `Desk`, `Settle` or `Compile`. None is known that comes but for want
-/// of memory.
+/// if out of memory for its run. No run ends for another reason.
 pub fn product_alone(
     alloc: Global,
     octets: &[u8],
@@ -165,7 +164,7 @@ pub fn product_alone(
     made: Product,
 ) -> Result<Vec<u8>, RunFault>
     ensures ok { IfOk result (λ output. IsProductOf made (books.One origin.Book) slots 1 octets.now output.items) }
-    ensures err { IfErr result (IsUnmadeOf slots octets.now) }
+    ensures err { IfErr result (IsUnmadeOf octets.now) }
 {
     // No book has over 64 cells, and each record gives a tape. A handset is shown what the book means, whatever the
     // cells answered, and each cell keeps the guarantee.

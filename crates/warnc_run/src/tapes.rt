@@ -36,7 +36,7 @@ pub(crate) fn records_after<T: AllocGlobal + Threads + Wait + Sync, G: Gate>(
     ensures err { IfErr result (IsOfBook book.now slots sessions.number) }
 {
     if sessions.number == 1 && workers.number == 1 {
-        return records_alone(rt.alloc(), book, slots, gate);
+        return Ok(records_alone(rt.alloc(), book, slots, gate)?);
     }
     let desk = Desk::open(rt.alloc(), book.cells(), slots)?;
     let mut passes = run_sessions(rt, book, &desk, sessions, gate)?;

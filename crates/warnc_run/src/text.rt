@@ -245,7 +245,7 @@ pub(crate) fn report_read(
 ) -> Result<Vec<u8>, RunFault>
     requires { readings_of readings.now ≡ map reading_of_record records.now }
     ensures ok { IfOk result (λ octets. octets.items ≡ text_with layout headed orders.now (own_rows records.now)) }
-    ensures err { IfErr result IsOfRun }
+    ensures err { IfErr result (λ fault. fault ≡ faults.Refused) }
 {
     let rows = match report::rows(alloc, records, readings) {
         Ok(rows) => rows,
@@ -279,7 +279,7 @@ pub(crate) fn tables_text(
 ) -> Result<Vec<u8>, RunFault>
     requires { readings_of readings.now ≡ map reading_of_record records.now }
     ensures ok { IfOk result (λ octets. octets.items ≡ tables_text slots view headed orders.now records.now) }
-    ensures err { IfErr result IsOfRun }
+    ensures err { IfErr result (λ fault. fault ≡ faults.Refused) }
 {
     let layout = Layout {
         columns: Columns::Full,

@@ -1,14 +1,14 @@
 use Rattle.std.proofs.Common.{◌≤◌}
 use native.Mathlib.Omega.{arith}
 use Rattle.warnc_run.proofs.Rounds.{has_written, stops_at_no_piece, stops_at_tape}
-use Rattle.warnc_run.proofs.Written.{records_have_size}
+use Rattle.warnc_run.proofs.Written.{records_have_own_size}
 use Rattle.warnc_run.proofs.output.write_by_records.Goals as goal
 
 pub write_tapes_of-requires-clause-sized : goal.write_tapes_of-requires-clause-sized
 write_tapes_of-requires-clause-sized g c κs within =
     let input = c.requires.book in
     let few : c.args.slots ≤ 65535 = omega (arith, c.ranges.slots.fits) in
-    records_have_size c.session_laws.ensures.shown input.0 input.1 c.args.book c.args.slots c.args.sessions.number
+    records_have_own_size c.session_laws.ensures.shown input.0 input.1 c.args.book c.args.slots c.args.sessions.number
     c.in_ok-records.records.items c.deref.result.now few input.2 c.in_ok-records.ensures.ok c.deref.ensures.value
 
 pub returns-clause-ok : goal.returns-clause-ok
