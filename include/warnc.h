@@ -33,7 +33,7 @@ enum warnc_status {
     WARNC_LONG = 11,       /* there are more than 64 tapes, or one says that it has more than 65,535 slots */
     WARNC_GSM = 12,        /* GSM 7-bit has each character */
     WARNC_BOOK = 13,       /* the octets are no book: a row or its text has a fault, or they are over 16 MiB */
-    WARNC_ENDED = 14,      /* the run ended early, though there was memory; none is known that does */
+    WARNC_ENDED = 14,      /* the run ended early, though there was memory; no call answers it */
     WARNC_SLOTS = 15,      /* the number of slots is 0 */
     WARNC_DIFFERENCES = 16 /* tapes differ from what a book asked; the table that says how is there */
 };
@@ -92,7 +92,7 @@ uint32_t warnc_read(const uint8_t *tapes, size_t length, bool short_pages, uint8
  * the tapes have, also with WARNC_ROOM, where the room stays as it was. With WARNC_BOOK *row is the row that has the
  * fault, from 1, or 0 if the book is too long.
  *
- * WARNC_OK, WARNC_ROOM, WARNC_SLOTS, WARNC_BOOK, WARNC_ENDED, WARNC_MEMORY. */
+ * WARNC_OK, WARNC_ROOM, WARNC_SLOTS, WARNC_BOOK, WARNC_MEMORY. */
 uint32_t warnc_compile(const uint8_t *book, size_t length, uint16_t slots, uint8_t *room, size_t room_length,
                        size_t *written, uint32_t *row);
 
@@ -112,7 +112,7 @@ uint32_t warnc_chart(const uint8_t *book, size_t length, uint16_t slots, uint8_t
  * how many octets the table has, also with WARNC_ROOM, where the room stays as it was; *row is that of warnc_compile.
  *
  * WARNC_OK if nothing differs, and WARNC_DIFFERENCES if something does; WARNC_ROOM, WARNC_SLOTS, WARNC_BOOK,
- * WARNC_ENDED, WARNC_SHORT and WARNC_LONG, of the tapes, WARNC_MEMORY. */
+ * WARNC_SHORT and WARNC_LONG, of the tapes, WARNC_MEMORY. */
 uint32_t warnc_verify(const uint8_t *book, size_t length, uint16_t slots, const uint8_t *tapes, size_t tapes_length,
                       bool short_pages, uint8_t *room, size_t room_length, size_t *written, uint32_t *row);
 

@@ -1,7 +1,7 @@
 -- What calls from C answer that run a book, in one thread and with one session. The numbers are those of
--- include/warnc.h, with 13 no book, 14 a run that ended early, 15 no slots. Own.
+-- include/warnc.h, with 13 no book, 15 no slots; and 14 a run that ended early, which no call answers. Own.
 use Rattle.std.specs.Prelude.{◌≡◌, ◌≢◌, ◌⊎◌, ℕ, ◌<◌, Bool, None, if◌then◌else◌, List}
-use Rattle.alert_book.specs.Book.{Contents, IsBook, RefusesOctets}
+use Rattle.alert_book.specs.Book.{RefusesOctets}
 use Rattle.alert_book.specs.declared.fault.BookFault.{BookFault}
 use Rattle.alert_book.specs.declared.fault.BookFaultKind.{BookFaultKind}
 use Rattle.alert_book.specs.declared.fault.BookFaultKind.TheVariants as kind
@@ -13,7 +13,6 @@ use Rattle.order_desk.specs.declared.settle.SettleFault.TheVariants as settle
 use Rattle.report.specs.declared.row.Columns.TheVariants as columns
 use Rattle.report.specs.declared.row.Layout.{Layout}
 use Rattle.warnc_run.specs.Engine.{IsProductOf}
-use Rattle.warnc_run.specs.Faults.{StopsRun}
 use Rattle.warnc_run.specs.declared.fault.RunFault.{RunFault}
 use Rattle.warnc_run.specs.declared.fault.RunFault.TheVariants as run
 use Rattle.warnc_run.specs.declared.product.Product.{Product}
@@ -38,7 +37,7 @@ number_of_book_fault kind.ReadFailed = 5
 number_of_book_fault kind.Refused = 5
 number_of_book_fault other = 13
 
--- the number of a fault of a run
+-- the number of a fault of a run. Those of octets that are run alone are of the book or of memory: none of them has 14
 abbrev pub number_of_run_fault : RunFault → ℕ
 number_of_run_fault (run.Book f) = number_of_book_fault f.kind
 number_of_run_fault (run.Desk (desk.Memory done)) = 5
@@ -69,13 +68,6 @@ pub record IsNoBookAt (book : List ℕ) (row : ℕ) : Type 0 where
   pub not_memory : fault.kind ≢ kind.Refused
   pub at : row ≡ fault.row
 
--- octets are a book whose run ended early, and not for want of memory
-pub record EndsEarly (slots : ℕ) (book : List ℕ) : Type 0 where
-  pub read : Contents
-  pub is : IsBook book read
-  pub fault : RunFault
-  pub stops : StopsRun read slots 1 fault
-
 -- what is made of the run of a book, or why nothing is
 abbrev pub AnswersRun : Product → (slots : ℕ) (book : List ℕ) → (number : ℕ) → (old new : List ℕ) → (written row : ℕ)
     → Type 0
@@ -83,5 +75,4 @@ AnswersRun made slots book number old new written row =
     ((slots ≡ 0) × (number ≡ 15))
     ⊎ ((0 < slots) × GivesMade made slots book number old new written)
     ⊎ ((0 < slots) × IsNoBookAt book row × (number ≡ 13))
-    ⊎ ((0 < slots) × EndsEarly slots book × (number ≡ 14))
     ⊎ (number ≡ 5)

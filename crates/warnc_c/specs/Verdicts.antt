@@ -9,7 +9,7 @@ use Rattle.verification.specs.declared.detail.TableLayout.{TableLayout}
 use Rattle.verification.specs.declared.row.Row.{Row}
 use Rattle.warnc_verify.specs.Verified.{HasRun, IsTableOf}
 use Rattle.warnc_c.specs.Calls.{Puts}
-use Rattle.warnc_c.specs.Runs.{EndsEarly, IsNoBookAt}
+use Rattle.warnc_c.specs.Runs.{IsNoBookAt}
 
 -- a table without what was expected and what came, and without times
 abbrev pub plain_layout : TableLayout
@@ -39,7 +39,6 @@ AnswersVerdict wanted slots book tapes number old new written row =
     ((slots ≡ 0) × (number ≡ 15))
     ⊎ ((0 < slots) × GivesVerdict wanted slots book tapes number old new written)
     ⊎ ((0 < slots) × IsNoBookAt book row × (number ≡ 13))
-    ⊎ ((0 < slots) × EndsEarly slots book × (number ≡ 14))
     ⊎ ((0 < slots) × HasRun origin.Book slots book × IsShort tapes × (number ≡ 10))
     ⊎ ((0 < slots) × HasRun origin.Book slots book × IsLong tapes × (number ≡ 11))
     ⊎ (number ≡ 5)

@@ -19,8 +19,7 @@ use warnc_run::{Product, RunFault, product_alone};
 ///
 /// The answer is [`status::OK`], with the tapes at the front of the room and `written` octets of them;
 /// [`status::ROOM`] if the room is smaller than the tapes, which have `written` octets; [`status::SLOTS`];
-/// [`status::BOOK`], with the row that has the fault, from 1, or 0 if the book is too long; [`status::ENDED`];
-/// [`status::MEMORY`].
+/// [`status::BOOK`], with the row that has the fault, from 1, or 0 if the book is too long; [`status::MEMORY`].
 #[unsafe(no_mangle)]
 pub extern "C" fn warnc_compile(
     alloc: Global,

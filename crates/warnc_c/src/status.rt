@@ -42,7 +42,7 @@ pub const GSM: u32 = 12;
 /// The octets are no book: a row or its text has a fault, or there are more than 16 MiB of them.
 pub const BOOK: u32 = 13;
 
-/// The run ended early, though there was memory. None is known that does.
+/// The run ended early, though there was memory. No call answers it.
 pub const ENDED: u32 = 14;
 
 /// There are no slots to run.

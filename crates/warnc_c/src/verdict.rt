@@ -18,7 +18,7 @@ use warnc_verify::{VerifyFault, verify_octets};
 /// The answer is [`status::OK`] if nothing differs, and [`status::DIFFERENCES`] if something does, each with the table
 /// at the front of the room and `written` octets of it; [`status::ROOM`] if the room is smaller than the table, which
 /// has `written` octets; [`status::SLOTS`]; [`status::BOOK`], with the row that has the fault, from 1, or 0 if the book
-/// is too long; [`status::ENDED`]; [`status::SHORT`] and [`status::LONG`], of the tapes; [`status::MEMORY`].
+/// is too long; [`status::SHORT`] and [`status::LONG`], of the tapes; [`status::MEMORY`].
 #[unsafe(no_mangle)]
 pub extern "C" fn warnc_verify(
     alloc: Global,

@@ -138,10 +138,10 @@ abbrev pub IsOfBookOrRun : VerifyFault → Type 0
 IsOfBookOrRun (faults.Run f) = ⊤
 IsOfBookOrRun other = ⊥
 
--- why octets aren't judged: they are no book, or its run ended early; or they are a book that has a run, and the others
--- are no tapes; or memory ran out
+-- why octets aren't judged: they are no book; or they are a book that has a run, and the others are no tapes; or memory
+-- ran out
 abbrev pub IsUnjudged : (slots : ℕ) (book tapes : List ℕ) → VerifyFault → Type 0
-IsUnjudged slots book tapes (faults.Run f) = IsUnmadeOf slots book f
+IsUnjudged slots book tapes (faults.Run f) = IsUnmadeOf book f
 IsUnjudged slots book tapes (faults.Tapes f) = HasRun origin.Book slots book × IsTapesFault tapes f
 IsUnjudged slots book tapes faults.Refused = ⊤
 IsUnjudged slots book tapes other = ⊥
