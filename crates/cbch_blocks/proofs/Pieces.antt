@@ -79,7 +79,7 @@ pub pieces_have_octets : PiecesHaveOctets
 pieces_have_octets r first within =
     let octets : List ℕ = octets_of_air r.log (take most_piece_slots (drop first r.air)) in
     let left : length (drop first r.air) ≡ length r.air - first = length-drop first r.air in
-    let there = air_has_octets r.log (drop first r.air) 8191 (omega (arith, within, left)) in
+    let there = air_has_octets r.log (drop first r.air) 255 (omega (arith, within, left)) in
     omega (arith, there, length-append (header_before first r) octets)
 
 -- a slot has 92 at most

@@ -6,7 +6,7 @@ use Rattle.cbch_blocks.specs.RecordBlocks.{blocks_of_uses, octets_of_blocks, tap
 
 -- the most slots of a piece
 abbrev pub most_piece_slots : ℕ
-most_piece_slots = 8192
+most_piece_slots = 256
 
 -- the most octets of a piece: a header of 8, and 92 for each slot
 abbrev pub piece_size : ℕ

@@ -19,9 +19,9 @@ use std::io::Write;
 use std::marker::Model;
 
 /// How many slots a piece has at most (own).
-pub const PIECE_SLOTS: u16 = 8192;
+pub const PIECE_SLOTS: u16 = 256;
 
-/// A piece of a tape, at most 8,192 slots of it; that of slot 0 begins with the tape's header. It has room for each
+/// A piece of a tape, at most 256 slots of it; that of slot 0 begins with the tape's header. It has room for each
 /// piece of any tape, so that pieces that are written one after the other need the memory of one. In clauses it is its
 /// octets.
 #[derive(Debug, Drop)]
@@ -61,7 +61,7 @@ impl TapePiece {
         let _ = put_piece(&mut self.octets, run, first);
     }
 
-    /// The octets, at most 8 + 92 * 8,192 of them.
+    /// The octets, at most 8 + 92 * 256 of them.
     pub fn bytes(&self) -> &[u8]
         ensures { result.now ≡ self.now }
     {
@@ -136,7 +136,7 @@ fn put_piece(octets: &mut Vec<u8>, run: &CellRecord, first: u16) -> Result<(), R
     put_slots(octets, run.log(), slots_from(run.air(), first))
 }
 
-/// The pieces of a tape from slot 0 on, each 8,192 slots behind the one before it, are the tape. It does nothing: its
+/// The pieces of a tape from slot 0 on, each 256 slots behind the one before it, are the tape. It does nothing: its
 /// contract is the law.
 pub fn piece_laws()
     ensures begin { TapesBegin }

@@ -115,7 +115,7 @@ next_is_piece follow starts tapes pieces p sized played within some under_way = 
   place = length tapes;
   there = omega (arith, length-append tapes (tape_of_record r ∷ []));
   front = under_way.front;
-  more = tape_from (p.first + 8192) r;
+  more = tape_from (p.first + 256) r;
   split = own ∙ under_way.split ∙ ap (λ (octets : List ℕ). under_way.front ++ octets) (follow r p.first);
   start = omega (arith, start, long, both);
   behind = under_way.so_far ∙ ap (λ (front : List (List ℕ)). joined front ++ under_way.front)
@@ -152,7 +152,7 @@ pub under_way_goes : PiecesFollow → PiecesStart → PiecesHaveOctets → (tape
     → HasItsSize p.run.now
     → length p.run.now.air ≡ p.run.now.slots
     → (p.first ≡ 0) ⊎ (p.first < p.run.now.slots)
-    → next ≡ p.first + 8192
+    → next ≡ p.first + 256
     → IsUnderWay tapes p.run.now p.first pieces
     → IsUnderWay tapes p.run.now next (pieces ++ p ∷ [])
 under_way_goes follow starts have tapes pieces p next sized played first is under_way = record {
@@ -164,7 +164,7 @@ under_way_goes follow starts have tapes pieces p next sized played first is unde
       ∙ append_assoc (joined tapes) under_way.front (octets_of_piece p);
   split = under_way.split
       ∙ ap (λ (octets : List ℕ). under_way.front ++ octets) (follow r p.first)
-      ∙ sym (append_assoc under_way.front (octets_of_piece p) (tape_from (p.first + 8192) r))
+      ∙ sym (append_assoc under_way.front (octets_of_piece p) (tape_from (p.first + 256) r))
       ∙ ap (λ (n : ℕ). (under_way.front ++ octets_of_piece p) ++ tape_from n r) (sym is);
 }
   where
@@ -184,9 +184,9 @@ under_way_goes follow starts have tapes pieces p next sized played first is unde
 
 -- a piece of a number begins within its tape
 pub begins_within : (number count slots own : ℕ) → number < count
-    → (count * 8192 < slots + 8192) ⊎ (count ≡ 1)
+    → (count * 256 < slots + 256) ⊎ (count ≡ 1)
     → slots ≡ own
-    → (number * 8192 ≡ 0) ⊎ (number * 8192 < own)
+    → (number * 256 ≡ 0) ⊎ (number * 256 < own)
 begins_within number count slots own below (inl few) is = inr (omega (arith, below, few, is))
 begins_within number count slots own below (inr one) is = inl (omega (arith, below, one))
 

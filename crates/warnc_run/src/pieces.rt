@@ -39,8 +39,8 @@ impl PieceOf<'_> {
 /// How many pieces the tape of so many slots has. That of none has a header.
 fn count_pieces(slots: u16) -> u16
     ensures some { 0 < result }
-    ensures enough { slots ≤ result * 8192 }
-    ensures few { result * 8192 < slots + 8192 ⊎ result ≡ 1 }
+    ensures enough { slots ≤ result * 256 }
+    ensures few { result * 256 < slots + 256 ⊎ result ≡ 1 }
 {
     slots.div_ceil(PIECE_SLOTS).max(1)
 }
@@ -76,15 +76,18 @@ pub(crate) fn pieces_of<'a>(
     Ok(pieces)
 }
 
-/// How many pieces are made in a round: one by one worker, and two by each of several, which is so much that it's worth
-/// a thread, and so little that a processor's own memory holds it.
+/// How many pieces each of several workers makes in a round: so many that they are worth a thread's start, and so few
+/// that a processor's own memory holds them.
+const PIECES_EACH: usize = 48;
+
+/// How many pieces are made in a round: one by one worker, and 48 by each of several.
 fn pieces_in_round(pieces: usize, workers: Workers) -> usize
     ensures { 0 < result }
 {
     let most = if workers.number == 1 {
         1
     } else {
-        2 * workers.number as usize
+        PIECES_EACH * workers.number as usize
     };
     pieces.min(most).max(1)
 }

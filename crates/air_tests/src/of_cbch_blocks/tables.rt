@@ -65,7 +65,7 @@ open 1-1 258 257:0 -> 23744 0001 0001 00000102 idle*257 other
 open 1-1 258 257:0 257:88 -> 23744 0001 0001 00000102 idle*257 blocks
 ";
 
-/// Pieces of tapes: the first has the header, and none has over 8,192 slots.
+/// Pieces of tapes: the first has the header, and none has over 256 slots.
 const PIECES: &str = "
 piece 0 1-1 2 write -> 192 0001 0001 00000002 blocks idle
 piece 0 1-2 3 -> 284 0001 0002 00000003 idle*3
@@ -75,12 +75,12 @@ piece 2 1-1 4 write_a write_b -> 184 \
     20 000111120111 A1*16 21 A1*22 22 A1*22 33 A1*22 \
     20 000211120122 B2*16 21 B2*22 22 B2*22 33 B2*22
 piece 4 1-1 4 write -> 0
-piece 0 1-1 8193 -> 753672 0001 0001 00002001 idle*8192
-piece 8192 1-1 8193 write -> 92 blocks
-piece 8193 1-1 8193 write -> 0
+piece 0 1-1 257 -> 23560 0001 0001 00000101 idle*256
+piece 256 1-1 257 write -> 92 blocks
+piece 257 1-1 257 write -> 0
 start 0 -> 0
 start 1 -> 100
-start 8192 -> 753672
+start 256 -> 23560
 ";
 
 const RECORDS: &str = "

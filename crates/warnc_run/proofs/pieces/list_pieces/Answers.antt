@@ -8,8 +8,8 @@ loop-number-init c = λ tapes all. under_way_begins tapes c.args.run.now c.args.
 
 pub loop-number-preserved : goal.loop-number-preserved
 loop-number-preserved c = λ tapes all.
-    let first = c.loop-number.number * 8192 in
-    let next = (c.loop-number.number + 1) * 8192 in
+    let first = c.loop-number.number * 256 in
+    let next = (c.loop-number.number + 1) * 256 in
     let played = c.slots.ensures.legal.played ∙ sym c.slots.ensures.clock ∙ c.slots.ensures.slots in
     let within = begins_within c.loop-number.number c.count_pieces-number-end.result c.slots.result
     c.args.run.now.slots c.loop-number-test.true c.count_pieces-number-end.ensures.few c.slots.ensures.slots in
