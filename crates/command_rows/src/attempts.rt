@@ -24,7 +24,7 @@ const OUTPUT: usize = 7000;
 const FAULTS: usize = 100;
 
 /// How many least blocks the largest room has that comes before threads: for the rest of a run that is plenty.
-const MOST_BEFORE_THREADS: u16 = 1000;
+const MOST_BEFORE_THREADS: u16 = 3000;
 
 /// A book for a command that asks for none.
 const OTHER_BOOK: &[u8] = b"cell,1,1\n";
