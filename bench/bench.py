@@ -62,12 +62,6 @@ def best(command, source, target=os.devnull, status=0, runs=5):
     return min(it[0] for it in found), max(it[1] for it in found)
 
 
-def median(command, source, runs=20):
-    """Returns the median of the seconds of some runs, and the peak memory of all."""
-    found = [timed(command, source) for _ in range(runs)]
-    return statistics.median(it[0] for it in found), max(it[1] for it in found)
-
-
 def compile_books(bench):
     """`compile` on books of 64 cells and 4,096 slots, with one worker and with four, beside `wc -l` on the tapes, and
     its peak memory beside their size. Half a minute."""
@@ -84,17 +78,49 @@ def compile_books(bench):
               f"with 4 workers {several:.3f} s, {compiled / several:.2f} times as fast")
 
 
+def side_by_side(command, source, count=4):
+    """Returns the seconds of several runs of one command, all at once."""
+    running, begun = [], time.perf_counter()
+    for _ in range(count):
+        # each has a place of its own in the input
+        with open(source, "rb") as stdin, open(os.devnull, "wb") as stdout:
+            running.append(subprocess.Popen(command, stdin=stdin, stdout=stdout))
+    ended = [it.wait() for it in running]
+    took = time.perf_counter() - begun
+    if any(ended):
+        sys.exit(f"bench.py: {' '.join(command)} < {source}: status {max(ended)}")
+    return took
+
+
 def workers(bench):
-    """`compile` and `report` of books of 64 cells and 65,535 slots, with one worker and with four: medians of 20 runs,
-    how many times as fast four are, and the peak memory of each. It needs four processors. Three minutes."""
+    """`compile` and `report` of books of 64 cells and 65,535 slots, with one worker and with four, in turn: medians of
+    20 runs and, in brackets, the least, how many times as fast four are, and the peak memory of each. Beside it what
+    four processors of this machine can give at most: how much more four programs of one worker each do at once than one
+    alone, which is some 2.4 times where processors share a core. It needs four processors. Ten minutes."""
     for kind in ("full", "churn", "background"):
         book = bench.made(kind)
         for verb in ("compile", "report"):
-            command = [bench.program, verb, "--slots", "65535", "--workers"]
-            one, peak = median([*command, "1"], book)
-            four, large = median([*command, "4"], book)
-            print(f"{verb} of {kind:10} one worker {one:.3f} s, peak {peak / 1e6:.1f} MB; four {four:.3f} s, "
-                  f"{large / 1e6:.1f} MB, {one / four:.2f} times as fast")
+            one, four = ([bench.program, verb, "--slots", "65535", "--workers", it] for it in ("1", "4"))
+            alone, together, beside = [], [], []
+            for number in range(20):
+                alone.append(timed(one, book))
+                together.append(timed(four, book))
+                if number % 4 == 0:
+                    beside.append((side_by_side(one, book),))
+            print(f"{verb} of {kind:10} one worker {said(alone)}; four {said(together)}, {gain(alone, together)} times "
+                  f"as fast; four programs do {gain(alone, beside, 4)} times as much", flush=True)
+
+
+def said(runs):
+    """Returns the median of the seconds of some runs, the least, and their peak memory, as they are shown."""
+    seconds, peaks = zip(*runs)
+    return f"{statistics.median(seconds):.3f} s ({min(seconds):.3f}), {max(peaks) / 1e6:.1f} MB"
+
+
+def gain(before, after, times=1):
+    """Returns how many times as fast runs went, by the medians of their seconds, and by the least, as it is shown."""
+    medians, least = (times * of(it[0] for it in before) / of(it[0] for it in after) for of in (statistics.median, min))
+    return f"{medians:.2f} ({least:.2f})"
 
 
 def cell(bench):

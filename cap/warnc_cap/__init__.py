@@ -1,3 +1,3 @@
 """Messages of the Common Alerting Protocol to books of alerts."""
 
-VERSION = "1.23.1"
+VERSION = "1.23.2"

@@ -7,7 +7,7 @@ use parallel_compile::MAX_WORKERS;
 use std::alloc::{AllocError, Global};
 
 /// The version of the program, and on a line of its own what `rt version` says of the toolchain that proved it.
-const VERSION: &str = "1.23.1\nrattle-kit-13f logic dac8208d650f15bf";
+const VERSION: &str = "1.23.2\nrattle-kit-13b logic dac8208d650f15bf";
 
 /// The words for the channel that packets name.
 const CHANNEL_TYPES: &[&str] = &["cbch", "sdcch"];

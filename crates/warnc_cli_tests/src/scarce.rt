@@ -110,11 +110,11 @@ worked-hex 2f2b2b2b2b2b2b2b2b2b2b2b2b2b2b2b2b2b2b2b2b2b2b
 worked-hex 2f2b2b2b2b2b2b2b2b2b2b2b2b2b2b2b2b2b2b2b2b2b2b
 worked-hex 2f2b2b2b2b2b2b2b2b2b2b2b2b2b2b2b2b2b2b2b2b2b2b
 args compile --slots 2
-scarce 11 2600 -> worked
+scarce 10 2600 -> worked
 args compile --slots 2 --group 0
-scarce 12 2600 -> worked
+scarce 11 2600 -> worked
 args compile --slots 2 --strict
-scarce 12 2600 -> worked
+scarce 11 2600 -> worked
 args compile --slots 2 --network
 scarce 12 2600 -> worked
 ";
@@ -133,7 +133,7 @@ worked-hex 2f2b2b2b2b2b2b2b2b2b2b2b2b2b2b2b2b2b2b2b2b2b2b
 worked-hex 2f2b2b2b2b2b2b2b2b2b2b2b2b2b2b2b2b2b2b2b2b2b2b
 worked-hex 2f2b2b2b2b2b2b2b2b2b2b2b2b2b2b2b2b2b2b2b2b2b2b
 args live --slots 2 --group 0
-scarce 12 2600 -> worked
+scarce 11 2600 -> worked
 args live --slots 2 --network
 scarce 12 2600 -> worked
 
@@ -231,7 +231,7 @@ worked-hex 2f2b2b2b2b2b2b2b2b2b2b2b2b2b2b2b2b2b2b2b2b2b2b
 worked-hex 2f2b2b2b2b2b2b2b2b2b2b2b2b2b2b2b2b2b2b2b2b2b2b
 worked-hex 2f2b2b2b2b2b2b2b2b2b2b2b2b2b2b2b2b2b2b2b2b2b2b
 args live --slots 2
-scarce 11 2600 -> worked
+scarce 10 2600 -> worked
 args live --slots 2 --sessions 2
 scarce-threads 10 2700 -> worked
 run -> 0
@@ -263,7 +263,7 @@ worked-hex 21000d000d000d000d000d000d000d000d000d000d000d
 worked-hex 22000d000d000d000d000d000d000d000d000d000d000d
 worked-hex 33000d000d000d000d000d000d000d000d000d000d000d
 args compile --slots 2
-scarce 11 2900 -> worked
+scarce 10 2900 -> worked
 
 args read
 in-worked

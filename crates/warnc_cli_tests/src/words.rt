@@ -144,11 +144,11 @@ says --workers <WORKERS> -> yes
 # the version names the toolchain
 args --version
 run -> 0
-out -> warnc 1.23.1
+out -> warnc 1.23.2
 starts rattle-kit- -> yes
 args -V
 run -> 0
-out -> warnc 1.23.1
+out -> warnc 1.23.2
 starts rattle-kit- -> yes
 
 # no device takes the text

@@ -2,7 +2,7 @@ pub mod Readings
 mod ReadParts
 pub mod Serving
 pub mod Written
-pub mod Rounds
+pub mod PieceByPiece
 pub mod Asked
 mod ApartLaws
 mod InTurn

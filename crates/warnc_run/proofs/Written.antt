@@ -36,8 +36,8 @@ use Rattle.parallel_compile.specs.declared.fault.CompileFault.TheVariants as com
 use Rattle.warnc_run.specs.Faults.{HasReadFrom, IsOfBook, IsOfProduct, IsRunFault, IsSettleFault, IsWriteFault}
 use Rattle.warnc_run.specs.Made.{tape_size}
 use Rattle.warnc_run.specs.Products.{IsLiveFrom, RunOf}
-use Rattle.warnc_run.specs.Rounds.{HasItsSize}
-use Rattle.warnc_run.specs.RunSteps.{AreTapesOf, HasNoBookToRun, HaveRunLive, IsOfTapes, StopsAtTape, TakesFront}
+use Rattle.warnc_run.specs.RunSteps.{AreTapesOf, HasItsSize, HasNoBookToRun, HaveRunLive, IsOfTapes, StopsAtTape}
+use Rattle.warnc_run.specs.RunSteps.{TakesFront}
 use Rattle.warnc_run.specs.declared.product.Product.{Product}
 use Rattle.warnc_run.specs.declared.product.Product.TheVariants as product
 

@@ -15,5 +15,4 @@ pub mod ReportColumns
 pub mod FirstShown
 pub mod Strict
 pub mod StrictSteps
-pub mod Rounds
 pub mod Alone

@@ -19,6 +19,7 @@ use Rattle.record_orders.specs.Ordered.{orders_in}
 use Rattle.report.specs.ReportText.{text_with}
 use Rattle.report.specs.Sources.{Orders}
 use Rattle.warnc_run.specs.Faults.{IsOfBook}
+use Rattle.warnc_run.specs.Made.{tape_size}
 use Rattle.warnc_run.specs.Products.{own_rows, reading_of_record, tables_text}
 use Rattle.warnc_run.specs.declared.fault.RunFault.{RunFault}
 use Rattle.warnc_run.specs.declared.fault.RunFault.TheVariants as fault
@@ -46,6 +47,10 @@ pub record IsFirstUserFault (dones : List (Result ⊤ RunFault)) (fault : RunFau
   pub after : List (Result ⊤ RunFault)
   pub split : dones ≡ before ++ Err fault ∷ after
   pub none : All IsOk before
+
+-- the tape of a record has the octets that its slots say
+abbrev pub HasItsSize : Record → Type 0
+HasItsSize r = length (tape_of_record r) ≡ tape_size r.slots
 
 -- the writer took the first of these tapes whole, and of the one at this place the first `written` octets, and no more
 pub record TakesFront (tapes : List (List ℕ)) (written : ℕ) (old new : Option (List ℕ)) : Type 0 where

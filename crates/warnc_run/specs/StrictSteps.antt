@@ -23,8 +23,7 @@ use Rattle.warnc_run.specs.Engine.{IsText}
 use Rattle.warnc_run.specs.Faults.{IsOfBook, IsOfRun}
 use Rattle.warnc_run.specs.Made.{tape_size}
 use Rattle.warnc_run.specs.Products.{octets_of, reading_of_record}
-use Rattle.warnc_run.specs.Rounds.{HasItsSize}
-use Rattle.warnc_run.specs.RunSteps.{HaveRunLive, TakesFront}
+use Rattle.warnc_run.specs.RunSteps.{HasItsSize, HaveRunLive, TakesFront}
 
 -- the records of a run of a book in which every order was done
 pub record AreDone (book : Contents) (slots parts : ℕ) (records : List Record) : Type 0 where

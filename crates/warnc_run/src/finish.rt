@@ -6,20 +6,17 @@ ghost use Rattle.std.specs.List.{flat_map};
 ghost use Rattle.cbch_blocks.specs.RecordBlocks.{tape_of_record};
 ghost use Rattle.device_ends.specs.Sink.{sink_failed, writer_of};
 ghost use Rattle.warnc_run.specs.Faults.{IsWriteFault};
-ghost use Rattle.warnc_run.specs.Rounds.{HasItsSize};
-ghost use Rattle.warnc_run.specs.RunSteps.{TakesFront};
+ghost use Rattle.warnc_run.specs.RunSteps.{HasItsSize, TakesFront};
 ghost use Rattle.warnc_run.specs.StrictSteps.{StopsAtRecord};
 
 use crate::fault::RunFault;
-use crate::pieces::{pieces_of, rooms_for, write_in_rounds};
-use crate::run::Workers;
+use crate::pieces::write_in_pieces;
 use crate::watch::Watch;
 use bsc_table::CellRecord;
-use cbch_blocks::{Tape, WriteFailed};
+use cbch_blocks::{Tape, TapePiece, WriteFailed};
 use device_ends::Sink;
-use std::alloc::AllocGlobal;
+use std::alloc::Global;
 use std::io::Write;
-use std::thread::Threads;
 
 /// Writes tapes, one after the other.
 pub(crate) fn write_tapes<W: Write>(tapes: &[Tape], sink: &mut Sink<W>) -> Result<(), WriteFailed>
@@ -41,13 +38,12 @@ pub(crate) fn write_tapes<W: Write>(tapes: &[Tape], sink: &mut Sink<W>) -> Resul
     Ok(())
 }
 
-/// Writes the tapes of records, in their order. Workers make pieces of them side by side; their memory is taken before
-/// the first octet is written, so memory can't run out later.
-pub(crate) fn write_tapes_of<T: AllocGlobal + Threads + Sync, W: Write, G: Watch>(
-    rt: &T,
+/// Writes the tapes of records, in their order. The memory for a piece of a tape is taken before the first octet is
+/// written, and no other, so memory can't run out later.
+pub(crate) fn write_tapes_of<W: Write, G: Watch>(
+    alloc: Global,
     records: &[CellRecord],
     sink: &mut Sink<W>,
-    workers: Workers,
     watch: &G,
 ) -> Result<(), RunFault>
     requires sized { All HasItsSize records.now }
@@ -60,9 +56,8 @@ pub(crate) fn write_tapes_of<T: AllocGlobal + Threads + Sync, W: Write, G: Watch
     ensures write { IfErr result (λ fault. IsWriteFault fault → sink_failed sink.new ≡ true) }
     ensures stays { sink_failed sink.old ≡ true → sink.new ≡ sink.old }
 {
-    let pieces = pieces_of(rt.alloc(), records)?;
-    let rooms = rooms_for(rt.alloc(), pieces.len(), workers)?;
-    match write_in_rounds(rt, records, &pieces, rooms, sink, workers, watch) {
+    let mut room = TapePiece::open(alloc)?;
+    match write_in_pieces(records, &mut room, sink, watch) {
         Ok(()) => Ok(()),
         Err(failed) => Err(RunFault::Write(failed)),
     }

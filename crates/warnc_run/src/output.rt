@@ -19,8 +19,8 @@ use std::sync::Wait;
 use std::thread::Threads;
 
 /// Runs the sessions of a book's parts, and writes the tapes of its cells. They are made of the settled records, each
-/// once, so there is nothing to compare, and they are made as they are written, a few pieces at a time: these alone are
-/// held, and their memory is taken before the first octet is written.
+/// once, so there is nothing to compare, and they are made as they are written, a piece at a time: it alone is held,
+/// and its memory is taken before the first octet is written.
 fn write_by_records<T: AllocGlobal + Threads + Wait + Sync, W: Write, G: Watch>(
     rt: &T,
     book: Book,
@@ -45,7 +45,7 @@ fn write_by_records<T: AllocGlobal + Threads + Wait + Sync, W: Write, G: Watch>(
     book_runs::session_laws();
     let records = records_of_run(rt, &book, slots, sessions, workers, watch)?;
     drop(book);
-    write_tapes_of(rt, &records, sink, workers, watch)
+    write_tapes_of(rt.alloc(), &records, sink, watch)
 }
 
 /// Writes the tapes of several sessions with several workers. All tapes are made before the first octet is written.

@@ -152,7 +152,7 @@ fn write_product<T: AllocGlobal + Threads + Wait + Sync, W: Write, G: Watch>(
 {
     match made {
         Product::Tapes => {
-            write_tapes_of(rt, records, sink, run.workers, watch)?;
+            write_tapes_of(rt.alloc(), records, sink, watch)?;
             Ok(())
         }
         Product::Report(_)

@@ -1,6 +1,6 @@
 use Rattle.std.proofs.Common.{◌≤◌}
 use native.Mathlib.Omega.{arith}
-use Rattle.warnc_run.proofs.Rounds.{has_written, stops_at_no_piece, stops_at_tape}
+use Rattle.warnc_run.proofs.PieceByPiece.{has_written, stops_at_no_piece, stops_at_tape}
 use Rattle.warnc_run.proofs.Written.{records_have_own_size}
 use Rattle.warnc_run.proofs.output.write_by_records.Goals as goal
 
