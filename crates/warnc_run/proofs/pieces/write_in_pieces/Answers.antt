@@ -1,4 +1,4 @@
-use Rattle.std.proofs.Common.{List, map, refl, rules}
+use Rattle.std.proofs.Common.{map, refl, rules}
 use Rattle.cbch_blocks.specs.RecordBlocks.{tape_of_record}
 use Rattle.warnc_run.proofs.PieceByPiece.{stops_at_record}
 use Rattle.warnc_run.proofs.Written.{takes_nothing, tapes_have_octets}
