@@ -95,8 +95,8 @@ def side_by_side(command, source, count=4):
 def workers(bench):
     """`compile` and `report` of books of 64 cells and 65,535 slots, with one worker and with four, in turn: medians of
     20 runs and, in brackets, the least, how many times as fast four are, and the peak memory of each. Beside it what
-    four processors of this machine can give at most: how much more four programs of one worker each do at once than one
-    alone, which is some 2.4 times where processors share a core. It needs four processors. Ten minutes."""
+    the machine gives four programs of one worker each: how much more they do at once than one alone, which is less than
+    four times where processors share a core. It needs four processors. Ten minutes."""
     for kind in ("full", "churn", "background"):
         book = bench.made(kind)
         for verb in ("compile", "report"):
